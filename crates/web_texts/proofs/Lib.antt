@@ -1,0 +1,5 @@
+pub mod Blocks
+pub mod Numbered
+pub mod Places
+pub mod Splitting
+pub mod Values
