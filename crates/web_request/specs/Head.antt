@@ -1,0 +1,29 @@
+-- What is seen of the head of a request.
+use Rattle.std.specs.Prelude.{ℕ, List, Option}
+use Rattle.http.specs.declared.version.Version.{Version}
+use Rattle.http_header.specs.FieldValue.{FieldValue}
+use Rattle.http_header.specs.HeaderMap.{Entries}
+use Rattle.http_uri.specs.Uri.{uri_authority, uri_data, uri_scheme}
+use Rattle.web_request.specs.declared.address.SocketAddr.{SocketAddr}
+use Rattle.web_request.specs.declared.head.RequestHead.{RequestHead}
+
+pub record Head : Type 0 where
+  pub scheme : Option (List ℕ)
+  pub authority : Option (List ℕ)
+  -- the path, with the query where there is one
+  pub target : List ℕ
+  pub method : List ℕ
+  pub version : Version
+  pub headers : Entries FieldValue
+  pub peer : Option SocketAddr
+
+abbrev pub head_view : RequestHead → Head
+head_view h = record {
+  scheme = uri_scheme h.uri;
+  authority = uri_authority h.uri;
+  target = uri_data h.uri;
+  method = h.method;
+  version = h.version;
+  headers = h.headers;
+  peer = h.peer_addr;
+}

@@ -1,0 +1,28 @@
+-- What is seen of a request, of its parts and of its record.
+use Rattle.std.specs.Prelude.{ℕ, List, Option}
+use Rattle.web_texts.specs.declared.text.Pair.{Pair}
+use Rattle.web_request.specs.declared.config.AppConfig.{AppConfig}
+use Rattle.web_request.specs.Head.{Head}
+
+-- L, D and C: a layer, the data of a request and that of a connection
+pub record Request (L D C : Type 0) : Type 0 where
+  pub head : Head
+  pub params : List Pair
+  -- the root layer first
+  pub layers : List L
+  pub conn : Option C
+  pub local : Option D
+  pub config : AppConfig
+
+-- a request before it has the root layer and the configuration
+pub record Parts (L D C : Type 0) : Type 0 where
+  pub head : Head
+  pub params : List Pair
+  pub layers : List L
+  pub conn : Option C
+  pub local : Option D
+
+-- a request in the record of this number
+pub record Record (L D C : Type 0) : Type 0 where
+  pub request : Request L D C
+  pub serial : ℕ

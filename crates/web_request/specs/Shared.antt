@@ -1,0 +1,11 @@
+-- What counted pointers lead to.
+use Rattle.std.specs.Prelude.{List, Option, None, Some, map}
+use Rattle.std.specs.declared.rc.Rc.{Rc}
+
+module _ {X Z : Type 0} where
+  abbrev pub values : List (Rc X Z) → List X
+  values rs = map (λ r. r.value) rs
+
+  abbrev pub value_of : Option (Rc X Z) → Option X
+  value_of None = None
+  value_of (Some r) = Some r.value
