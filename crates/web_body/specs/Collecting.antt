@@ -1,0 +1,55 @@
+-- A body that is being collected, and what may still come of it: what is held, and then what is left to read.
+use Rattle.std.specs.Prelude.{◌≡◌, ℕ, Bool, false, List, [], ◌++◌, Option, None, Some, Result, Ok, Err, ⊤, refl}
+use Rattle.std.specs.Option.{option_map}
+use Rattle.web_request.specs.declared.source.Mark.{Mark}
+use Rattle.web_request.specs.Body.{whole}
+use Rattle.web_request.specs.Reading.{Content, Over, Faulty, Whole, Reading, reading}
+use Rattle.web_request.specs.Feed.{Feed}
+use Rattle.web_body.specs.declared.payload.Payload.{Payload}
+use Rattle.web_body.specs.declared.message_body.PayloadError.{PayloadError}
+use Rattle.web_body.specs.declared.message_body.PayloadError.TheVariants.{Overflow, Io}
+use Rattle.web_body.specs.Payload.{payload_feed}
+use Rattle.web_body.specs.Polled.{GivesSome}
+
+pub record Collecting (S : Type 0) : Type 0 where
+  pub payload : Payload S
+  -- the bytes that came, none once it answered
+  pub held : List ℕ
+  pub limit : ℕ
+  pub is_finished : Bool
+
+-- of which nothing came yet
+abbrev pub collecting : {S : Type 0} → Payload S → ℕ → Collecting S
+collecting payload limit = record { payload = payload; held = []; limit = limit; is_finished = false }
+
+abbrev pub answer_of : Content → Result (List ℕ) PayloadError
+answer_of (Over size) = Err Overflow
+answer_of Faulty = Err Io
+answer_of (Whole b) = Ok b
+
+-- the reading of what is held and what is left
+abbrev pub reading_of : ℕ → Option (List Mark) → List ℕ → Option Reading
+reading_of limit marks held = option_map (λ m. reading limit (whole held ++ m)) marks
+
+-- the answer of the reading after as many stalls as it meets; where it is not told, all is allowed
+abbrev pub Allows : Option Reading → ℕ → Result (List ℕ) PayloadError → Type 0
+Allows None n x = ⊤
+Allows (Some r) n x = (n ≡ r.delay) × (x ≡ answer_of r.content)
+
+abbrev pub body_reading : {S : Type 0} → (S → Feed) → Collecting S → Option Reading
+body_reading feed b = reading_of b.limit (payload_feed feed b.payload).marks b.held
+
+abbrev pub body_gives : {S : Type 0} → (S → Feed) → Collecting S → ℕ → Result (List ℕ) PayloadError → Type 0
+body_gives feed b n x = Allows (body_reading feed b) n x
+
+some_answer : (r : Option Reading) → (n : ℕ) × (x : Result (List ℕ) PayloadError) × Allows r n x
+some_answer None = (0, Err Io, tt)
+some_answer (Some r) = (r.delay, answer_of r.content, (refl, refl))
+
+pub body_some : {S : Type 0} (feed : S → Feed) (b : Collecting S) → GivesSome (body_gives feed b)
+body_some feed b none = let h = some_answer (body_reading feed b) in none h.0 h.1 h.2
+
+-- where the marks are told, nothing is allowed but what reading them under the limit gives
+abbrev pub MeansReading : ℕ → Option (List Mark) → (ℕ → Result (List ℕ) PayloadError → Type 0) → Type 0
+MeansReading limit None gives = ⊤
+MeansReading limit (Some m) gives = (n : ℕ) (x : Result (List ℕ) PayloadError) → gives n x → (n ≡ (reading limit m).delay) × (x ≡ answer_of ((reading limit m).content))

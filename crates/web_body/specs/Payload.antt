@@ -1,0 +1,71 @@
+-- What a payload tells of itself, and what it gave between two moments.
+use Rattle.std.specs.Prelude.{◌≡◌, ℕ, ◌+◌, ◌-◌, ◌≤◌, List, [], Some, length, ⊤}
+use Rattle.web_request.specs.Body.{whole}
+use Rattle.web_request.specs.Feed.{Feed}
+use Rattle.web_body.specs.declared.payload.Payload.{Payload}
+use Rattle.web_body.specs.declared.payload.Payload.TheVariants as payload
+
+-- bytes in memory: their counts are 0, and a payload that was given has no answer left
+abbrev pub plain_feed : List ℕ → Feed
+plain_feed b = record { marks = Some (whole b); faults = 0; stalls = 0; given = 0; answers = length b }
+
+abbrev pub payload_feed : {S : Type 0} → (S → Feed) → Payload S → Feed
+payload_feed feed payload.None = plain_feed []
+payload_feed feed (payload.Whole b) = plain_feed b
+payload_feed feed (payload.Stream s) = feed s
+
+-- the bytes of a payload that is no stream
+abbrev pub in_memory : {S : Type 0} → Payload S → ℕ
+in_memory payload.None = 0
+in_memory (payload.Whole b) = length b
+in_memory (payload.Stream s) = 0
+
+-- the bytes that a source gave, by its own count
+abbrev pub stream_gave : {S : Type 0} → (S → Feed) → S → Payload S → ℕ
+stream_gave feed s payload.None = 0
+stream_gave feed s (payload.Whole b) = 0
+stream_gave feed s (payload.Stream t) = (feed t).given - (feed s).given
+
+-- how many bytes a payload gave from old to new
+abbrev pub gave : {S : Type 0} → (S → Feed) → Payload S → Payload S → ℕ
+gave feed payload.None new = 0
+gave feed (payload.Whole b) new = length b - in_memory new
+gave feed (payload.Stream s) new = stream_gave feed s new
+
+abbrev pub StreamGave : {S : Type 0} → (S → Feed) → S → ℕ → Payload S → Type 0
+StreamGave feed s n payload.None = ⊥
+StreamGave feed s n (payload.Whole b) = ⊥
+StreamGave feed s n (payload.Stream t) = (feed t).given ≡ (feed s).given + n
+
+abbrev pub PlainGave : {S : Type 0} → ℕ → ℕ → Payload S → Type 0
+PlainGave size n payload.None = size ≡ n
+PlainGave size n (payload.Whole b) = size ≡ n + length b
+PlainGave size n (payload.Stream t) = ⊥
+
+-- the payload gave n bytes from old to new, and a stream stayed a stream
+abbrev pub Gave : {S : Type 0} → (S → Feed) → Payload S → ℕ → Payload S → Type 0
+Gave feed payload.None n new = PlainGave 0 n new
+Gave feed (payload.Whole b) n new = PlainGave (length b) n new
+Gave feed (payload.Stream s) n new = StreamGave feed s n new
+
+-- no count fell
+pub record NoneFell (old new : Feed) : Type 0 where
+  pub faults : old.faults ≤ new.faults
+  pub stalls : old.stalls ≤ new.stalls
+  pub given : old.given ≤ new.given
+
+abbrev pub KeepsStream : {S : Type 0} → (S → Feed) → S → Payload S → Type 0
+KeepsStream feed s payload.None = ⊥
+KeepsStream feed s (payload.Whole b) = ⊥
+KeepsStream feed s (payload.Stream t) = NoneFell (feed s) (feed t)
+
+abbrev pub IsPlain : {S : Type 0} → Payload S → Type 0
+IsPlain payload.None = ⊤
+IsPlain (payload.Whole b) = ⊤
+IsPlain (payload.Stream t) = ⊥
+
+-- a stream is kept, and its counts do not fall; what is no stream becomes none
+abbrev pub KeepsPayload : {S : Type 0} → (S → Feed) → Payload S → Payload S → Type 0
+KeepsPayload feed payload.None new = IsPlain new
+KeepsPayload feed (payload.Whole b) new = IsPlain new
+KeepsPayload feed (payload.Stream s) new = KeepsStream feed s new

@@ -1,0 +1,49 @@
+//! The loop that collects a body under a limit.
+ghost use Rattle.std.specs.Prelude.{◌≡◌, ◌≤◌, length};
+ghost use Rattle.web_body.specs.Held.{held_bytes};
+ghost use Rattle.web_body.specs.Payload.{payload_feed};
+ghost use Rattle.web_body.specs.Collected.{Collects, Counted};
+
+use crate::held::Held;
+use crate::message_body::PayloadError;
+use crate::payload::Payload;
+use crate::poll::Step;
+use bytes::Bytes;
+use std::alloc::Global;
+use web_request::{Source, Turn};
+
+/// Reads on until the payload stalls, fails or ends, or more than `limit` bytes came.
+pub fn collect<S: Source>(
+    alloc: Global,
+    payload: &mut Payload<S>,
+    held: &mut Held,
+    limit: usize,
+) -> Step<Result<Bytes, PayloadError>>
+    requires within { length (held_bytes held.old) ≤ limit }
+    ensures within { length (held_bytes held.new) ≤ limit }
+    ensures reads { Collects limit (payload_feed S.feed payload.old).marks (held_bytes held.old) result
+        (payload_feed S.feed payload.new).marks (held_bytes held.new) }
+    ensures counted { Counted S.feed limit payload.old (held_bytes held.old) result payload.new (held_bytes held.new) }
+{
+    loop {
+        match payload.poll_next() {
+            Turn::Piece(piece) => {
+                if piece.len() > limit - held.len() {
+                    return Step::Ready(Err(PayloadError::Overflow));
+                }
+                if held.add(alloc, piece).is_err() {
+                    return Step::NoMemory;
+                }
+            }
+            Turn::Stall => return Step::Pending,
+            Turn::Fault => return Step::Ready(Err(PayloadError::Io)),
+            Turn::End => {
+                return match held.take() {
+                    Ok(bytes) => Step::Ready(Ok(bytes)),
+                    Err(_) => Step::NoMemory,
+                };
+            }
+            Turn::NoMemory => return Step::NoMemory,
+        }
+    }
+}

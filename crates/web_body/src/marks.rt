@@ -1,0 +1,70 @@
+//! Bodies in memory, cut into pieces as a script says.
+ghost use Rattle.std.specs.Prelude.{◌≡◌, ◌<◌, ◌^◌, true, length};
+ghost use Rattle.web_request.specs.Body.{is_body, joined};
+ghost use Rattle.web_body.specs.Bodies.{marks_feed};
+
+use std::collections::VecDeque;
+use std::marker::Model;
+use web_request::{Mark, Source, Turn};
+
+/// A body in memory that gives its marks, one at each call, and takes no memory. It tells its marks.
+///
+/// Contracts see it as the marks that are left and the counts of what it gave. The counts of stalls and of faults stay at
+/// the last value of a `u64` once they stand there.
+#[derive(Drop)]
+pub struct Marks {
+    left: VecDeque<Mark>,
+    faults: u64,
+    stalls: u64,
+    given: u64,
+}
+
+impl Model for Marks {
+    ghost use Rattle.std.specs.Prelude.{◌≡◌, ◌+◌, ◌<◌, ◌^◌, Some, true, length};
+    ghost use Rattle.web_request.specs.Body.{is_body, joined};
+    ghost use Rattle.web_request.specs.Feed.{Feed};
+
+    ghost Value = { Feed };
+
+    ghost view = { λ m. record { marks = Some m.left.items; faults = m.faults; stalls = m.stalls; given = m.given; answers = length m.left.items } };
+
+    ghost invariant = { λ m. (is_body m.left.items ≡ true) × (m.given + length (joined m.left.items) < 2 ^ 63) };
+}
+
+impl Marks {
+    /// The body of these marks, of which nothing was given yet.
+    pub fn new(marks: Vec<Mark>) -> Marks
+        requires body { is_body marks.items ≡ true }
+        requires small { length (joined marks.items) < 2 ^ 63 }
+        ensures { result ≡ marks_feed marks.items }
+    {
+        Marks {
+            left: VecDeque::from(marks),
+            faults: 0,
+            stalls: 0,
+            given: 0,
+        }
+    }
+}
+
+impl Source for Marks {
+    ghost feed = { λ m. m };
+
+    fn next(&mut self) -> Turn {
+        match self.left.pop_front() {
+            Some(Mark::Piece(bytes)) => {
+                self.given += bytes.len() as u64;
+                Turn::Piece(bytes)
+            }
+            Some(Mark::Stall) => {
+                self.stalls = self.stalls.saturating_add(1);
+                Turn::Stall
+            }
+            Some(Mark::Fault) => {
+                self.faults = self.faults.saturating_add(1);
+                Turn::Fault
+            }
+            None => Turn::End,
+        }
+    }
+}

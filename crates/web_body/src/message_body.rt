@@ -1,0 +1,152 @@
+//! A whole body under a limit.
+ghost use Rattle.std.specs.Prelude.{◌≡◌, ◌≤◌, [], length, false};
+ghost use Rattle.web_body.specs.Payload.{payload_feed, gave, KeepsPayload};
+ghost use Rattle.web_body.specs.Collecting.{Collecting, collecting, body_gives, MeansReading};
+
+use crate::collect::collect;
+use crate::held::Held;
+use crate::payload::Payload;
+use crate::poll::{Poll, Step};
+use bytes::Bytes;
+use std::alloc::Global;
+use std::fmt;
+use std::marker::Model;
+use web_request::{App, HttpRequest, Source};
+
+/// The limit of a body where none is given, in bytes.
+pub const DEFAULT_LIMIT: usize = 262144;
+
+/// Why a body could not be collected.
+#[derive(Clone, Copy, Debug, PartialEq, Eq)]
+pub enum PayloadError {
+    /// More bytes than the limit came.
+    Overflow,
+    /// The source failed.
+    Io,
+}
+
+impl fmt::Display for PayloadError {
+    ghost use Rattle.std.specs.Prelude.{Some};
+    ghost use Rattle.web_body.specs.Texts.{payload_error_text};
+
+    ghost output = { λ e. Some (payload_error_text e) };
+
+    fn fmt<W: fmt::Write>(&self, f: &mut fmt::Formatter<W>) -> fmt::Result {
+        f.write_str(match self {
+            PayloadError::Overflow => "payload reached its limit",
+            PayloadError::Io => "payload read failed",
+        })
+    }
+}
+
+/// Collects the whole body of a request under a limit.
+///
+/// It keeps the payload that it took, also when it has answered. A poll answers `Pending` where the payload stalls. A body
+/// of one piece is not copied, and of every other body each piece is copied once.
+#[derive(Drop)]
+pub struct HttpMessageBody<S> {
+    payload: Payload<S>,
+    held: Held,
+    limit: usize,
+    is_finished: bool,
+}
+
+impl<S> Model for HttpMessageBody<S> {
+    ghost use Rattle.std.specs.Prelude.{◌≤◌, length};
+    ghost use Rattle.web_body.specs.Held.{held_bytes};
+    ghost use Rattle.web_body.specs.Collecting.{Collecting};
+
+    ghost Value = { Collecting S };
+
+    ghost view = { λ b. record { payload = b.payload; held = held_bytes b.held; limit = b.limit; is_finished = b.is_finished } };
+
+    ghost invariant = { λ b. length (held_bytes b.held) ≤ b.limit };
+}
+
+impl<S: Source> HttpMessageBody<S> {
+    /// Takes the payload of a request, to be collected under the default limit. It takes no memory.
+    pub fn new<A: App<Source = S>>(
+        _req: &HttpRequest<A>,
+        payload: &mut Payload<S>,
+    ) -> HttpMessageBody<S>
+        ensures value { result ≡ collecting payload.old 262144 }
+        ensures taken { payload.new ≡ Payload.None }
+        ensures means { MeansReading 262144 (payload_feed S.feed payload.old).marks (body_gives S.feed result) }
+    {
+        HttpMessageBody {
+            payload: payload.take(),
+            held: Held::new(),
+            limit: DEFAULT_LIMIT,
+            is_finished: false,
+        }
+    }
+
+    /// Sets the limit, in bytes. Nothing may have been collected yet.
+    pub fn limit(self, limit: usize) -> HttpMessageBody<S>
+        requires empty { self.held ≡ [] }
+        requires unfinished { self.is_finished ≡ false }
+        ensures value { result ≡ collecting self.payload limit }
+        ensures means { MeansReading limit (payload_feed S.feed self.payload).marks (body_gives S.feed result) }
+    {
+        let HttpMessageBody { payload, .. } = self;
+        HttpMessageBody {
+            payload,
+            held: Held::new(),
+            limit,
+            is_finished: false,
+        }
+    }
+
+    /// How many bytes it holds: at most its limit.
+    pub fn buffered(&self) -> usize
+        ensures value { result ≡ length self.now.held }
+        ensures within { result ≤ self.now.limit }
+    {
+        self.held.len()
+    }
+}
+
+impl<S: Source> Poll for HttpMessageBody<S> {
+    ghost use Rattle.std.specs.Prelude.{◌≡◌, ◌<◌, ◌≤◌, ◌+◌, length, false};
+    ghost use Rattle.web_texts.specs.Counts.{Rose};
+    ghost use Rattle.web_body.specs.Polled.{Ends, IfReady, Shifts, OnPending};
+    ghost use Rattle.web_body.specs.Collected.{OnWhole, OnOverflow, OnIo};
+    ghost use Rattle.web_body.specs.Payload.{payload_feed, gave, KeepsPayload};
+    ghost use Rattle.web_body.specs.Collecting.{body_gives, body_some};
+
+    type Output = Result<Bytes, PayloadError>;
+
+    ghost is_finished = { λ b. b.is_finished };
+
+    ghost gives = { λ b. body_gives S.feed b };
+
+    ghost some = { λ b h. body_some S.feed b };
+
+    fn finished(&self) -> bool {
+        self.is_finished
+    }
+
+    fn poll(&mut self, alloc: Global) -> Step<Result<Bytes, PayloadError>>
+        requires unfinished { self.old.is_finished ≡ false }
+        ensures ends { Ends result self.new.is_finished }
+        ensures value { IfReady result (body_gives S.feed self.old 0) }
+        ensures shift { Shifts result (body_gives S.feed self.old) (body_gives S.feed self.new) }
+        ensures limit { self.new.limit ≡ self.old.limit }
+        ensures payload { KeepsPayload S.feed self.old.payload self.new.payload }
+        ensures pending { OnPending result (Rose (payload_feed S.feed self.old.payload).stalls (payload_feed S.feed self.new.payload).stalls) }
+        ensures held { OnPending result (length self.new.held ≡ length self.old.held + gave S.feed self.old.payload self.new.payload) }
+        ensures within { OnPending result (length self.new.held ≤ self.new.limit) }
+        ensures io { OnIo result (Rose (payload_feed S.feed self.old.payload).faults (payload_feed S.feed self.new.payload).faults) }
+        ensures whole_ended { OnWhole result ((payload_feed S.feed self.new.payload).answers ≡ 0) }
+        ensures whole_unfailed { OnWhole result ((payload_feed S.feed self.new.payload).faults ≡ (payload_feed S.feed self.old.payload).faults) }
+        ensures overflow { OnOverflow result (self.old.limit < length self.old.held + gave S.feed self.old.payload self.new.payload) }
+    {
+        let step = collect(alloc, &mut self.payload, &mut self.held, self.limit);
+        self.is_finished = match &step {
+            Step::Pending => false,
+            Step::Ready(_) => true,
+            Step::NoMemory => true,
+        };
+        step
+    }
+}
