@@ -1,5 +1,5 @@
 -- Counts of a payload over several answers.
-use Rattle.std.proofs.Common.{◌≡◌, ℕ, ◌+◌, ◌-◌, ◌<◌, ◌≤◌, List, length, refl, sym, ◌∙◌, ap, arith, absurd, ◌⊎◌, inl, inr}
+use Rattle.std.proofs.Common.{◌≡◌, ℕ, ◌+◌, ◌-◌, ◌<◌, ◌≤◌, List, length, refl, sym, ◌∙◌, ap, arith, ◌⊎◌, inl, inr}
 use Rattle.std.proofs.lemmas.Bool.{cases_lt}
 use Rattle.web_texts.specs.Counts.{Rose}
 use Rattle.web_request.specs.Feed.{Feed}
@@ -36,6 +36,16 @@ module _ {S : Type 0} (feed : S → Feed) where
   gave_more (Whole a) n (Whole b) m None h k = omega (arith, h, k)
   gave_more (Whole a) n (Whole b) m (Whole c) h k = omega (arith, h, k)
   gave_more (Stream a) n (Stream b) m (Stream c) h k = omega (arith, h, k)
+  gave_more None n None m (Stream c) h k = elim k [ ]
+  gave_more None n (Whole b) m (Stream c) h k = elim k [ ]
+  gave_more None n (Stream b) m r h k = elim h [ ]
+  gave_more (Whole a) n None m (Stream c) h k = elim k [ ]
+  gave_more (Whole a) n (Whole b) m (Stream c) h k = elim k [ ]
+  gave_more (Whole a) n (Stream b) m r h k = elim h [ ]
+  gave_more (Stream a) n None m r h k = elim h [ ]
+  gave_more (Stream a) n (Whole b) m r h k = elim h [ ]
+  gave_more (Stream a) n (Stream b) m None h k = elim k [ ]
+  gave_more (Stream a) n (Stream b) m (Whole c) h k = elim k [ ]
 
   pub gave_is : (p : Payload S) (n : ℕ) (q : Payload S) → Gave feed p n q → gave feed p q ≡ n
   gave_is None n None h = h
@@ -43,6 +53,10 @@ module _ {S : Type 0} (feed : S → Feed) where
   gave_is (Whole a) n None h = omega (arith, h)
   gave_is (Whole a) n (Whole b) h = omega (arith, h)
   gave_is (Stream a) n (Stream b) h = omega (arith, h)
+  gave_is None n (Stream b) h = elim h [ ]
+  gave_is (Whole a) n (Stream b) h = elim h [ ]
+  gave_is (Stream a) n None h = elim h [ ]
+  gave_is (Stream a) n (Whole b) h = elim h [ ]
 
   pub keeps : (p : Payload S) (n : ℕ) (q : Payload S) → Gave feed p n q
       → (payload_feed feed p).faults ≤ (payload_feed feed q).faults → (payload_feed feed p).stalls ≤ (payload_feed feed q).stalls → KeepsPayload feed p q
@@ -51,3 +65,7 @@ module _ {S : Type 0} (feed : S → Feed) where
   keeps (Whole a) n None g h k = tt
   keeps (Whole a) n (Whole b) g h k = tt
   keeps (Stream a) n (Stream b) g h k = record { faults = h; stalls = k; given = omega (arith, g) }
+  keeps None n (Stream b) g h k = elim g [ ]
+  keeps (Whole a) n (Stream b) g h k = elim g [ ]
+  keeps (Stream a) n None g h k = elim g [ ]
+  keeps (Stream a) n (Whole b) g h k = elim g [ ]

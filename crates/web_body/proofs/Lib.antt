@@ -1,3 +1,4 @@
 pub mod Counts
+pub mod Loop
 pub mod Polls
 pub mod Turns

@@ -31,8 +31,9 @@ pub fn collect<S: Source>(
                 if piece.len() > limit - held.len() {
                     return Step::Ready(Err(PayloadError::Overflow));
                 }
-                if held.add(alloc, piece).is_err() {
-                    return Step::NoMemory;
+                match held.add(alloc, piece) {
+                    Ok(()) => {}
+                    Err(_) => return Step::NoMemory,
                 }
             }
             Turn::Stall => return Step::Pending,

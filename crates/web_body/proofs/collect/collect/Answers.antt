@@ -1,0 +1,24 @@
+use Rattle.std.proofs.Common.{◌≡◌, ◌≤◌, ◌<◌, ◌+◌, ◌++◌, length, ℕ, arith}
+use Rattle.web_body.specs.Held.{held_bytes}
+use Rattle.web_body.proofs.Loop.{reads_piece, passes_reads, stalls_reads, fails_reads, ends_reads}
+use Rattle.web_body.proofs.collect.collect.Goals as goal
+
+pub returns-then-len-limit-clause-reads : goal.returns-then-len-limit-clause-reads
+returns-then-len-limit-clause-reads g c =
+    let over : c.args.limit < length (held_bytes c.loop-piece.held) + length c.in-Piece.piece = omega (arith, c.len.ensures.value) in
+    passes_reads g.S.Source.feed c.args.limit _ _ _ _ c.loop-piece.invariant c.poll_next.new.self c.in-Piece.piece over c.in-Piece.ensures.next (held_bytes c.loop-piece.held)
+
+pub loop-piece-preserved : goal.loop-piece-preserved
+loop-piece-preserved g c =
+    let fits : length (held_bytes c.loop-piece.held) + length c.in-Piece.piece ≤ c.args.limit = omega (arith, c.len.ensures.value, c.loop-piece.invariant.within) in
+    reads_piece g.S.Source.feed c.args.limit _ _ _ _ c.loop-piece.invariant c.poll_next.new.self c.in-Piece.piece c.add.new.self
+    c.in-Ok.ensures.added fits c.in-Piece.ensures.next c.in-Piece.ensures.gave
+
+pub returns-in-Stall-clause-reads : goal.returns-in-Stall-clause-reads
+returns-in-Stall-clause-reads g c = stalls_reads g.S.Source.feed c.args.limit _ _ _ _ c.loop-piece.invariant c.poll_next.new.self c.in-Stall.ensures.next
+
+pub returns-in-Fault-clause-reads : goal.returns-in-Fault-clause-reads
+returns-in-Fault-clause-reads g c = fails_reads g.S.Source.feed c.args.limit _ _ _ _ c.loop-piece.invariant c.poll_next.new.self c.in-Fault.ensures.next (held_bytes c.loop-piece.held)
+
+pub returns-in-Ok-take-clause-reads : goal.returns-in-Ok-take-clause-reads
+returns-in-Ok-take-clause-reads g c = ends_reads g.S.Source.feed c.args.limit _ _ _ _ c.loop-piece.invariant c.poll_next.new.self c.in-End.ensures.next c.in-Ok-take.bytes c.in-Ok-take.ensures.all (held_bytes c.take.new.self)
