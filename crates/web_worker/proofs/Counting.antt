@@ -1,5 +1,5 @@
 -- How many records a plan makes.
-use Rattle.std.proofs.Common.{◌≡◌, ℕ, zero, suc, ◌+◌, ◌<◌, ◌≤◌, Bool, true, false, cond, ◌||◌, List, [], ◌∷◌, map, length, nat_lt, refl, sym, ◌∙◌, ap, arith, subst, ◌⊎◌, inl, inr}
+use Rattle.std.proofs.Common.{◌≡◌, ℕ, zero, suc, ◌+◌, ◌<◌, ◌≤◌, Bool, true, false, cond, ◌&&◌, ◌||◌, List, [], ◌∷◌, map, length, nat_lt, refl, sym, ◌∙◌, ap, arith, subst, ◌⊎◌, inl, inr}
 use Rattle.std.specs.Prelude.{Option, None, Some, Result, MatchOption, slice_get, slice_set}
 use Rattle.std.specs.List.{list_any}
 use Rattle.std.proofs.lemmas.Bool.Decides.{nat_tests}
@@ -17,9 +17,23 @@ use Rattle.web_worker.specs.Pooled.{KeepsNone, having_made, is_waiting, is_lost,
 use Rattle.web_worker.specs.Served.{polls, EachFrom, named_from, named, lacks_memory, MadeRecords}
 use Rattle.web_worker.specs.Flown.{FlightOf, Flown, Lands, Landed, Counted}
 
+and-false : (b : Bool) → (b && false) ≡ false
+and-false true = refl
+and-false false = refl
+
 -- a pool that keeps no record drops the one that comes back
 pub dropped : {L : Type 0} (p : Pool L) (n : ℕ) → KeepsNone p → given_back n p ≡ p
-dropped p n none = ?
+dropped p n none =
+    let full : nat_lt (length p.serials) p.capacity ≡ false = grind (arith, nat_tests, none.capacity) in
+    let off : (p.enabled && nat_lt (length p.serials) p.capacity) ≡ false = rw full (and-false p.enabled) in
+    rw off refl
+
+-- and a poll leaves it one that keeps none
+pub still_none : {S L D C F : Type 0} (f g : FlightView S L D C F) (p q : Pool L) → KeepsNone p → Makes f g p q → KeepsNone q
+still_none (Waiting x) g p q none (inl e) = rw e (record { capacity = none.capacity; serials = none.serials })
+still_none (Waiting x) g p q none (inr e) = rw e.0 none
+still_none (Extracting h) g p q none e = rw e none
+still_none (Answered o) g p q none e = rw e none
 
 or-true : (b : Bool) → (b || true) ≡ true
 or-true true = refl
@@ -35,6 +49,10 @@ either : (a b : Bool) → (a || b) ≡ true → (a ≡ true) ⊎ (b ≡ true)
 either true b h = inl refl
 either false b h = inr h
 
+lost_tail : (a b c : Bool) → (b ≡ true → c ≡ true) → (a ≡ true) ⊎ (b ≡ true) → (a || c) ≡ true
+lost_tail a b c keeps (inl l) = rw l refl
+lost_tail a b c keeps (inr l) = rw (keeps l) (or-true a)
+
 -- a change at one place
 module _ {S L D C F : Type 0} where
   waiting_set : (fs : List (FlightView S L D C F)) (k : ℕ) (f g : FlightView S L D C F) → slice_get fs k ≡ Some f
@@ -48,19 +66,16 @@ module _ {S L D C F : Type 0} where
   lost_here (h ∷ fs) zero f g e l = rw l refl
   lost_here (h ∷ fs) (suc k) f g e l = rw (lost_here fs k f g e l) (or-true (is_lost h))
 
+  lost_head : (h : FlightView S L D C F) (fs : List (FlightView S L D C F)) (f g : FlightView S L D C F) → h ≡ f → (is_lost f ≡ true → is_lost g ≡ true)
+      → (is_lost h ≡ true) ⊎ (list_any is_lost fs ≡ true) → (is_lost g || list_any is_lost fs) ≡ true
+  lost_head h fs f g e keeps (inl l) = let m : is_lost g ≡ true = keeps (ap is_lost (sym e) ∙ l) in rw m refl
+  lost_head h fs f g e keeps (inr l) = rw l (or-true (is_lost g))
+
   lost_stays : (fs : List (FlightView S L D C F)) (k : ℕ) (f g : FlightView S L D C F) → slice_get fs k ≡ Some f → (is_lost f ≡ true → is_lost g ≡ true)
       → list_any is_lost fs ≡ true → list_any is_lost (slice_set fs k g) ≡ true
   lost_stays [] k f g e keeps l = absurd cc
   lost_stays (h ∷ fs) zero f g e keeps l = lost_head h fs f g (cc) keeps (either (is_lost h) (list_any is_lost fs) l)
-    where
-      lost_head : (h : FlightView S L D C F) (fs : List (FlightView S L D C F)) (f g : FlightView S L D C F) → h ≡ f → (is_lost f ≡ true → is_lost g ≡ true) → (is_lost h ≡ true) ⊎ (list_any is_lost fs ≡ true) → (is_lost g || list_any is_lost fs) ≡ true
-      lost_head h fs f g e keeps (inl l) = let m : is_lost g ≡ true = keeps (rw e at l) in rw m refl
-      lost_head h fs f g e keeps (inr l) = rw l (or-true (is_lost g))
-  lost_stays (h ∷ fs) (suc k) f g e keeps l = lost_tail (either (is_lost h) (list_any is_lost fs) l)
-    where
-      lost_tail : (is_lost h ≡ true) ⊎ (list_any is_lost fs ≡ true) → (is_lost h || list_any is_lost (slice_set fs k g)) ≡ true
-      lost_tail (inl l) = rw l refl
-      lost_tail (inr l) = rw (lost_stays fs k f g e keeps l) (or-true (is_lost h))
+  lost_stays (h ∷ fs) (suc k) f g e keeps l = lost_tail (is_lost h) (list_any is_lost fs) (list_any is_lost (slice_set fs k g)) (lost_stays fs k f g e keeps) (either (is_lost h) (list_any is_lost fs) l)
 
   -- a flight whose next poll may make a record waits
   pub room : (fs : List (FlightView S L D C F)) (k : ℕ) → may_make (slice_get fs k) ≤ waiting fs
@@ -112,8 +127,8 @@ module _ {S L D C V E F : Type 0} (R : Rules L D C V E) (request : Asked S L D C
   adds_one (Waiting x) (Answered outcome.NoMemory) p q m (inr e) = not_taken p q e.0
   adds_one (Extracting h) (Waiting y) p q m k = absurd m
   adds_one (Extracting h) (Extracting j) p q m k = stays 0 false p q k
-  adds_one (Extracting h) (Answered o) p q m k = stays 0 (is_lost (Answered {E = Held S L D C F} o)) p q k
-  adds_one (Answered o) g p q m k = subst (λ (z : FlightView S L D C F). AddsOne 0 (cond (is_waiting z) 1 0) (is_lost z) p q) (sym m) (stays 0 (is_lost (Answered o)) p q k)
+  adds_one (Extracting h) (Answered o) p q m k = stays 0 (is_lost {S = S} {L = L} {D = D} {C = C} {F = F} (Answered o)) p q k
+  adds_one (Answered o) g p q m k = subst (λ (z : FlightView S L D C F). AddsOne 0 (cond (is_waiting z) 1 0) (is_lost z) p q) (sym m) (stays 0 (is_lost {S = S} {L = L} {D = D} {C = C} {F = F} (Answered o)) p q k)
 
   keeps_lost : (f g : FlightView S L D C F) → Moves R request feed gives f g → is_lost f ≡ true → is_lost g ≡ true
   keeps_lost (Waiting x) g m l = absurd (cc)
@@ -131,12 +146,12 @@ module _ {S L D C V E F : Type 0} (R : Rules L D C V E) (request : Asked S L D C
         most = (let a = one.most in let b = c.most in omega (arith, w));
         rest = one.rest ∙ ap (λ (z : Pool L). having_made q.made z) c.rest;
       }
-      where
-        made_of : (q.made + cond (is_waiting g) 1 0 ≡ m.made + cond (is_waiting f) 1 0) ⊎ (is_lost g ≡ true) → (m.made + waiting mid ≡ p.made + waiting old) ⊎ (list_any is_lost mid ≡ true)
-            → (q.made + waiting (slice_set mid k g) ≡ p.made + waiting old) ⊎ (list_any is_lost (slice_set mid k g) ≡ true)
-        made_of (inr l) b = inr (lost_here mid k f g e l)
-        made_of (inl a) (inr l) = inr (lost_stays mid k f g e keeps l)
-        made_of (inl a) (inl b) = inl (let w = waiting_set mid k f g e in omega (arith, a, b, w))
+    where
+      made_of : (q.made + cond (is_waiting g) 1 0 ≡ m.made + cond (is_waiting f) 1 0) ⊎ (is_lost g ≡ true) → (m.made + waiting mid ≡ p.made + waiting old) ⊎ (list_any is_lost mid ≡ true)
+          → (q.made + waiting (slice_set mid k g) ≡ p.made + waiting old) ⊎ (list_any is_lost (slice_set mid k g) ≡ true)
+      made_of (inr l) b = inr (lost_here mid k f g e l)
+      made_of (inl a) (inr l) = inr (lost_stays mid k f g e keeps l)
+      made_of (inl a) (inl b) = inl (let w = waiting_set mid k f g e in omega (arith, a, b, w))
 
   counted_at : (k : ℕ) (old mid new : List (FlightView S L D C F)) (p m q : Pool L) (o : Option (FlightView S L D C F)) → slice_get mid k ≡ o
       → MatchOption o ((new ≡ mid) × (q ≡ m)) (λ f. (g : FlightView S L D C F) × (new ≡ slice_set mid k g) × Moves R request feed gives f g × Makes f g m q)
@@ -147,6 +162,14 @@ module _ {S L D C V E F : Type 0} (R : Rules L D C V E) (request : Asked S L D C
 
   pub counted_next : (k : ℕ) (old mid new : List (FlightView S L D C F)) (p m q : Pool L) → Counted old mid p m → PollsAt R request feed gives k mid new m q → Counted old new p q
   counted_next k old mid new p m q c h = counted_at k old mid new p m q (slice_get mid k) refl h c
+
+  still_at : (k : ℕ) (old new : List (FlightView S L D C F)) (p q : Pool L) (o : Option (FlightView S L D C F)) → KeepsNone p
+      → MatchOption o ((new ≡ old) × (q ≡ p)) (λ f. (g : FlightView S L D C F) × (new ≡ slice_set old k g) × Moves R request feed gives f g × Makes f g p q) → KeepsNone q
+  still_at k old new p q None none h = rw h.1 none
+  still_at k old new p q (Some f) none h = still_none f h.0 p q none h.3
+
+  pub keeps_none : (k : ℕ) (old new : List (FlightView S L D C F)) (p q : Pool L) → KeepsNone p → PollsAt R request feed gives k old new p q → KeepsNone q
+  keeps_none k old new p q none h = still_at k old new p q (slice_get old k) none h
 
   -- each exchange that the plan names has left the ground
   named_one : (n : ℕ) (x : Asked S L D C) (f : FlightView S L D C F) → FlightOf R request feed gives n x f → cond {A = ℕ} (is_waiting f) 1 0 + cond {A = ℕ} (nat_lt 0 n) 1 0 ≡ 1
@@ -187,7 +210,7 @@ module _ {S L D C V E F : Type 0} (R : Rules L D C V E) (request : Asked S L D C
         most = (let m = c.most in omega (arith, all, first));
         rest = c.rest;
       }
-      where
-        exact_of : (list_any is_lost fs ≡ true → ⊥) → (q.made + waiting fs ≡ p.made + waiting start) ⊎ (list_any is_lost fs ≡ true) → q.made ≡ p.made + named plan xs
-        exact_of none (inl a) = let all = named_all plan 0 xs fs (flown xs e) in let first = waiting_start start xs e in omega (arith, all, first, a)
-        exact_of none (inr l) = absurd (none l)
+    where
+      exact_of : (list_any is_lost fs ≡ true → ⊥) → (q.made + waiting fs ≡ p.made + waiting start) ⊎ (list_any is_lost fs ≡ true) → q.made ≡ p.made + named plan xs
+      exact_of none (inl a) = let all = named_all plan 0 xs fs (flown xs e) in let first = waiting_start start xs e in omega (arith, all, first, a)
+      exact_of none (inr l) = absurd (none l)

@@ -122,8 +122,8 @@ module _ {S L D C V E F : Type 0} (R : Rules L D C V E) (request : Asked S L D C
   never : (n : ℕ) → n < 0 → ⊥
   never n h = absurd (omega arith)
 
-  pub lands_open : (h k : Held L D C F) → k ≡ h → GivesSome (gives k.future) → Lands R request feed gives (Extracting h) outcome.Unfinished
-  lands_open h k e some = (refl, λ b. some (λ n x a. never n (b n x (subst (λ (z : Held L D C F). gives z.future n x) e a))))
+  pub lands_open : (h : Held L D C F) → GivesSome (gives h.future) → Lands R request feed gives (Extracting h) outcome.Unfinished
+  lands_open h some = (refl, λ b. some (λ n x a. never n (b n x a)))
 
   not_before : (n : ℕ) (x : Asked S L D C) (f : FlightView S L D C F) → Under R request feed gives n x f → (FlightBefore R request feed gives f 0 → ⊥) → ExchangeBefore R request feed x n → ⊥
   not_before n x f h still b = let q : n ≡ n + 0 = omega arith in still (h.1 0 (subst (λ (m : ℕ). ExchangeBefore R request feed x m) q b))

@@ -115,24 +115,33 @@ fn advance<A: App>(alloc: Global, pool: &mut HttpRequestPool<A>, flight: Flight<
     }
 }
 
+/// Polls the flight of this number, where it is there.
+fn poll_at<A: App>(
+    alloc: Global,
+    pool: &mut HttpRequestPool<A>,
+    flights: &mut [Flight<A>],
+    k: usize,
+)
+    requires none_kept { KeepsNone pool.old }
+    requires room { pool.old.made + may_make (slice_get flights.old k) < 2 ^ 64 }
+    ensures polls { PollsAt bytes_rules (request_of pool.old) A.Source.feed (body_gives A.Source.feed) k flights.old flights.new pool.old pool.new }
+{
+    if k < flights.len() {
+        let place = &mut flights[k];
+        let flight = mem::replace(place, Flight::lost());
+        *place = advance(alloc, pool, flight);
+    }
+}
+
 /// Polls the flight of this number once. A number that names no flight, or an answered one, changes nothing and takes no
 /// memory.
 ///
 /// The first poll of a flight takes a record and makes its arguments. Where the arguments are there, the flight is
 /// answered in the same poll. Where memory is wanting, it is answered with `Outcome::NoMemory`.
-pub fn poll_one<A: App>(
-    alloc: Global,
-    worker: &mut Worker<A>,
-    flights: &mut [Flight<A>],
-    k: usize,
-)
+pub fn poll_one<A: App>(alloc: Global, worker: &mut Worker<A>, flights: &mut [Flight<A>], k: usize)
     requires { worker.old.made + may_make (slice_get flights.old k) < 2 ^ 64 }
     ensures polls { PollsAt bytes_rules (request_of worker.old) A.Source.feed (body_gives A.Source.feed) k flights.old flights.new worker.old worker.new }
     ensures effect { EffectAt bytes_rules (request_of worker.old) A.Source.feed (body_gives A.Source.feed) k flights.old flights.new }
 {
-    if k < flights.len() {
-        let place = &mut flights[k];
-        let flight = mem::replace(place, Flight::lost());
-        *place = advance(alloc, &mut worker.pool, flight);
-    }
+    poll_at(alloc, &mut worker.pool, flights, k);
 }

@@ -3,9 +3,10 @@ ghost use Rattle.std.specs.Prelude.{◌≡◌, ◌+◌, ◌<◌, ◌≤◌, ◌^
 ghost use Rattle.std.specs.Vec.{vec_capacity};
 ghost use Rattle.web_body.specs.Collecting.{body_gives};
 ghost use Rattle.web_request.specs.Pool.{Pool};
+ghost use Rattle.web_worker.specs.declared.flight.Stage.{Stage};
 ghost use Rattle.web_worker.specs.Flown.{Counted, Flown, Landed};
 ghost use Rattle.web_worker.specs.Function.{EachServed};
-ghost use Rattle.web_worker.specs.Pooled.{waiting};
+ghost use Rattle.web_worker.specs.Pooled.{KeepsNone, waiting};
 ghost use Rattle.web_worker.specs.Replies.{bytes_rules, request_of};
 ghost use Rattle.web_worker.specs.Served.{MadeRecords, Served};
 
@@ -15,7 +16,7 @@ use crate::outcome::Outcome;
 use crate::polling::poll_one;
 use crate::worker::Worker;
 use std::alloc::Global;
-use web_request::{App, NoMemory};
+use web_request::{App, HttpRequestPool, NoMemory};
 
 /// Makes a flight of each exchange.
 fn board<A: App>(flights: &mut Vec<Flight<A>>, exchanges: Vec<Exchange<A>>)
@@ -43,14 +44,15 @@ fn fly<A: App>(alloc: Global, worker: &mut Worker<A>, flights: &mut [Flight<A>],
 }
 
 /// Takes the outcome of each flight, and gives back the records that are still held, in their order.
-fn land<A: App>(worker: &mut Worker<A>, outcomes: &mut Vec<Outcome>, flights: Vec<Flight<A>>)
+fn land<A: App>(pool: &mut HttpRequestPool<A>, outcomes: &mut Vec<Outcome>, flights: Vec<Flight<A>>)
+    requires none_kept { KeepsNone pool.old }
     requires room { length flights.items ≤ vec_capacity outcomes.old }
     requires none { outcomes.old.items ≡ [] }
-    ensures worker { worker.new ≡ worker.old }
-    ensures landed { (pool : Pool A.Layer) → Landed bytes_rules (request_of pool) A.Source.feed (body_gives A.Source.feed) flights.items outcomes.new.items }
+    ensures pool { pool.new ≡ pool.old }
+    ensures landed { (worker : Pool A.Layer) → Landed bytes_rules (request_of worker) A.Source.feed (body_gives A.Source.feed) flights.items outcomes.new.items }
 {
     for flight in flights {
-        match outcomes.push(flight.into_outcome(&mut worker.pool)) {
+        match outcomes.push(flight.into_outcome(pool)) {
             Ok(()) => {}
             Err(_) => unreachable!(),
         }
@@ -85,6 +87,6 @@ pub fn serve_all<A: App>(
     };
     board(&mut flights, exchanges);
     fly(alloc, worker, flights.as_mut_slice(), plan);
-    land(worker, &mut outcomes, flights);
+    land(&mut worker.pool, &mut outcomes, flights);
     Ok(outcomes)
 }
