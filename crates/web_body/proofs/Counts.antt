@@ -1,11 +1,9 @@
 -- Counts of a payload over several answers.
-use Rattle.std.proofs.Common.{◌≡◌, ℕ, ◌+◌, ◌-◌, ◌<◌, ◌≤◌, List, length, refl, sym, ◌∙◌, ap, arith, ◌⊎◌, inl, inr}
-use Rattle.std.proofs.lemmas.Bool.{cases_lt}
-use Rattle.web_texts.specs.Counts.{Rose}
+use Rattle.std.proofs.Common.{ℕ, ◌+◌, refl, arith}
 use Rattle.web_request.specs.Feed.{Feed}
 use Rattle.web_body.specs.declared.payload.Payload.{Payload}
 use Rattle.web_body.specs.declared.payload.Payload.TheVariants.{None, Whole, Stream}
-use Rattle.web_body.specs.Payload.{payload_feed, gave, Gave, KeepsPayload}
+use Rattle.web_body.specs.Payload.{Gave}
 
 module _ {S : Type 0} (feed : S → Feed) where
   pub gave_none : (p : Payload S) → Gave feed p 0 p

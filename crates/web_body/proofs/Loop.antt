@@ -1,19 +1,16 @@
 -- What a collector keeps while it reads on.
-use Rattle.std.proofs.Common.{◌≡◌, ℕ, ◌+◌, ◌<◌, ◌≤◌, List, ◌++◌, length, refl, sym, ◌∙◌, ap, arith, subst}
-use Rattle.std.specs.Prelude.{Result, Ok, Err}
+use Rattle.std.proofs.Common.{◌≡◌, ℕ, ◌+◌, ◌<◌, ◌≤◌, List, ◌++◌, length, refl, ◌∙◌, ap, arith}
+use Rattle.std.specs.Prelude.{Ok, Err}
 use Rattle.std.proofs.lemmas.List.{length-append}
-use Rattle.web_texts.specs.Counts.{Rose}
-use Rattle.web_request.specs.Feed.{Feed, Next, GivesPiece, Stalls, Fails, Ends, LacksMemory}
+use Rattle.web_request.specs.Feed.{Feed, GivesPiece, Stalls, Fails, Ends}
 use Rattle.web_body.specs.declared.payload.Payload.{Payload}
 use Rattle.web_body.specs.declared.held.Held.{Held}
-use Rattle.web_body.specs.declared.message_body.PayloadError.{PayloadError}
 use Rattle.web_body.specs.declared.message_body.PayloadError.TheVariants.{Overflow, Io}
-use Rattle.web_body.specs.declared.poll.Step.{Step}
-use Rattle.web_body.specs.declared.poll.Step.TheVariants.{Pending, Ready, NoMemory}
+use Rattle.web_body.specs.declared.poll.Step.TheVariants.{Pending, Ready}
 use Rattle.web_body.specs.Held.{held_bytes}
-use Rattle.web_body.specs.Payload.{payload_feed, gave, Gave, KeepsPayload}
-use Rattle.web_body.specs.Collecting.{reading_of, Allows}
-use Rattle.web_body.specs.Collected.{Collects, Counted}
+use Rattle.web_body.specs.Payload.{payload_feed, gave, Gave}
+use Rattle.web_body.specs.Collecting.{reading_of}
+use Rattle.web_body.specs.Collected.{Collects}
 use Rattle.web_body.proofs.Turns.{over_value, stall_allows, fault_value, end_value, piece_same}
 use Rattle.web_body.proofs.Counts.{gave_none, gave_more}
 
@@ -42,7 +39,7 @@ module _ {S : Type 0} (feed : S → Feed) (limit : ℕ) where
     pub reads_piece : (b : List ℕ) (more : Held) → held_bytes more ≡ held_bytes held ++ b → length (held_bytes held) + length b ≤ limit
         → GivesPiece b (payload_feed feed now) (payload_feed feed new) → Gave feed now (length b) new
         → Reading_on feed limit first first_held new more
-    reads_piece b more items fits next gave = 
+    reads_piece b more items fits next gave =
         let size : length (held_bytes more) ≡ length (held_bytes held) + length b = ap length items ∙ length-append (held_bytes held) b in
         record {
           within = omega (arith, size, fits);
