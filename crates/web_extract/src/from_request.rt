@@ -1,5 +1,5 @@
 //! Values that are made of a request and its payload.
-ghost use Rattle.std.specs.Prelude.{◌≡◌, ℕ, List, Result, IfOk, false};
+ghost use Rattle.std.specs.Prelude.{◌≡◌, ◌⊎◌, ℕ, List, Result, IfOk, false};
 ghost use Rattle.web_request.specs.declared.source.Mark.{Mark};
 ghost use Rattle.web_request.specs.Request.{Request};
 ghost use Rattle.web_body.specs.Payload.{payload_feed};
@@ -20,8 +20,7 @@ pub trait FromRequest<A: App>: Sized + Drop {
     /// this number of polls that answer `Pending`.
     ghost means: { Request A.Layer A.Local A.Conn → List Mark → List Mark → ℕ → Result Self Self.Error → Type 0 };
 
-    /// Begins to make the value. The future takes from the payload what it needs, and leaves the rest there. Where memory
-    /// is wanting, the payload may be taken already.
+    /// Begins to make the value. It takes the payload or leaves it as it is, also where memory is wanting.
     fn from_request(
         alloc: Global,
         req: &HttpRequest<A>,
@@ -29,7 +28,8 @@ pub trait FromRequest<A: App>: Sized + Drop {
     ) -> Result<Self::Future, NoMemory>
         ensures fresh { IfOk result (λ f. Self.Future.is_finished f ≡ false) }
         ensures extracts { IfOk result (λ f. Extracts (means req.now.request) (Self.Future.gives f)
-            (payload_feed A.Source.feed payload.old).marks (payload_feed A.Source.feed payload.new).marks) };
+            (payload_feed A.Source.feed payload.old).marks (payload_feed A.Source.feed payload.new).marks) }
+        ensures payload { (payload.new ≡ payload.old) ⊎ (payload.new ≡ Payload.None) };
 
     /// Begins to make the value of the request alone, with an empty payload.
     final fn extract(alloc: Global, req: &HttpRequest<A>) -> Result<Self::Future, NoMemory>

@@ -1,5 +1,5 @@
 -- What is seen of a request, of its parts and of its record.
-use Rattle.std.specs.Prelude.{ℕ, List, [], ◌∷◌, Option, None, ◌≡◌}
+use Rattle.std.specs.Prelude.{ℕ, List, Option}
 use Rattle.web_texts.specs.declared.text.Pair.{Pair}
 use Rattle.web_request.specs.declared.config.AppConfig.{AppConfig}
 use Rattle.web_request.specs.Head.{Head}

@@ -6,7 +6,9 @@ mod app;
 mod config;
 mod head;
 mod parts;
+mod pool;
 mod request;
+mod reuse;
 mod source;
 
 pub use address::{IpAddr, SocketAddr};
@@ -14,6 +16,7 @@ pub use app::{App, Configured};
 pub use config::AppConfig;
 pub use head::RequestHead;
 pub use parts::RequestParts;
+pub use pool::HttpRequestPool;
 pub use request::HttpRequest;
 pub use source::{Mark, Source, Turn};
 pub use web_texts::{Duplicate, Fail, NoMemory, Pair, Text};

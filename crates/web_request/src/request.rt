@@ -1,13 +1,17 @@
 //! Requests in their records.
-ghost use Rattle.std.specs.Prelude.{◌≡◌};
+ghost use Rattle.std.specs.Prelude.{◌≡◌, IfErr, IfOk, OnErr, OnOk};
 ghost use Rattle.web_request.specs.Head.{head_view};
+ghost use Rattle.web_request.specs.Pool.{Clean, started};
 
 use crate::app::App;
 use crate::config::AppConfig;
 use crate::head::RequestHead;
+use crate::parts::RequestParts;
+use crate::reuse::{move_into, put_head};
+use std::alloc::Global;
 use std::marker::Model;
 use std::rc::Rc;
-use web_texts::Pair;
+use web_texts::{NoMemory, Pair};
 
 /// A request in its record, which a pool gives and takes back.
 ///
@@ -48,5 +52,130 @@ impl<A: App> HttpRequest<A> {
         ensures { result ≡ self.now.serial }
     {
         self.serial
+    }
+
+    /// A record in new memory. Where there is none, the parts are handed back.
+    pub(crate) fn fresh(
+        alloc: Global,
+        root: &Rc<A::Layer>,
+        config: &Rc<AppConfig>,
+        serial: u64,
+        mut parts: RequestParts<A>,
+    ) -> Result<HttpRequest<A>, (NoMemory, RequestParts<A>)>
+        requires ready { A.Layer.ready root.now.value }
+        ensures ok { IfOk result (λ r. r ≡ started root.now.value config.now.value serial parts) }
+        ensures back { IfErr result (λ e. e.1 ≡ parts) }
+    {
+        let Ok(root) = root.clone() else {
+            return Err((NoMemory, parts));
+        };
+        let Ok(config) = config.clone() else {
+            return Err((NoMemory, parts));
+        };
+        if parts.layers.reserve(1).is_err() {
+            return Err((NoMemory, parts));
+        }
+        let RequestParts {
+            head,
+            params,
+            mut layers,
+            conn,
+            local,
+        } = parts;
+        let head = match Rc::new(alloc, head) {
+            Ok(head) => head,
+            Err(refused) => {
+                let parts = RequestParts {
+                    head: refused.value,
+                    params,
+                    layers,
+                    conn,
+                    local,
+                };
+                return Err((NoMemory, parts));
+            }
+        };
+        match layers.insert(0, root) {
+            Ok(()) => {}
+            Err(_) => unreachable!(),
+        }
+        Ok(HttpRequest {
+            head,
+            params,
+            layers,
+            conn,
+            local,
+            config,
+            serial,
+        })
+    }
+
+    /// Takes away what the request left, and keeps the room of its lists.
+    pub(crate) fn clean(&mut self)
+        ensures clean { Clean self.new }
+        ensures serial { self.new.serial ≡ self.old.serial }
+    {
+        self.params.clear();
+        self.layers.clear();
+        self.conn = None;
+        self.local = None;
+    }
+
+    /// Makes a clean record one with these parts. Where there is no memory, they are handed back and it stays clean.
+    pub(crate) fn fill(
+        &mut self,
+        alloc: Global,
+        root: &Rc<A::Layer>,
+        config: &Rc<AppConfig>,
+        parts: RequestParts<A>,
+    ) -> Result<(), (NoMemory, RequestParts<A>)>
+        requires clean { Clean self.old }
+        requires ready { A.Layer.ready root.now.value }
+        ensures ok { OnOk result (self.new ≡ started root.now.value config.now.value self.old.serial parts) }
+        ensures back { IfErr result (λ e. e.1 ≡ parts) }
+        ensures kept { OnErr result (self.new ≡ self.old) }
+    {
+        let Ok(root) = root.clone() else {
+            return Err((NoMemory, parts));
+        };
+        let Ok(config) = config.clone() else {
+            return Err((NoMemory, parts));
+        };
+        if self.params.reserve(parts.params.len()).is_err() {
+            return Err((NoMemory, parts));
+        }
+        if self.layers.reserve(parts.layers.len() + 1).is_err() {
+            return Err((NoMemory, parts));
+        }
+        let RequestParts {
+            head,
+            params,
+            layers,
+            conn,
+            local,
+        } = parts;
+        match put_head(alloc, &mut self.head, head) {
+            Ok(()) => {}
+            Err(head) => {
+                let parts = RequestParts {
+                    head,
+                    params,
+                    layers,
+                    conn,
+                    local,
+                };
+                return Err((NoMemory, parts));
+            }
+        }
+        match self.layers.push(root) {
+            Ok(()) => {}
+            Err(_) => unreachable!(),
+        }
+        move_into(&mut self.layers, layers);
+        move_into(&mut self.params, params);
+        self.conn = conn;
+        self.local = local;
+        self.config = config;
+        Ok(())
     }
 }

@@ -1,0 +1,17 @@
+use Rattle.std.proofs.Common.{rules, subst, arith, ◌≡◌, true, length, nat_lt, ◌<◌}
+use Rattle.std.specs.Prelude.{IsOk, ◌&&◌}
+use Rattle.std.specs.Vec.{vec_len, vec_capacity}
+use Rattle.web_request.proofs.Keeping.{keeps_given, room_left}
+use Rattle.web_request.proofs.pool.HttpRequestPool.give_back.Goals as goal
+
+pub unreachable-requires-in-Err-push : goal.unreachable-requires-in-Err-push
+unreachable-requires-in-Err-push g c =
+    let a : (c.self.inside.enabled && nat_lt (length c.self.inside.numbers.items) c.self.inside.capacity) ≡ true = search rules in
+    let left = room_left c.self.invariant.0 a in
+    let lt : vec_len c.self.inside.kept < vec_capacity c.self.inside.kept = omega (arith, c.self.inside.kept.ok.0) in
+    let no = subst IsOk c.in-Err-push.is (c.push-2.ensures.succeeds lt) in grind arith
+
+pub invariant_of-self : goal.invariant_of-self
+invariant_of-self g c =
+    let a : (c.self.inside.enabled && nat_lt (length c.self.inside.numbers.items) c.self.inside.capacity) ≡ true = search rules in
+    (keeps_given c.self.invariant.0 c.clean.new.self _ _ _ _ a c.clean.ensures.clean (search rules) (search rules) c.push-2.ensures.capacity c.push.ensures.capacity, c.self.invariant.1)

@@ -1,0 +1,46 @@
+//! Writing into memory that an earlier request left.
+ghost use Rattle.std.specs.Prelude.{◌≡◌, ◌+◌, ◌≤◌, ◌++◌, length, IfErr, OnOk, OnErr};
+ghost use Rattle.std.specs.Vec.{vec_capacity};
+
+use crate::head::RequestHead;
+use std::alloc::Global;
+use std::rc::Rc;
+
+/// Writes a head into the memory of an earlier one, or into new memory where that one is shared. Where there is no
+/// memory, the head is handed back and the earlier one stays.
+pub fn put_head(
+    alloc: Global,
+    place: &mut Rc<RequestHead>,
+    head: RequestHead,
+) -> Result<(), RequestHead>
+    ensures ok { OnOk result (place.new.value ≡ head) }
+    ensures back { IfErr result (λ refused. refused ≡ head) }
+    ensures kept { OnErr result (place.new.value ≡ place.old.value) }
+{
+    match Rc::get_mut(place) {
+        Some(kept) => {
+            *kept = head;
+            Ok(())
+        }
+        None => match Rc::new(alloc, head) {
+            Ok(new) => {
+                *place = new;
+                Ok(())
+            }
+            Err(refused) => Err(refused.value),
+        },
+    }
+}
+
+/// Moves values into a list that has room for them.
+pub fn move_into<T>(list: &mut Vec<T>, mut values: Vec<T>)
+where
+    T: Drop,
+    requires room { length list.old.items + length values.items ≤ vec_capacity list.old }
+    ensures { list.new.items ≡ list.old.items ++ values.items }
+{
+    match list.append(&mut values) {
+        Ok(()) => {}
+        Err(_) => unreachable!(),
+    }
+}

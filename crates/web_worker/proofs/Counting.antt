@@ -1,0 +1,193 @@
+-- How many records a plan makes.
+use Rattle.std.proofs.Common.{◌≡◌, ℕ, zero, suc, ◌+◌, ◌<◌, ◌≤◌, Bool, true, false, cond, ◌||◌, List, [], ◌∷◌, map, length, nat_lt, refl, sym, ◌∙◌, ap, arith, subst, ◌⊎◌, inl, inr}
+use Rattle.std.specs.Prelude.{Option, None, Some, Result, MatchOption, slice_get, slice_set}
+use Rattle.std.specs.List.{list_any}
+use Rattle.std.proofs.lemmas.Bool.Decides.{nat_tests}
+use Rattle.web_request.specs.Feed.{Feed}
+use Rattle.web_request.specs.Pool.{Pool, given_back}
+use Rattle.web_request.specs.Request.{Request}
+use Rattle.web_worker.specs.declared.outcome.Outcome.{Outcome}
+use Rattle.web_worker.specs.declared.outcome.Outcome.TheVariants as outcome
+use Rattle.web_worker.specs.declared.flight.Stage.TheVariants.{Waiting, Extracting, Answered}
+use Rattle.web_worker.specs.Exchanges.{Asked, FlightView}
+use Rattle.web_worker.specs.Answers.{Rules}
+use Rattle.web_worker.specs.Flights.{Moves}
+use Rattle.web_worker.specs.Polls.{PollsAt}
+use Rattle.web_worker.specs.Pooled.{KeepsNone, having_made, is_waiting, is_lost, Makes, may_make, waiting}
+use Rattle.web_worker.specs.Served.{polls, EachFrom, named_from, named, lacks_memory, MadeRecords}
+use Rattle.web_worker.specs.Flown.{FlightOf, Flown, Lands, Landed, Counted}
+
+-- a pool that keeps no record drops the one that comes back
+pub dropped : {L : Type 0} (p : Pool L) (n : ℕ) → KeepsNone p → given_back n p ≡ p
+dropped p n none = ?
+
+or-true : (b : Bool) → (b || true) ≡ true
+or-true true = refl
+or-true false = refl
+
+named_yes : (n : ℕ) → 0 < n → cond {A = ℕ} (nat_lt 0 n) 1 0 ≡ 1
+named_yes n h = let l : nat_lt 0 n ≡ true = grind (arith, nat_tests) in rw l refl
+
+named_no : (n : ℕ) → n ≡ 0 → cond {A = ℕ} (nat_lt 0 n) 1 0 ≡ 0
+named_no n h = let l : nat_lt 0 n ≡ false = grind (arith, nat_tests) in rw l refl
+
+either : (a b : Bool) → (a || b) ≡ true → (a ≡ true) ⊎ (b ≡ true)
+either true b h = inl refl
+either false b h = inr h
+
+-- a change at one place
+module _ {S L D C F : Type 0} where
+  waiting_set : (fs : List (FlightView S L D C F)) (k : ℕ) (f g : FlightView S L D C F) → slice_get fs k ≡ Some f
+      → waiting (slice_set fs k g) + cond (is_waiting f) 1 0 ≡ waiting fs + cond (is_waiting g) 1 0
+  waiting_set [] k f g e = absurd cc
+  waiting_set (h ∷ fs) zero f g e = let q : h ≡ f = cc in rw q (omega arith)
+  waiting_set (h ∷ fs) (suc k) f g e = let q = waiting_set fs k f g e in omega (arith, q)
+
+  lost_here : (fs : List (FlightView S L D C F)) (k : ℕ) (f g : FlightView S L D C F) → slice_get fs k ≡ Some f → is_lost g ≡ true → list_any is_lost (slice_set fs k g) ≡ true
+  lost_here [] k f g e l = absurd cc
+  lost_here (h ∷ fs) zero f g e l = rw l refl
+  lost_here (h ∷ fs) (suc k) f g e l = rw (lost_here fs k f g e l) (or-true (is_lost h))
+
+  lost_stays : (fs : List (FlightView S L D C F)) (k : ℕ) (f g : FlightView S L D C F) → slice_get fs k ≡ Some f → (is_lost f ≡ true → is_lost g ≡ true)
+      → list_any is_lost fs ≡ true → list_any is_lost (slice_set fs k g) ≡ true
+  lost_stays [] k f g e keeps l = absurd cc
+  lost_stays (h ∷ fs) zero f g e keeps l = lost_head h fs f g (cc) keeps (either (is_lost h) (list_any is_lost fs) l)
+    where
+      lost_head : (h : FlightView S L D C F) (fs : List (FlightView S L D C F)) (f g : FlightView S L D C F) → h ≡ f → (is_lost f ≡ true → is_lost g ≡ true) → (is_lost h ≡ true) ⊎ (list_any is_lost fs ≡ true) → (is_lost g || list_any is_lost fs) ≡ true
+      lost_head h fs f g e keeps (inl l) = let m : is_lost g ≡ true = keeps (rw e at l) in rw m refl
+      lost_head h fs f g e keeps (inr l) = rw l (or-true (is_lost g))
+  lost_stays (h ∷ fs) (suc k) f g e keeps l = lost_tail (either (is_lost h) (list_any is_lost fs) l)
+    where
+      lost_tail : (is_lost h ≡ true) ⊎ (list_any is_lost fs ≡ true) → (is_lost h || list_any is_lost (slice_set fs k g)) ≡ true
+      lost_tail (inl l) = rw l refl
+      lost_tail (inr l) = rw (lost_stays fs k f g e keeps l) (or-true (is_lost h))
+
+  -- a flight whose next poll may make a record waits
+  pub room : (fs : List (FlightView S L D C F)) (k : ℕ) → may_make (slice_get fs k) ≤ waiting fs
+  room [] k = omega arith
+  room (h ∷ fs) zero = omega arith
+  room (h ∷ fs) (suc k) = let q = room fs k in omega arith
+
+  pub waiting_start : (fs : List (FlightView S L D C F)) (xs : List (Asked S L D C)) → fs ≡ map (λ x. Waiting x) xs → waiting fs ≡ length xs
+  waiting_start fs xs e = rw e (waiting_map xs)
+    where
+      waiting_map : (xs : List (Asked S L D C)) → waiting {F = F} (map (λ x. Waiting x) xs) ≡ length xs
+      waiting_map [] = refl
+      waiting_map (x ∷ xs) = let h = waiting_map xs in omega (arith, h)
+
+  pub counted_start : (fs : List (FlightView S L D C F)) (p : Pool L) → Counted fs fs p p
+  counted_start fs p = record { made = inl refl; least = omega arith; most = omega arith; rest = refl }
+
+-- what a poll of a flight adds to the number made, where w and v say whether it waited before and after
+pub record AddsOne {L : Type 0} (w v : ℕ) (is_lost_now : Bool) (p q : Pool L) : Type 0 where
+  made : (q.made + v ≡ p.made + w) ⊎ (is_lost_now ≡ true)
+  least : p.made ≤ q.made
+  most : q.made + v ≤ p.made + w
+  rest : q ≡ having_made q.made p
+
+taken_one : {L : Type 0} (b : Bool) (p q : Pool L) → q ≡ having_made (p.made + 1) p → AddsOne 1 0 b p q
+taken_one b p q e =
+    let m : q.made ≡ p.made + 1 = ap (λ (z : Pool _). z.made) e in
+    record { made = inl (omega arith); least = omega arith; most = omega arith; rest = e ∙ ap (λ (n : ℕ). having_made n p) (sym m) }
+
+not_taken : {L : Type 0} (p q : Pool L) → q ≡ p → AddsOne 1 0 true p q
+not_taken p q e =
+    let m : q.made ≡ p.made = ap (λ (z : Pool _). z.made) e in
+    record { made = inr refl; least = omega arith; most = omega arith; rest = e ∙ ap (λ (n : ℕ). having_made n p) (sym m) }
+
+stays : {L : Type 0} (w : ℕ) (b : Bool) (p q : Pool L) → q ≡ p → AddsOne w w b p q
+stays w b p q e =
+    let m : q.made ≡ p.made = ap (λ (z : Pool _). z.made) e in
+    record { made = inl (omega arith); least = omega arith; most = omega arith; rest = e ∙ ap (λ (n : ℕ). having_made n p) (sym m) }
+
+module _ {S L D C V E F : Type 0} (R : Rules L D C V E) (request : Asked S L D C → Request L D C) (feed : S → Feed) (gives : F → ℕ → Result V E → Type 0) where
+  adds_one : (f g : FlightView S L D C F) (p q : Pool L) → Moves R request feed gives f g → Makes f g p q → AddsOne (cond (is_waiting f) 1 0) (cond (is_waiting g) 1 0) (is_lost g) p q
+  adds_one (Waiting x) (Waiting y) p q m k = absurd m
+  adds_one (Waiting x) (Extracting h) p q m (inl e) = taken_one false p q e
+  adds_one (Waiting x) (Extracting h) p q m (inr e) = let n = e.1 in absurd (cc)
+  adds_one (Waiting x) (Answered (outcome.Reply r)) p q m (inl e) = taken_one false p q e
+  adds_one (Waiting x) (Answered (outcome.Reply r)) p q m (inr e) = let n = e.1 in absurd (cc)
+  adds_one (Waiting x) (Answered outcome.Unfinished) p q m k = absurd m
+  adds_one (Waiting x) (Answered outcome.NoMemory) p q m (inl e) = taken_one true p q e
+  adds_one (Waiting x) (Answered outcome.NoMemory) p q m (inr e) = not_taken p q e.0
+  adds_one (Extracting h) (Waiting y) p q m k = absurd m
+  adds_one (Extracting h) (Extracting j) p q m k = stays 0 false p q k
+  adds_one (Extracting h) (Answered o) p q m k = stays 0 (is_lost (Answered {E = Held S L D C F} o)) p q k
+  adds_one (Answered o) g p q m k = subst (λ (z : FlightView S L D C F). AddsOne 0 (cond (is_waiting z) 1 0) (is_lost z) p q) (sym m) (stays 0 (is_lost (Answered o)) p q k)
+
+  keeps_lost : (f g : FlightView S L D C F) → Moves R request feed gives f g → is_lost f ≡ true → is_lost g ≡ true
+  keeps_lost (Waiting x) g m l = absurd (cc)
+  keeps_lost (Extracting h) g m l = absurd (cc)
+  keeps_lost (Answered o) g m l = rw m l
+
+  counted_set : (old mid : List (FlightView S L D C F)) (k : ℕ) (f g : FlightView S L D C F) (p m q : Pool L) → slice_get mid k ≡ Some f
+      → AddsOne (cond (is_waiting f) 1 0) (cond (is_waiting g) 1 0) (is_lost g) m q → (is_lost f ≡ true → is_lost g ≡ true)
+      → Counted old mid p m → Counted old (slice_set mid k g) p q
+  counted_set old mid k f g p m q e one keeps c =
+      let w = waiting_set mid k f g e in
+      record {
+        made = made_of one.made c.made;
+        least = (let a = one.least in let b = c.least in omega arith);
+        most = (let a = one.most in let b = c.most in omega (arith, w));
+        rest = one.rest ∙ ap (λ (z : Pool L). having_made q.made z) c.rest;
+      }
+      where
+        made_of : (q.made + cond (is_waiting g) 1 0 ≡ m.made + cond (is_waiting f) 1 0) ⊎ (is_lost g ≡ true) → (m.made + waiting mid ≡ p.made + waiting old) ⊎ (list_any is_lost mid ≡ true)
+            → (q.made + waiting (slice_set mid k g) ≡ p.made + waiting old) ⊎ (list_any is_lost (slice_set mid k g) ≡ true)
+        made_of (inr l) b = inr (lost_here mid k f g e l)
+        made_of (inl a) (inr l) = inr (lost_stays mid k f g e keeps l)
+        made_of (inl a) (inl b) = inl (let w = waiting_set mid k f g e in omega (arith, a, b, w))
+
+  counted_at : (k : ℕ) (old mid new : List (FlightView S L D C F)) (p m q : Pool L) (o : Option (FlightView S L D C F)) → slice_get mid k ≡ o
+      → MatchOption o ((new ≡ mid) × (q ≡ m)) (λ f. (g : FlightView S L D C F) × (new ≡ slice_set mid k g) × Moves R request feed gives f g × Makes f g m q)
+      → Counted old mid p m → Counted old new p q
+  counted_at k old mid new p m q None e h c = rw (h.0, h.1) c
+  counted_at k old mid new p m q (Some f) e h c =
+      rw h.1 (counted_set old mid k f h.0 p m q e (adds_one f h.0 m q h.2 h.3) (keeps_lost f h.0 h.2) c)
+
+  pub counted_next : (k : ℕ) (old mid new : List (FlightView S L D C F)) (p m q : Pool L) → Counted old mid p m → PollsAt R request feed gives k mid new m q → Counted old new p q
+  counted_next k old mid new p m q c h = counted_at k old mid new p m q (slice_get mid k) refl h c
+
+  -- each exchange that the plan names has left the ground
+  named_one : (n : ℕ) (x : Asked S L D C) (f : FlightView S L D C F) → FlightOf R request feed gives n x f → cond {A = ℕ} (is_waiting f) 1 0 + cond {A = ℕ} (nat_lt 0 n) 1 0 ≡ 1
+  named_one n x (Waiting y) h = rw (named_no n h.1) refl
+  named_one n x (Extracting k) h = rw (named_yes n h.0) refl
+  named_one n x (Answered (outcome.Reply r)) h = let l : 0 < n = omega (arith, h.1) in rw (named_yes n l) refl
+  named_one n x (Answered outcome.Unfinished) h = absurd h
+  named_one n x (Answered outcome.NoMemory) h = rw (named_yes n h) refl
+
+  named_all : (p : List ℕ) (i : ℕ) (xs : List (Asked S L D C)) (fs : List (FlightView S L D C F)) → EachFrom (λ k x f. FlightOf R request feed gives (polls p k) x f) i xs fs → waiting fs + named_from p i xs ≡ length xs
+  named_all p i [] [] h = refl
+  named_all p i (x ∷ xs) (f ∷ fs) h = let a = named_one (polls p i) x f h.0 in let b = named_all p (suc i) xs fs h.1 in omega (arith, a, b)
+  named_all p i [] (f ∷ fs) h = absurd h
+  named_all p i (x ∷ xs) [] h = absurd h
+
+  lost_one : (f : FlightView S L D C F) (o : Outcome) → Lands R request feed gives f o → lacks_memory o ≡ is_lost f
+  lost_one (Waiting x) o l = rw l refl
+  lost_one (Extracting h) o l = rw l.0 refl
+  lost_one (Answered (outcome.Reply r)) o l = rw l refl
+  lost_one (Answered outcome.Unfinished) o l = rw l refl
+  lost_one (Answered outcome.NoMemory) o l = rw l refl
+
+  lost_all : (i : ℕ) (fs : List (FlightView S L D C F)) (os : List Outcome) → EachFrom (λ k f o. Lands R request feed gives f o) i fs os → list_any lacks_memory os ≡ list_any is_lost fs
+  lost_all i [] [] h = refl
+  lost_all i (f ∷ fs) (o ∷ os) h = rw (lost_one f o h.0, lost_all (suc i) fs os h.1) refl
+  lost_all i [] (o ∷ os) h = absurd h
+  lost_all i (f ∷ fs) [] h = absurd h
+
+  pub made_records : (plan : List ℕ) (xs : List (Asked S L D C)) (start fs : List (FlightView S L D C F)) (os : List Outcome) (p q : Pool L) → start ≡ map (λ x. Waiting x) xs
+      → Flown R request feed gives plan start fs → Landed R request feed gives fs os → Counted start fs p q → MadeRecords plan xs os p q
+  made_records plan xs start fs os p q e flown landed c =
+      let all = named_all plan 0 xs fs (flown xs e) in
+      let first = waiting_start start xs e in
+      let lost = lost_all 0 fs os landed in
+      record {
+        exact = λ none. exact_of (λ l. let m : list_any lacks_memory os ≡ true = lost ∙ l in absurd (cc)) c.made;
+        least = c.least;
+        most = (let m = c.most in omega (arith, all, first));
+        rest = c.rest;
+      }
+      where
+        exact_of : (list_any is_lost fs ≡ true → ⊥) → (q.made + waiting fs ≡ p.made + waiting start) ⊎ (list_any is_lost fs ≡ true) → q.made ≡ p.made + named plan xs
+        exact_of none (inl a) = let all = named_all plan 0 xs fs (flown xs e) in let first = waiting_start start xs e in omega (arith, all, first, a)
+        exact_of none (inr l) = absurd (none l)

@@ -1,0 +1,4 @@
+pub mod Counting
+pub mod Eaches
+pub mod Outcomes
+pub mod Stepping

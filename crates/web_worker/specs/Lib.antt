@@ -1,0 +1,9 @@
+pub mod Answers
+pub mod Exchanges
+pub mod Flights
+pub mod Flown
+pub mod Function
+pub mod Polls
+pub mod Pooled
+pub mod Replies
+pub mod Served

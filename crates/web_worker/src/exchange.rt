@@ -1,0 +1,59 @@
+//! A request and its body, as they come to a worker.
+
+use std::marker::Model;
+use std::rc::Rc;
+use web_body::Payload;
+use web_request::{App, Pair, RequestHead, RequestParts};
+
+/// A request and its body, before a worker has made a record of it.
+///
+/// Its layers stand above the worker's root layer, the nearest last.
+#[derive(Drop)]
+pub struct Exchange<A: App> {
+    pub head: RequestHead,
+    pub params: Vec<Pair>,
+    pub layers: Vec<Rc<A::Layer>>,
+    pub conn: Option<Rc<A::Conn>>,
+    pub local: Option<A::Local>,
+    pub body: Payload<A::Source>,
+}
+
+impl<A: App> Model for Exchange<A> {
+    ghost use Rattle.web_request.specs.Head.{head_view};
+    ghost use Rattle.web_request.specs.Ready.{AllReady};
+    ghost use Rattle.web_request.specs.Shared.{values, value_of};
+    ghost use Rattle.web_worker.specs.Exchanges.{Asked};
+
+    ghost Value = { Asked A.Source A.Layer A.Local A.Conn };
+
+    ghost view = { λ x. record { parts = record { head = head_view x.head; params = x.params.items; layers = values x.layers.items; conn = value_of x.conn; local = x.local }; body = x.body } };
+
+    ghost invariant = { λ x. AllReady A.Layer.ready (values x.layers.items) };
+}
+
+impl<A: App> Exchange<A> {
+    ghost use Rattle.std.specs.Prelude.{◌≡◌};
+
+    /// The parts of the request, and its body.
+    pub(crate) fn into_parts(self) -> (RequestParts<A>, Payload<A::Source>)
+        ensures parts { result.0 ≡ self.parts }
+        ensures body { result.1 ≡ self.body }
+    {
+        let Exchange {
+            head,
+            params,
+            layers,
+            conn,
+            local,
+            body,
+        } = self;
+        let parts = RequestParts {
+            head,
+            params,
+            layers,
+            conn,
+            local,
+        };
+        (parts, body)
+    }
+}

@@ -1,0 +1,94 @@
+//! How far an exchange has come.
+use crate::exchange::Exchange;
+use crate::outcome::Outcome;
+use std::marker::Model;
+use web_body::{HttpMessageBody, Poll};
+use web_request::{App, HttpRequest, HttpRequestPool};
+
+/// A request in its record, with a future that is not finished.
+#[derive(Drop)]
+pub struct InFlight<A: App, F: Poll> {
+    pub request: HttpRequest<A>,
+    pub future: F,
+}
+
+impl<A: App, F: Poll> Model for InFlight<A, F> {
+    ghost use Rattle.std.specs.Prelude.{◌≡◌, false};
+    ghost use Rattle.web_worker.specs.Exchanges.{Held};
+
+    ghost Value = { Held A.Layer A.Local A.Conn F };
+
+    ghost view = { λ h. record { record_of = h.request; future = h.future } };
+
+    ghost invariant = { λ h. F.is_finished h.future ≡ false };
+}
+
+/// How far an exchange has come.
+#[derive(Drop)]
+pub enum Stage<X, E> {
+    /// No entry of the plan named it yet.
+    Waiting(X),
+    /// Its arguments are being made.
+    Extracting(E),
+    Answered(Outcome),
+}
+
+/// An exchange under way. Contracts see it as its stage.
+#[derive(Drop)]
+pub struct Flight<A: App> {
+    pub(crate) stage: Stage<Exchange<A>, InFlight<A, HttpMessageBody<A::Source>>>,
+}
+
+impl<A: App> Model for Flight<A> {
+    ghost use Rattle.web_body.specs.Collecting.{Collecting};
+    ghost use Rattle.web_worker.specs.Exchanges.{FlightView};
+
+    ghost Value = { FlightView A.Source A.Layer A.Local A.Conn (Collecting A.Source) };
+
+    ghost view = { λ f. f.stage };
+}
+
+impl<A: App> Flight<A> {
+    ghost use Rattle.std.specs.Prelude.{◌≡◌};
+    ghost use Rattle.web_request.specs.Pool.{Pool};
+    ghost use Rattle.web_body.specs.Collecting.{body_gives};
+    ghost use Rattle.web_worker.specs.Flown.{Lands};
+    ghost use Rattle.web_worker.specs.Pooled.{KeepsNone};
+    ghost use Rattle.web_worker.specs.Replies.{bytes_rules, request_of};
+
+    /// A flight that waits for its first poll.
+    pub fn new(exchange: Exchange<A>) -> Flight<A>
+        ensures { result ≡ Stage.Waiting exchange }
+    {
+        Flight {
+            stage: Stage::Waiting(exchange),
+        }
+    }
+
+    /// A flight that found no memory.
+    pub(crate) fn lost() -> Flight<A>
+        ensures { result ≡ Stage.Answered Outcome.NoMemory }
+    {
+        Flight {
+            stage: Stage::Answered(Outcome::NoMemory),
+        }
+    }
+
+    /// What the flight came to, where the plan is at its end. A record that it still holds is given back.
+    pub(crate) fn into_outcome(self, pool: &mut HttpRequestPool<A>) -> Outcome
+        requires { KeepsNone pool.old }
+        ensures pool { pool.new ≡ pool.old }
+        ensures lands { (worker : Pool A.Layer) → Lands bytes_rules (request_of worker) A.Source.feed (body_gives A.Source.feed) self result }
+    {
+        let Flight { stage } = self;
+        match stage {
+            Stage::Waiting(_) => Outcome::Unfinished,
+            Stage::Extracting(held) => {
+                let InFlight { request, future: _ } = held;
+                pool.give_back(request);
+                Outcome::Unfinished
+            }
+            Stage::Answered(outcome) => outcome,
+        }
+    }
+}

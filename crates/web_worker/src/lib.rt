@@ -1,0 +1,16 @@
+//! One worker that polls many exchanges in the order of a plan.
+#![tactic(auto)]
+
+mod exchange;
+mod flight;
+mod outcome;
+mod polling;
+mod serving;
+mod worker;
+
+pub use exchange::Exchange;
+pub use flight::Flight;
+pub use outcome::Outcome;
+pub use polling::poll_one;
+pub use serving::serve_all;
+pub use worker::Worker;
