@@ -1,21 +1,18 @@
 -- What a collector keeps while it reads on.
-use Rattle.std.proofs.Common.{◌≡◌, ℕ, ◌+◌, ◌<◌, ◌≤◌, List, ◌++◌, length, refl, sym, ◌∙◌, ap, arith, subst}
-use Rattle.std.specs.Prelude.{Result, Ok, Err}
+use Rattle.std.proofs.Common.{◌≡◌, ℕ, ◌+◌, ◌<◌, ◌≤◌, List, ◌++◌, length, refl, ◌∙◌, ap, arith}
+use Rattle.std.specs.Prelude.{Ok, Err}
 use Rattle.std.proofs.lemmas.List.{length-append}
-use Rattle.web_texts.specs.Counts.{Rose}
-use Rattle.web_request.specs.Feed.{Feed, Next, GivesPiece, Stalls, Fails, Ends, LacksMemory}
+use Rattle.web_request.specs.Feed.{Feed, GivesPiece, Stalls, Fails, Ends}
 use Rattle.web_body.specs.declared.payload.Payload.{Payload}
 use Rattle.web_body.specs.declared.held.Held.{Held}
-use Rattle.web_body.specs.declared.message_body.PayloadError.{PayloadError}
 use Rattle.web_body.specs.declared.message_body.PayloadError.TheVariants.{Overflow, Io}
-use Rattle.web_body.specs.declared.poll.Step.{Step}
-use Rattle.web_body.specs.declared.poll.Step.TheVariants.{Pending, Ready, NoMemory}
+use Rattle.web_body.specs.declared.poll.Step.TheVariants.{Pending, Ready}
 use Rattle.web_body.specs.Held.{held_bytes}
-use Rattle.web_body.specs.Payload.{payload_feed, gave, Gave, KeepsPayload}
-use Rattle.web_body.specs.Collecting.{reading_of, Allows}
-use Rattle.web_body.specs.Collected.{Collects, Counted}
+use Rattle.web_body.specs.Payload.{payload_feed, gave, Gave}
+use Rattle.web_body.specs.Collecting.{reading_of}
+use Rattle.web_body.specs.Collected.{Collects}
 use Rattle.web_body.proofs.Turns.{over_value, stall_allows, fault_value, end_value, piece_same}
-use Rattle.web_body.proofs.Counts.{rose_since, gave_none, gave_more, gave_is, keeps}
+use Rattle.web_body.proofs.Counts.{gave_none, gave_more}
 
 pub record Reading_on {S : Type 0} (feed : S → Feed) (limit : ℕ) (first : Payload S) (first_held : Held) (now : Payload S) (now_held : Held) : Type 0 where
   pub within : length (held_bytes now_held) ≤ limit
@@ -42,7 +39,7 @@ module _ {S : Type 0} (feed : S → Feed) (limit : ℕ) where
     pub reads_piece : (b : List ℕ) (more : Held) → held_bytes more ≡ held_bytes held ++ b → length (held_bytes held) + length b ≤ limit
         → GivesPiece b (payload_feed feed now) (payload_feed feed new) → Gave feed now (length b) new
         → Reading_on feed limit first first_held new more
-    reads_piece b more items fits next gave = 
+    reads_piece b more items fits next gave =
         let size : length (held_bytes more) ≡ length (held_bytes held) + length b = ap length items ∙ length-append (held_bytes held) b in
         record {
           within = omega (arith, size, fits);
@@ -54,86 +51,18 @@ module _ {S : Type 0} (feed : S → Feed) (limit : ℕ) where
           stalls = omega (arith, on.stalls, next.stalls);
         }
 
-    all_gave : (n : ℕ) → Gave feed now n new → gave feed first new ≡ on.given + n
-    all_gave n g = gave_is feed first (on.given + n) new (gave_more feed first on.given now n new on.gave g)
-
-    kept : (n : ℕ) → Gave feed now n new → (payload_feed feed now).faults ≤ (payload_feed feed new).faults → (payload_feed feed now).stalls ≤ (payload_feed feed new).stalls
-        → KeepsPayload feed first new
-    kept n g f s = keeps feed first (on.given + n) new (gave_more feed first on.given now n new on.gave g) (omega (arith, on.faults, f)) (omega (arith, on.stalls, s))
-
-    pub passes_counted : (b : List ℕ) → limit < length (held_bytes held) + length b
-        → GivesPiece b (payload_feed feed now) (payload_feed feed new) → Gave feed now (length b) new
-        → (more : List ℕ) → Counted feed limit first (held_bytes first_held) (Ready (Err Overflow)) new more
-    passes_counted b over next g more = record {
-      payload = kept (length b) g (omega (arith, next.faults)) next.stalls;
-      pending = tt;
-      grew = tt;
-      io = tt;
-      whole_ended = tt;
-      whole_unfailed = tt;
-      overflow = omega (arith, over, on.grew, all_gave (length b) g);
-    }
-
     pub passes_reads : (b : List ℕ) → limit < length (held_bytes held) + length b
         → GivesPiece b (payload_feed feed now) (payload_feed feed new)
         → (more : List ℕ) → Collects limit (payload_feed feed first).marks (held_bytes first_held) (Ready (Err Overflow)) (payload_feed feed new).marks more
     passes_reads b over next more = (over_value _ _ _ _ _ on.within on.same b over next.takes, tt)
 
-    pub lacks_counted : (n : ℕ) → Gave feed now n new → (payload_feed feed now).faults ≤ (payload_feed feed new).faults → (payload_feed feed now).stalls ≤ (payload_feed feed new).stalls
-        → (more : List ℕ) → Counted feed limit first (held_bytes first_held) NoMemory new more
-    lacks_counted n g f s more = record {
-      payload = kept n g f s;
-      pending = tt;
-      grew = tt;
-      io = tt;
-      whole_ended = tt;
-      whole_unfailed = tt;
-      overflow = tt;
-    }
-
-    pub stalls_counted : Stalls (payload_feed feed now) (payload_feed feed new) → Gave feed now 0 new
-        → Counted feed limit first (held_bytes first_held) Pending new (held_bytes held)
-    stalls_counted next g = record {
-      payload = kept 0 g (omega (arith, next.faults)) next.stalls;
-      pending = rose_since _ _ _ on.stalls next.rose;
-      grew = omega (arith, on.grew, all_gave 0 g);
-      io = tt;
-      whole_ended = tt;
-      whole_unfailed = tt;
-      overflow = tt;
-    }
-
     pub stalls_reads : Stalls (payload_feed feed now) (payload_feed feed new)
         → Collects limit (payload_feed feed first).marks (held_bytes first_held) Pending (payload_feed feed new).marks (held_bytes held)
     stalls_reads next = (tt, stall_allows _ _ _ _ _ on.within on.same next.takes)
 
-    pub fails_counted : Fails (payload_feed feed now) (payload_feed feed new) → Gave feed now 0 new
-        → (more : List ℕ) → Counted feed limit first (held_bytes first_held) (Ready (Err Io)) new more
-    fails_counted next g more = record {
-      payload = kept 0 g next.faults next.stalls;
-      pending = tt;
-      grew = tt;
-      io = subst (λ (n : ℕ). Rose n (payload_feed feed new).faults) on.faults next.rose;
-      whole_ended = tt;
-      whole_unfailed = tt;
-      overflow = tt;
-    }
-
     pub fails_reads : Fails (payload_feed feed now) (payload_feed feed new)
         → (more : List ℕ) → Collects limit (payload_feed feed first).marks (held_bytes first_held) (Ready (Err Io)) (payload_feed feed new).marks more
     fails_reads next more = (fault_value _ _ _ _ _ on.within on.same next.takes, tt)
-
-    pub ends_counted : Ends (payload_feed feed now) (payload_feed feed new) → Gave feed now 0 new
-        → (b : List ℕ) (more : List ℕ) → Counted feed limit first (held_bytes first_held) (Ready (Ok b)) new more
-    ends_counted next g b more = record {
-      payload = kept 0 g (omega (arith, next.faults)) next.stalls;
-      pending = tt;
-      grew = tt;
-      io = tt;
-      whole_ended = next.last;
-      whole_unfailed = next.faults ∙ on.faults;
-      overflow = tt;
-    }
 
     pub ends_reads : Ends (payload_feed feed now) (payload_feed feed new)
         → (b : List ℕ) → b ≡ held_bytes held → (more : List ℕ)

@@ -1,5 +1,5 @@
 -- The number of polls still to come.
-use Rattle.std.proofs.Common.{◌≡◌, ℕ, suc, Bool, true, false, arith}
+use Rattle.std.proofs.Common.{◌≡◌, ℕ, suc, Bool, false, arith}
 use Rattle.web_body.specs.declared.poll.Step.{Step}
 use Rattle.web_body.specs.declared.poll.Step.TheVariants.{Pending, Ready, NoMemory}
 use Rattle.web_body.specs.Polled.{Ends, IfReady, Shifts, GivesSome, GoesOn, ComesNow}

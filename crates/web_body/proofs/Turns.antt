@@ -1,11 +1,10 @@
 -- What one answer of a payload means for a collector.
-use Rattle.std.proofs.Common.{◌≡◌, ℕ, suc, ◌+◌, ◌<◌, ◌≤◌, List, [], ◌∷◌, ◌++◌, length, refl, sym, ◌∙◌, ap, arith, subst, ◌≢◌}
+use Rattle.std.proofs.Common.{◌≡◌, ℕ, suc, ◌+◌, ◌<◌, ◌≤◌, List, [], ◌∷◌, ◌++◌, length, refl, ◌∙◌, ap, arith, subst}
 use Rattle.std.specs.Prelude.{Option, None, Some, Result, Ok, Err, ⊤}
 use Rattle.std.proofs.lemmas.List.{length-append}
 use Rattle.web_request.specs.declared.source.Mark.{Mark}
 use Rattle.web_request.specs.declared.source.Mark.TheVariants.{Piece, Stall, Fault}
-use Rattle.web_request.specs.Body.{whole}
-use Rattle.web_request.specs.Reading.{Over, Faulty, Whole, Content, Reading, reading}
+use Rattle.web_request.specs.Reading.{Over, Faulty, Whole, Content, Reading}
 use Rattle.web_request.specs.Feed.{Takes, TakesLast, NoneLeft}
 use Rattle.web_request.proofs.Reading.{reading_held, goes_on, goes_on-piece, goes_on-over, goes_on-stall, goes_on-fault, goes_on-end}
 use Rattle.web_body.specs.declared.message_body.PayloadError.{PayloadError}

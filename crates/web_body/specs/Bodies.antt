@@ -1,5 +1,5 @@
 -- Bodies in memory.
-use Rattle.std.specs.Prelude.{ℕ, List, Some, length}
+use Rattle.std.specs.Prelude.{List, Some, length}
 use Rattle.web_request.specs.declared.source.Mark.{Mark}
 use Rattle.web_request.specs.Feed.{Feed}
 

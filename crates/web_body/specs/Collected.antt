@@ -8,7 +8,7 @@ use Rattle.web_body.specs.declared.message_body.PayloadError.{PayloadError}
 use Rattle.web_body.specs.declared.message_body.PayloadError.TheVariants.{Overflow, Io}
 use Rattle.web_body.specs.declared.poll.Step.{Step}
 use Rattle.web_body.specs.Payload.{payload_feed, gave, KeepsPayload}
-use Rattle.web_body.specs.Polled.{MatchStep, IfReady, OnPending, Shifts}
+use Rattle.web_body.specs.Polled.{IfReady, OnPending, Shifts}
 use Rattle.web_body.specs.Collecting.{reading_of, Allows}
 
 abbrev pub IfWhole : {T : Type 0} → Result T PayloadError → Type 0 → Type 0

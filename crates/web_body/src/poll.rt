@@ -52,5 +52,4 @@ pub fn left_law<F: Poll>()
         → Shifts step (F.gives old) (F.gives new) → GoesOn (F.gives old) (F.gives new) step n }
     ensures zero { (old new : F) (step : Step F.Output) → Ends step (F.is_finished new) → IfReady step (F.gives old 0)
         → Shifts step (F.gives old) (F.gives new) → ComesNow (F.gives old) step }
-{
-}
+{}

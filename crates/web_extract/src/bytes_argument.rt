@@ -1,6 +1,4 @@
 //! The whole body as an argument.
-ghost use Rattle.std.specs.Prelude.{◌≡◌};
-
 use crate::from_request::FromRequest;
 use bytes::Bytes;
 use std::alloc::Global;
@@ -9,7 +7,11 @@ use web_request::{App, HttpRequest, NoMemory};
 
 /// The whole body, of at most 262,144 bytes. It takes the whole payload.
 impl<A: App> FromRequest<A> for Bytes {
+    ghost use Rattle.std.specs.Prelude.{◌≡◌, IsOk, IfOk, false};
+    ghost use Rattle.web_body.specs.Collecting.{body_gives, collecting};
+    ghost use Rattle.web_body.specs.Payload.{payload_feed};
     ghost use Rattle.web_extract.specs.Collected.{MeansBytes, bytes_some};
+    ghost use Rattle.web_extract.specs.Extracts.{Extracts};
 
     type Error = PayloadError;
 
@@ -23,7 +25,14 @@ impl<A: App> FromRequest<A> for Bytes {
         _alloc: Global,
         req: &HttpRequest<A>,
         payload: &mut Payload<A::Source>,
-    ) -> Result<HttpMessageBody<A::Source>, NoMemory> {
+    ) -> Result<HttpMessageBody<A::Source>, NoMemory>
+        ensures fresh { IfOk result (λ f. f.is_finished ≡ false) }
+        ensures extracts { IfOk result (λ f. Extracts (λ m rest n x. MeansBytes m rest n x) (body_gives A.Source.feed f)
+            (payload_feed A.Source.feed payload.old).marks (payload_feed A.Source.feed payload.new).marks) }
+        ensures ok { IsOk result }
+        ensures value { IfOk result (λ f. f ≡ collecting payload.old 262144) }
+        ensures taken { payload.new ≡ Payload.None }
+    {
         Ok(HttpMessageBody::new(req, payload))
     }
 }

@@ -1,16 +1,15 @@
 -- Reading goes mark by mark.
-use Rattle.std.proofs.Common.{◌≡◌, ℕ, suc, ◌+◌, ◌<◌, ◌≤◌, Bool, true, false, cond, List, [], ◌∷◌, ◌++◌, map, length, refl, sym, ◌∙◌, ap, arith, nat_lt, subst, append_assoc, append-nil}
+use Rattle.std.proofs.Common.{◌≡◌, ℕ, suc, ◌+◌, ◌<◌, ◌≤◌, Bool, true, false, cond, List, [], ◌∷◌, ◌++◌, map, length, refl, sym, ◌∙◌, ap, arith, nat_lt, append_assoc, append-nil}
 use Rattle.std.specs.Prelude.{Option, None, Some}
 use Rattle.std.specs.Option.{option_map}
 use Rattle.std.specs.List.{find}
 use Rattle.std.proofs.lemmas.List.{length-append}
 use Rattle.std.proofs.Math.Nat.{zero-add, add-zero, add_assoc}
-use Rattle.std.proofs.lemmas.Bool.{lt-ltb}
 use Rattle.std.proofs.lemmas.Bool.Decides.{nat_tests}
 use Rattle.web_request.specs.declared.source.Mark.{Mark}
 use Rattle.web_request.specs.declared.source.Mark.TheVariants.{Piece, Stall, Fault}
 use Rattle.web_request.specs.Body.{joined, stalls, whole, ends_in_fault, prefixes}
-use Rattle.web_request.specs.Reading.{first_over, Content, Over, Faulty, Whole, Reading, reading_at, reading}
+use Rattle.web_request.specs.Reading.{first_over, Over, Faulty, Whole, Reading, reading_at, reading}
 
 find_map : {A B : Type 0} (P : B → Bool) (f : A → B) (l : List A) → find P (map f l) ≡ option_map f (find (λ x. P (f x)) l)
 find_map P f [] = refl

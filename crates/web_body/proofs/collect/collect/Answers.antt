@@ -1,4 +1,4 @@
-use Rattle.std.proofs.Common.{◌≡◌, ◌≤◌, ◌<◌, ◌+◌, ◌++◌, length, ℕ, arith}
+use Rattle.std.proofs.Common.{◌≤◌, ◌<◌, ◌+◌, length, arith}
 use Rattle.web_body.specs.Held.{held_bytes}
 use Rattle.web_body.proofs.Loop.{reads_piece, passes_reads, stalls_reads, fails_reads, ends_reads}
 use Rattle.web_body.proofs.collect.collect.Goals as goal
