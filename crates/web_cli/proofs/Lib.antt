@@ -1,1 +1,6 @@
 pub mod AllOf
+pub mod Bodies
+pub mod Cutting
+pub mod IsRead
+pub mod Loop
+pub mod Sizes

@@ -1,11 +1,10 @@
 -- What the reader keeps, and what it does with a line.
-use Rattle.std.specs.Prelude.{◌≡◌, ℕ, Bool, true, false, not, ◌||◌, ◌&&◌, List, [], ◌∷◌, ◌++◌, Option, None, Some, is_some}
+use Rattle.std.specs.Prelude.{◌≡◌, ℕ, Bool, true, false, not, ◌||◌, List, [], ◌∷◌, ◌++◌, Option, None, Some, is_some}
 use Rattle.std.specs.Bool.{OnTrue}
 use Rattle.std.specs.Option.{option_map}
 use Rattle.web_request.specs.declared.source.Mark.{Mark}
 use Rattle.web_cli.specs.Line.{Line}
 use Rattle.web_cli.specs.Asked.{Asked}
-use Rattle.web_cli.specs.Kinds.{has, is_mark}
 use Rattle.web_cli.specs.Faults.{is_unfit}
 use Rattle.web_cli.specs.Exchanges.{marks_said, plan_said}
 use Rattle.web_cli.specs.declared.script.line.Word.{Word}

@@ -1,5 +1,5 @@
 -- What reading a script comes to.
-use Rattle.std.specs.Prelude.{◌≡◌, ◌<◌, ◌^◌, ℕ, true, false, List, length, ⊤}
+use Rattle.std.specs.Prelude.{◌≡◌, ◌<◌, ◌^◌, true, false, List, length, ⊤}
 use Rattle.std.specs.List.{AllPass, flat_map}
 use Rattle.web_request.specs.Body.{is_body, joined}
 use Rattle.web_cli.specs.Line.{Line}

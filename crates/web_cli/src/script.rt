@@ -9,12 +9,11 @@ mod exchange;
 mod line;
 mod reader;
 
-pub use exchange::ScriptedExchange;
-pub use reader::Script;
-
 use bytes::Bytes;
+pub use exchange::ScriptedExchange;
 use memchr::memchr;
 use reader::Reader;
+pub use reader::Script;
 use std::alloc::Global;
 use web_texts::NoMemory;
 

@@ -180,7 +180,12 @@ impl Reader {
     }
 
     /// Reads the line of the first `size` bytes, and says whether it is good. What a faulty line leaves is not said.
-    pub fn read_line(&mut self, alloc: Global, script: &Bytes, size: usize) -> Result<bool, NoMemory>
+    pub fn read_line(
+        &mut self,
+        alloc: Global,
+        script: &Bytes,
+        size: usize,
+    ) -> Result<bool, NoMemory>
         requires { size ≤ length script.now }
         ensures { IfOk result (λ good. Reads self.old self.new (line_of (strip_carriage_return (take size script.now))) good) }
     {

@@ -1,5 +1,5 @@
 use Rattle.std.proofs.Common.{sym}
-use Rattle.web_cli.proofs.AllOf.{next_entry, no_entry, last_entry, no_last, added_all, refused_all, parts_said, with_front}
+use Rattle.web_cli.proofs.AllOf.{next_entry, no_entry, last_entry, no_last, added_all, refused_all}
 use Rattle.web_cli.proofs.script.entries.read_entries.Goals as goal
 
 pub returns-in_default : goal.returns-in_default
