@@ -33,7 +33,7 @@ total exchanges = length (flat_map (λ e. joined e.marks) exchanges)
 
 length-joined : (m n : List Mark) → length (joined (m ++ n)) ≡ length (joined m) + length (joined n)
 length-joined [] n = omega arith
-length-joined (mark.Piece b ∷ m) n = rw (length-append, length-append) (omega (arith, length-joined m n))
+length-joined (mark.Piece b ∷ m) n = rw (length-append b (joined (m ++ n)), length-append b (joined m)) (omega (arith, length-joined m n))
 length-joined (mark.Stall ∷ m) n = length-joined m n
 length-joined (mark.Fault ∷ m) n = length-joined m n
 

@@ -1,9 +1,9 @@
 //! The entries of a `plan` line.
-ghost use Rattle.std.specs.Prelude.{◌≡◌, ◌++◌, IfOk, MatchOption, false, true};
+ghost use Rattle.std.specs.Prelude.{◌≡◌, IfOk};
 ghost use Rattle.web_cli.specs.Entries.{entries_said, IsAdded};
 
 use std::alloc::Global;
-use web_texts::{NoMemory, number_of, split_first};
+use web_texts::NoMemory;
 
 /// The greatest number that an entry of the plan can have.
 pub const MOST_ENTRY: u64 = 4_294_967_295;
@@ -15,23 +15,26 @@ pub fn read_entries(plan: &mut Vec<usize>, text: &[u8]) -> Result<bool, NoMemory
     if text.is_empty() {
         return Ok(true);
     }
-    let mut rest = text;
-    'entries: loop {
-        match split_first(rest, b' ') {
-            Some((part, behind)) => {
-                let Some(entry) = number_of(part, MOST_ENTRY) else {
-                    return Ok(false);
-                };
-                plan.push(entry as usize)?;
-                rest = behind;
+    let mut entry = 0u64;
+    let mut has_digits = false;
+    'bytes: for byte in text {
+        if byte.is_ascii_digit() {
+            entry = entry * 10 + u64::from(*byte - b'0');
+            if entry > MOST_ENTRY {
+                return Ok(false);
             }
-            None => {
-                let Some(entry) = number_of(rest, MOST_ENTRY) else {
-                    return Ok(false);
-                };
-                plan.push(entry as usize)?;
-                return Ok(true);
+            has_digits = true;
+        } else {
+            if *byte != b' ' || !has_digits {
+                return Ok(false);
             }
+            plan.push(entry as usize)?;
+            entry = 0;
+            has_digits = false;
         }
     }
+    if has_digits {
+        plan.push(entry as usize)?;
+    }
+    Ok(has_digits)
 }

@@ -1,9 +1,9 @@
-use Rattle.std.proofs.Common.{◌≡◌, length}
-use Rattle.web_cli.proofs.AllOf.{with_front, parts_said}
+use Rattle.std.proofs.Common.{◌≡◌, ◌≤◌, drop, false}
+use Rattle.web_cli.proofs.AllOf.{with_front, entries_on}
 use Rattle.web_cli.proofs.script.entries.read_entries.Given as goal
 
-abbrev pub invariant-entries : goal.invariant-entries
-invariant-entries l = with_front l.plan.items (parts_said l.rest) ≡ with_front l.initial.plan.items (parts_said l.text)
-
-abbrev pub decreases-entries : goal.decreases-entries
-decreases-entries l = length l.rest
+abbrev pub invariant-bytes : goal.invariant-bytes
+invariant-bytes l = record {
+  said : with_front l.plan.items (entries_on l.has_digits l.entry (drop l.byte-index l.text)) ≡ with_front l.initial.plan.items (entries_on false 0 l.text);
+  small : l.entry ≤ 4294967295;
+}
