@@ -1,5 +1,5 @@
 -- The lines of a script, whether it is read whole so far, and what it says.
-use Rattle.std.specs.Prelude.{ℕ, ◌==◌, Bool, true, not, ◌&&◌, List, [], ◌∷◌, ◌++◌, map}
+use Rattle.std.specs.Prelude.{◌≡◌, ℕ, ◌==◌, Bool, true, false, not, ◌&&◌, List, [], ◌∷◌, ◌++◌, map}
 use Rattle.std.specs.List.{slice_split}
 use Rattle.std.specs.Str.Lines.{strip_carriage_return}
 use Rattle.web_cli.specs.Asked.{Asked}
@@ -22,6 +22,10 @@ none_faulty before (line ∷ left) = not (is_faulty before line) && none_faulty 
 -- a script that is built so far: no line is faulty
 abbrev pub is_first_script : List Line → Bool
 is_first_script lines = none_faulty [] lines
+
+-- no line is faulty, by the lines before it
+abbrev pub NoneFaulty : List Line → Type 0
+NoneFaulty lines = (before : List Line) (line : Line) (after : List Line) → lines ≡ before ++ line ∷ after → is_faulty before line ≡ false
 
 -- what a script says
 pub record Said : Type 0 where

@@ -3,4 +3,4 @@
 
 mod script;
 
-pub use script::{Script, ScriptedExchange, Verdict, read_script};
+pub use script::{Script, ScriptedExchange, Verdict, first_script_law, read_script};

@@ -6,11 +6,13 @@ ghost use Rattle.web_cli.specs.Verdict.{IsVerdict, AreBodies, AreSmall};
 
 mod entries;
 mod exchange;
+mod law;
 mod line;
 mod reader;
 
 use bytes::Bytes;
 pub use exchange::ScriptedExchange;
+pub use law::first_script_law;
 use memchr::memchr;
 use reader::Reader;
 pub use reader::Script;
