@@ -1,0 +1,216 @@
+-- What the reader keeps while it goes line by line.
+use Rattle.std.proofs.Common.{◌≡◌, ℕ, Bool, true, false, not, ◌&&◌, ◌||◌, List, [], ◌∷◌, ◌++◌, Option, Some, None, cond, refl, ap, sym, ◌∙◌, append_assoc}
+use Rattle.std.specs.Prelude.{is_some}
+use Rattle.std.specs.Option.{option_map}
+use Rattle.std.specs.List.{before_first}
+use Rattle.std.proofs.lemmas.List.{append-nil}
+use Rattle.std.proofs.lemmas.Grind.{flat_map-append}
+use Rattle.std.proofs.lemmas.List.Folds.{list_any-append}
+use Rattle.web_cli.specs.Line.{Line}
+use Rattle.web_cli.specs.Asked.{Asked}
+use Rattle.web_cli.specs.Kinds.{has, is_mark}
+use Rattle.web_cli.specs.Faults.{came, block, is_faulty, is_unfit}
+use Rattle.web_cli.specs.Exchanges.{marks_said, plan_said, plan, exchange_of, exchanges}
+use Rattle.web_cli.specs.Kept.{Kept, refuses, added, close, with_marks}
+use Rattle.web_cli.specs.declared.script.line.Word.{Word}
+use Rattle.web_cli.specs.declared.script.line.Word.TheVariants as word
+use Rattle.web_texts.proofs.Blocks.{or_false, after_last_at, before_first_at, before_first_none}
+
+abbrev pub line : Word → List ℕ → Line
+line w text = record { word = w; argument = text }
+
+-- the open exchange began at `first`, and `rest` came since
+pub record IsOpen (first : Line) (front rest before : List Line) (whole : List Asked) (open_one : Asked) (has_fault : Bool) : Type 0 where
+  pub before_is : before ≡ front ++ first ∷ rest
+  pub begins : has word.Exchange first ≡ true
+  pub none_later : came word.Exchange rest ≡ false
+  pub whole_is : whole ≡ exchanges front
+  pub open_is : open_one ≡ exchange_of rest
+  pub fault_is : has_fault ≡ came word.Fault rest
+
+abbrev pub Keeps : List Line → List Asked → Option Asked → Bool → Type 0
+Keeps before whole None has_fault = (came word.Exchange before ≡ false) × (whole ≡ [])
+Keeps before whole (Some open_one) has_fault = (first : Line) × (front : List Line) × (rest : List Line) × IsOpen first front rest before whole open_one has_fault
+
+-- this is what reading these lines leaves
+pub record IsRead (before : List Line) (s : Kept) : Type 0 where
+  pub plan : s.plan ≡ plan before
+  pub has_plan : s.has_plan ≡ came word.Plan before
+  pub exchange : Keeps before s.whole s.open_one s.has_fault
+
+-- one more line, of this word or of another
+
+or-false : (b : Bool) → (b || false) ≡ b
+or-false true = refl
+or-false false = refl
+
+or-true : (b : Bool) → (b || true) ≡ true
+or-true true = refl
+or-true false = refl
+
+came_other : (v : Word) (before : List Line) (x : Line) → has v x ≡ false → came v (before ++ x ∷ []) ≡ came v before
+came_other v before x other = list_any-append (has v) before (x ∷ []) ∙ rw other (or-false (came v before))
+
+came_this : (v : Word) (before : List Line) (x : Line) → has v x ≡ true → came v (before ++ x ∷ []) ≡ true
+came_this v before x this = list_any-append (has v) before (x ∷ []) ∙ rw this (or-true (came v before))
+
+plan_more : (before : List Line) (x : Line) → plan (before ++ x ∷ []) ≡ plan before ++ plan_said x.word x.argument
+plan_more before x =
+    flat_map-append (λ (l : Line). plan_said l.word l.argument) before (x ∷ []) ∙ ap (λ l. plan before ++ l) (append-nil (plan_said x.word x.argument))
+
+marks_more : (rest : List Line) (x : Line) → exchange_of (rest ++ x ∷ []) ≡ with_marks (marks_said x.word x.argument) (exchange_of rest)
+marks_more rest x =
+    rw (flat_map-append (λ (l : Line). marks_said l.word l.argument) rest (x ∷ []), append-nil (marks_said x.word x.argument)) refl
+
+-- the exchanges of all lines, where the last begins at `first`
+
+exchanges_none : (lines : List Line) → came word.Exchange lines ≡ false → exchanges lines ≡ []
+exchanges_none [] none = refl
+exchanges_none (x ∷ lines) none =
+    let parts = or_false (has word.Exchange x) (came word.Exchange lines) none in
+    rw parts.0 (exchanges_none lines parts.1)
+
+exchanges_at : (front : List Line) (first : Line) (rest : List Line) → has word.Exchange first ≡ true → came word.Exchange rest ≡ false
+    → exchanges (front ++ first ∷ rest) ≡ exchanges front ++ exchange_of rest ∷ []
+exchanges_at [] first rest begins none =
+    rw (begins, before_first_none (has word.Exchange) rest none, exchanges_none rest none) refl
+exchanges_at (x ∷ front) first rest begins none =
+    rw (before_first_at (has word.Exchange) front first rest begins, exchanges_at front first rest begins none)
+    (elim (has word.Exchange x) as (λ b. cond b (exchange_of (before_first (has word.Exchange) front) ∷ (exchanges front ++ exchange_of rest ∷ [])) (exchanges front ++ exchange_of rest ∷ [])
+    ≡ cond b (exchange_of (before_first (has word.Exchange) front) ∷ exchanges front) (exchanges front) ++ exchange_of rest ∷ [])
+    [ true ↦ refl | false ↦ refl ])
+
+exchanges_kept : (before : List Line) (whole : List Asked) (o : Option Asked) (f : Bool) → Keeps before whole o f → exchanges before ≡ close whole o
+exchanges_kept before whole None f k = exchanges_none before k.0 ∙ sym k.1
+exchanges_kept before whole (Some e) f (first, front, rest, at) =
+    rw (at.before_is, at.whole_is, at.open_is) (exchanges_at front first rest at.begins at.none_later)
+
+-- When all lines are read, the exchanges are those that are whole, and the open one.
+pub exchanges_read : (lines : List Line) (s : Kept) → IsRead lines s → exchanges lines ≡ close s.whole s.open_one
+exchanges_read lines s read = exchanges_kept lines s.whole s.open_one s.has_fault read.exchange
+
+-- a line that begins no exchange
+extend : (before : List Line) (whole : List Asked) (o : Option Asked) (f g : Bool) (x : Line) → has word.Exchange x ≡ false
+    → ((rest : List Line) → f ≡ came word.Fault rest → g ≡ came word.Fault (rest ++ x ∷ []))
+    → Keeps before whole o f → Keeps (before ++ x ∷ []) whole (option_map (with_marks (marks_said x.word x.argument)) o) g
+extend before whole None f g x other faults k = (came_other word.Exchange before x other ∙ k.0, k.1)
+extend before whole (Some e) f g x other faults (first, front, rest, at) = (
+  first,
+  front,
+  rest ++ x ∷ [],
+  record {
+    before_is = ap (λ l. l ++ x ∷ []) at.before_is ∙ append_assoc front (first ∷ rest) (x ∷ []);
+    begins = at.begins;
+    none_later = came_other word.Exchange rest x other ∙ at.none_later;
+    whole_is = at.whole_is;
+    open_is = ap (with_marks (marks_said x.word x.argument)) at.open_is ∙ sym (marks_more rest x);
+    fault_is = faults rest at.fault_is;
+  },
+)
+
+no_marks : (before : List Line) (whole : List Asked) (o : Option Asked) (f : Bool) → Keeps before whole (option_map (with_marks []) o) f → Keeps before whole o f
+no_marks before whole None f k = k
+no_marks before whole (Some e) f k = rw append-nil at k
+
+-- a line that leaves the fault's flag as it was
+quiet : (x : Line) (f : Bool) → has word.Fault x ≡ false → (rest : List Line) → f ≡ came word.Fault rest → f ≡ came word.Fault (rest ++ x ∷ [])
+quiet x f other rest is = is ∙ sym (came_other word.Fault rest x other)
+
+-- a line that leaves the plan as it was
+unplanned : (before : List Line) (s : Kept) (v : Word) (text : List ℕ) (whole : List Asked) (o : Option Asked) (g : Bool)
+    → has word.Plan (line v text) ≡ false → plan_said v text ≡ [] → IsRead before s → Keeps (before ++ line v text ∷ []) whole o g
+    → IsRead (before ++ line v text ∷ []) (record s { whole = whole; open_one = o; has_fault = g })
+unplanned before s v text whole o g other none read keeps = record {
+  plan = read.plan ∙ sym (plan_more before (line v text) ∙ rw none (append-nil (plan before)));
+  has_plan = read.has_plan ∙ sym (came_other word.Plan before (line v text) other);
+  exchange = keeps;
+}
+
+-- one more line
+pub read_more : (before : List Line) (s : Kept) (v : Word) (text : List ℕ) → IsRead before s → IsRead (before ++ line v text ∷ []) (added s v text)
+read_more before s word.Exchange text read =
+    unplanned before s word.Exchange text _ _ false refl refl read (
+      line word.Exchange text,
+      before,
+      [],
+      record {
+        before_is = refl;
+        begins = refl;
+        none_later = refl;
+        whole_is = sym (exchanges_read before s read);
+        open_is = refl;
+        fault_is = refl;
+      },
+    )
+read_more before s word.Text text read =
+    unplanned before s word.Text text s.whole _ s.has_fault refl refl read
+    (extend before s.whole s.open_one s.has_fault s.has_fault (line word.Text text) refl (quiet (line word.Text text) s.has_fault refl) read.exchange)
+read_more before s word.Piece text read =
+    unplanned before s word.Piece text s.whole _ s.has_fault refl refl read
+    (extend before s.whole s.open_one s.has_fault s.has_fault (line word.Piece text) refl (quiet (line word.Piece text) s.has_fault refl) read.exchange)
+read_more before s word.Stall text read =
+    unplanned before s word.Stall text s.whole _ s.has_fault refl refl read
+    (extend before s.whole s.open_one s.has_fault s.has_fault (line word.Stall text) refl (quiet (line word.Stall text) s.has_fault refl) read.exchange)
+read_more before s word.Fault text read =
+    unplanned before s word.Fault text s.whole _ true refl refl read
+    (extend before s.whole s.open_one s.has_fault true (line word.Fault text) refl
+    (λ rest is. sym (came_this word.Fault rest (line word.Fault text) refl)) read.exchange)
+read_more before s word.Plan text read = record {
+  plan = ap (λ l. l ++ plan_said word.Plan text) read.plan ∙ sym (plan_more before (line word.Plan text));
+  has_plan = sym (came_this word.Plan before (line word.Plan text) refl);
+  exchange = no_marks (before ++ line word.Plan text ∷ []) s.whole s.open_one s.has_fault
+      (extend before s.whole s.open_one s.has_fault s.has_fault (line word.Plan text) refl (quiet (line word.Plan text) s.has_fault refl) read.exchange);
+}
+read_more before s word.Skipped text read =
+    unplanned before s word.Skipped text s.whole s.open_one s.has_fault refl refl read
+    (no_marks (before ++ line word.Skipped text ∷ []) s.whole s.open_one s.has_fault
+    (extend before s.whole s.open_one s.has_fault s.has_fault (line word.Skipped text) refl (quiet (line word.Skipped text) s.has_fault refl) read.exchange))
+read_more before s word.Unknown text read =
+    unplanned before s word.Unknown text s.whole s.open_one s.has_fault refl refl read
+    (no_marks (before ++ line word.Unknown text ∷ []) s.whole s.open_one s.has_fault
+    (extend before s.whole s.open_one s.has_fault s.has_fault (line word.Unknown text) refl (quiet (line word.Unknown text) s.has_fault refl) read.exchange))
+
+-- The test of a line by what is kept is the test by the lines before it.
+
+-- the tests of a line: whether a plan came, whether an exchange is begun, and whether it has a fault
+tests : Bool → Bool → Bool → Line → Bool
+tests planned begun failed l =
+    not (has word.Skipped l) && (has word.Unknown l || ((planned && not (has word.Plan l)) || (is_mark l && (not begun || failed))) || is_unfit l.word l.argument)
+
+tests_kept : (before : List Line) (whole : List Asked) (o : Option Asked) (p f : Bool) (l : Line) → Keeps before whole o f
+    → tests p (is_some o) f l ≡ tests p (came word.Exchange before) (came word.Fault (block before)) l
+unfolding tests
+tests_kept before whole None p f l k = rw k.0 refl
+tests_kept before whole (Some e) p f l (first, front, rest, at) =
+    let last_block : block before ≡ rest = rw at.before_is (after_last_at (has word.Exchange) front first rest at.begins at.none_later) in
+    let begun : came word.Exchange before ≡ true = rw (at.before_is, list_any-append (has word.Exchange) front (first ∷ rest), at.begins) (or-true (came word.Exchange front)) in
+    rw (last_block, begun, at.fault_is) refl
+
+tests_are : (p b f : Bool) (s : Kept) (v : Word) (text : List ℕ) → s.has_plan ≡ p → is_some s.open_one ≡ b → s.has_fault ≡ f → refuses s (line v text) ≡ tests p b f (line v text)
+unfolding tests
+tests_are p b f s word.Skipped text a c d = refl
+tests_are p b f s word.Unknown text a c d = refl
+tests_are true b f s word.Plan text a c d = refl
+tests_are false b f s word.Plan text a c d = refl
+tests_are true b f s word.Exchange text a c d = rw a refl
+tests_are false b f s word.Exchange text a c d = rw a refl
+tests_are true b f s word.Text text a c d = rw a refl
+tests_are false true f s word.Text text a c d = rw (a, c, d) refl
+tests_are false false f s word.Text text a c d = rw (a, c) refl
+tests_are true b f s word.Piece text a c d = rw a refl
+tests_are false true f s word.Piece text a c d = rw (a, c, d) refl
+tests_are false false f s word.Piece text a c d = rw (a, c) refl
+tests_are true b f s word.Stall text a c d = rw a refl
+tests_are false true f s word.Stall text a c d = rw (a, c, d) refl
+tests_are false false f s word.Stall text a c d = rw (a, c) refl
+tests_are true b f s word.Fault text a c d = rw a refl
+tests_are false true f s word.Fault text a c d = rw (a, c, d) refl
+tests_are false false f s word.Fault text a c d = rw (a, c) refl
+
+-- The reader refuses a line exactly where it is faulty.
+pub refuses_is : (before : List Line) (s : Kept) (v : Word) (text : List ℕ) → IsRead before s → refuses s (line v text) ≡ is_faulty before (line v text)
+unfolding tests
+refuses_is before s v text read =
+    tests_are s.has_plan (is_some s.open_one) s.has_fault s v text refl refl refl
+    ∙ tests_kept before s.whole s.open_one s.has_plan s.has_fault (line v text) read.exchange
+    ∙ ap (λ p. tests p (came word.Exchange before) (came word.Fault (block before)) (line v text)) read.has_plan

@@ -1,0 +1,117 @@
+-- The pieces of a script are together no longer than the script.
+use Rattle.std.proofs.Common.{◌≡◌, ◌≤◌, ℕ, ◌+◌, ◌-◌, ◌==◌, ◌||◌, Bool, true, false, List, [], ◌∷◌, ◌++◌, map, length, take, drop, cond, refl, ap, ◌∙◌, arith, length-append, Result, Ok, Err}
+use Rattle.std.specs.List.{flat_map, before_first, slice_split, onto_first, slice_index, position_or_len}
+use Rattle.std.specs.Result.{result_unwrap_or}
+use Rattle.std.specs.Str.Lines.{strip_carriage_return}
+use Rattle.std.proofs.lemmas.List.{length-take, length-drop}
+use Rattle.hex.specs.Hex.{decode_of}
+use Rattle.hex.specs.declared.error.FromHexError.{FromHexError}
+use Rattle.hex.proofs.HexLemmas.{decode_of-ok}
+use Rattle.web_request.specs.declared.source.Mark.{Mark}
+use Rattle.web_request.specs.declared.source.Mark.TheVariants as mark
+use Rattle.web_request.specs.Body.{joined, whole}
+use Rattle.web_cli.specs.Line.{Line, line_of, is_space, word_of}
+use Rattle.web_cli.specs.Asked.{Asked}
+use Rattle.web_cli.specs.Kinds.{has}
+use Rattle.web_cli.specs.Exchanges.{marks_said, exchange_of, exchanges}
+use Rattle.web_cli.specs.Script.{is_newline, script_lines}
+use Rattle.web_cli.specs.declared.script.line.Word.{Word}
+use Rattle.web_cli.specs.declared.script.line.Word.TheVariants as word
+use Rattle.web_texts.proofs.Blocks.{before_first-cons}
+
+-- the bytes that a line and that lines give
+
+abbrev size_of : Line → ℕ
+size_of line = length (joined (marks_said line.word line.argument))
+
+abbrev size : List Line → ℕ
+size [] = 0
+size (x ∷ lines) = size_of x + size lines
+
+abbrev total : List Asked → ℕ
+total exchanges = length (flat_map (λ e. joined e.marks) exchanges)
+
+length-joined : (m n : List Mark) → length (joined (m ++ n)) ≡ length (joined m) + length (joined n)
+length-joined [] n = omega arith
+length-joined (mark.Piece b ∷ m) n = rw (length-append b (joined (m ++ n)), length-append b (joined m)) (omega (arith, length-joined m n))
+length-joined (mark.Stall ∷ m) n = length-joined m n
+length-joined (mark.Fault ∷ m) n = length-joined m n
+
+size_is : (lines : List Line) → length (joined (exchange_of lines).marks) ≡ size lines
+size_is [] = refl
+size_is (x ∷ lines) = length-joined (marks_said x.word x.argument) (exchange_of lines).marks ∙ ap (λ n. size_of x + n) (size_is lines)
+
+step : (b : Bool) (x : Line) (rest : List Line) → total (exchanges rest) + size (before_first (has word.Exchange) rest) ≤ size rest
+    → total (cond b (exchange_of (before_first (has word.Exchange) rest) ∷ exchanges rest) (exchanges rest)) + size (cond b [] (x ∷ before_first (has word.Exchange) rest)) ≤ size_of x + size rest
+step true x rest e =
+    let first = size_is (before_first (has word.Exchange) rest) in
+    rw length-append (omega (arith, e, first))
+step false x rest e = omega (arith, e)
+
+-- the bytes of the exchanges, and of the lines before the first of them
+total_le : (lines : List Line) → total (exchanges lines) + size (before_first (has word.Exchange) lines) ≤ size lines
+total_le [] = omega arith
+total_le (x ∷ rest) = rw (before_first-cons (has word.Exchange) x rest) (step (has word.Exchange x) x rest (total_le rest))
+
+-- a line gives no more bytes than it has
+
+joined_whole : (text : List ℕ) → length (joined (whole text)) ≡ length text
+joined_whole [] = refl
+joined_whole (x ∷ text) = rw length-append (omega arith)
+
+decoded : (r : Result (List ℕ) FromHexError) (text : List ℕ) → decode_of text ≡ r → length (result_unwrap_or r []) ≤ length text
+decoded (Ok bytes) text e = omega (arith, (decode_of-ok text bytes e).2)
+decoded (Err e) text is = omega arith
+
+said_le : (v : Word) (text : List ℕ) → length (joined (marks_said v text)) ≤ length text
+said_le word.Text text = omega (arith, joined_whole text)
+said_le word.Piece text = omega (arith, joined_whole (result_unwrap_or (decode_of text) []), decoded (decode_of text) text refl)
+said_le word.Stall text = omega arith
+said_le word.Fault text = omega arith
+said_le word.Plan text = omega arith
+said_le word.Exchange text = omega arith
+said_le word.Skipped text = omega arith
+said_le word.Unknown text = omega arith
+
+argument_le : (b : Bool) (v : Word) (n : ℕ) (text : List ℕ)
+    → size_of (cond b (record { word = word.Skipped; argument = [] }) (record { word = v; argument = drop n text })) ≤ length text
+argument_le true v n text = omega arith
+argument_le false v n text = omega (arith, said_le v (drop n text), length-drop n text)
+
+line_of_le : (text : List ℕ) → size_of (line_of text) ≤ length text
+line_of_le text = argument_le (length text == 0 || slice_index text 0 == 35) (word_of (before_first is_space text)) (position_or_len is_space text + 1) text
+
+stripped_le : (b : Bool) (n : ℕ) (text : List ℕ) → length (cond b (take n text) text) ≤ length text
+stripped_le true n text = omega (arith, length-take n text)
+stripped_le false n text = omega arith
+
+line_le : (text : List ℕ) → size_of (line_of (strip_carriage_return text)) ≤ length text
+line_le text =
+    let stripped : length (strip_carriage_return text) ≤ length text = stripped_le (slice_index text (length text - 1) == 13) (length text - 1) text in
+    let line : size_of (line_of (strip_carriage_return text)) ≤ length (strip_carriage_return text) = line_of_le (strip_carriage_return text) in
+    omega (arith, stripped, line)
+
+-- all lines together have no more bytes than the script
+
+lengths : List (List ℕ) → ℕ
+lengths [] = 0
+lengths (part ∷ parts) = length part + lengths parts
+
+lines_le : (parts : List (List ℕ)) → size (map (λ text. line_of (strip_carriage_return text)) parts) ≤ lengths parts
+unfolding lengths
+lines_le [] = omega arith
+lines_le (part ∷ parts) = omega (arith, line_le part, lines_le parts)
+
+onto_le : (b : Bool) (x : ℕ) (parts : List (List ℕ)) → lengths (cond b ([] ∷ parts) (onto_first x parts)) ≤ lengths parts + 1
+unfolding lengths
+onto_le true x parts = omega arith
+onto_le false x [] = omega arith
+onto_le false x (part ∷ parts) = omega arith
+
+parts_le : (text : List ℕ) → lengths (slice_split is_newline text) ≤ length text
+unfolding lengths
+parts_le [] = omega arith
+parts_le (x ∷ text) = omega (arith, onto_le (is_newline x) x (slice_split is_newline text), parts_le text)
+
+pub sizes : (bytes : List ℕ) → total (exchanges (script_lines bytes)) ≤ length bytes
+sizes bytes = omega (arith, total_le (script_lines bytes), lines_le (slice_split is_newline bytes), parts_le bytes)

@@ -1,0 +1,9 @@
+pub mod Asked
+pub mod Line
+pub mod Kinds
+pub mod Entries
+pub mod Exchanges
+pub mod Faults
+pub mod Kept
+pub mod Script
+pub mod Verdict
