@@ -1,0 +1,20 @@
+//! The command of Rothveng: a script in, the text of its replies out.
+#![tactic(auto)]
+
+mod input;
+mod memory_input;
+mod memory_output;
+mod output;
+mod reading;
+mod standard;
+mod status;
+mod writing;
+
+pub use input::{Input, ReadAnswer};
+pub use memory_input::{MemInput, PlainInput};
+pub use memory_output::{MemOutput, PlainOutput};
+pub use output::{Output, WriteAnswer};
+pub use reading::{ReadWhole, SCRIPT_LIMIT, read_whole};
+pub use standard::{StdInput, StdOutput};
+pub use status::Status;
+pub use writing::write_whole;
