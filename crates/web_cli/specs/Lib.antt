@@ -4,4 +4,7 @@ pub mod Ends
 pub mod Status
 pub mod Reading
 pub mod Writing
+pub mod Words
+pub mod Due
+pub mod Outcome
 pub use Rattle.web_texts.specs.Counts

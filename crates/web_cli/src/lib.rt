@@ -1,13 +1,16 @@
 //! The command of Rothveng: a script in, the text of its replies out.
 #![tactic(auto)]
 
+mod due;
 mod input;
 mod memory_input;
 mod memory_output;
 mod output;
 mod reading;
+mod serving;
 mod standard;
 mod status;
+mod words;
 mod writing;
 
 pub use input::{Input, ReadAnswer};
@@ -15,6 +18,8 @@ pub use memory_input::{MemInput, PlainInput};
 pub use memory_output::{MemOutput, PlainOutput};
 pub use output::{Output, WriteAnswer};
 pub use reading::{ReadWhole, SCRIPT_LIMIT, read_whole};
+pub use serving::run;
 pub use standard::{StdInput, StdOutput};
 pub use status::Status;
+pub use words::is_serve;
 pub use writing::write_whole;
