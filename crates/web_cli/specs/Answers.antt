@@ -51,3 +51,8 @@ pub record FailsToWrite (old new : OutputState) : Type 0 where
 abbrev pub Writes : WriteAnswer → List ℕ → OutputState → OutputState → Type 0
 Writes (write.Wrote n) bytes old new = Takes n bytes old new
 Writes write.Failed bytes old new = FailsToWrite old new
+
+-- a fact on how many bytes were taken, where some were
+abbrev pub IfWrote : WriteAnswer → (ℕ → Type 0) → Type 0
+IfWrote (write.Wrote n) holds = holds n
+IfWrote write.Failed holds = Unit {0}

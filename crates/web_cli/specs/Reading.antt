@@ -1,5 +1,5 @@
 -- What reading to the end comes to.
-use Rattle.std.specs.Prelude.{◌≡◌, ◌<◌, ◌≤◌, ℕ, true, List, [], length, Result, Ok, Err, IfSome}
+use Rattle.std.specs.Prelude.{◌≡◌, ◌<◌, ◌≤◌, ◌+◌, ℕ, true, List, [], length, Result, Ok, Err, IfSome}
 use Rattle.web_texts.specs.Counts.{Rose}
 use Rattle.web_texts.specs.declared.memory.NoMemory.{NoMemory}
 use Rattle.web_cli.specs.Outside.{InputState, raised, RoseBeyond, Came}
@@ -15,6 +15,7 @@ pub record IsAll (came : List ℕ) (old new : InputState) : Type 0 where
   pub bytes : Came came old new
   pub given : new.given ≡ raised old.given (length came)
   pub fits : length came ≤ limit
+  pub within : new.given ≤ old.given + limit
   pub faults : new.faults ≡ old.faults
   pub ended : new.ended ≡ true
   pub nothing : IfSome new.left (λ rest. rest ≡ [])
@@ -32,6 +33,7 @@ pub record IsFault (came : List ℕ) (old new : InputState) : Type 0 where
   pub bytes : Came came old new
   pub given : new.given ≡ raised old.given (length came)
   pub fits : length came ≤ limit
+  pub within : new.given ≤ old.given + limit
   pub rose : Rose old.faults new.faults
 
 abbrev pub ReadsWhole : Result ReadWhole NoMemory → InputState → InputState → Type 0

@@ -2,6 +2,7 @@
 #![tactic(auto)]
 
 mod due;
+mod failing;
 mod input;
 mod memory_input;
 mod memory_output;

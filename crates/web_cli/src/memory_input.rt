@@ -1,8 +1,10 @@
 //! Inputs in memory.
-ghost use Rattle.std.specs.Prelude.{◌≡◌, ◌<◌, Some, false};
-ghost use Rattle.web_cli.specs.Ends.{MemoryInput};
+ghost use Rattle.std.specs.Prelude.{◌≡◌, ◌<◌, Some, IfSome, false, length};
+ghost use Rattle.web_cli.specs.Answers.{Reads};
+ghost use Rattle.web_cli.specs.Ends.{MemoryInput, next_call, given_of, memory_answer};
 ghost use Rattle.web_cli.specs.Outside.{InputState};
 
+use crate::failing::is_to_fail;
 use crate::input::{Input, ReadAnswer};
 use std::marker::Model;
 
@@ -38,7 +40,11 @@ impl<'a> PlainInput<'a> {
 impl<'a> Input for PlainInput<'a> {
     ghost state = { λ s. s };
 
-    fn read(&mut self, buf: &mut [u8]) -> ReadAnswer {
+    fn read(&mut self, buf: &mut [u8]) -> ReadAnswer
+        requires { 0 < length buf.old }
+        ensures reads { Reads result buf.new self.old self.new }
+        ensures gives { IfSome self.old.left (λ left. result ≡ given_of (length buf.old) (length left)) }
+    {
         let count = self.rest.len().min(buf.len());
         if count == 0 {
             self.ended = true;
@@ -107,9 +113,15 @@ impl<'a> MemInput<'a> {
 impl<'a> Input for MemInput<'a> {
     ghost state = { λ s. s.state };
 
-    fn read(&mut self, buf: &mut [u8]) -> ReadAnswer {
+    fn read(&mut self, buf: &mut [u8]) -> ReadAnswer
+        requires { 0 < length buf.old }
+        ensures reads { Reads result buf.new self.old.state self.new.state }
+        ensures gives { IfSome self.old.state.left (λ left. result ≡ memory_answer self.old left (length buf.old)) }
+        ensures kept { (self.new.fails_at ≡ self.old.fails_at) × (self.new.most ≡ self.old.most) }
+        ensures calls { self.new.calls ≡ next_call self.old.calls }
+    {
         self.calls = self.calls.saturating_add(1);
-        if self.fails_at.contains(&self.calls) {
+        if is_to_fail(self.fails_at, self.calls) {
             self.faults = self.faults.saturating_add(1);
             self.ended = false;
             return ReadAnswer::Failed;

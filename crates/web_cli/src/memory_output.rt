@@ -1,8 +1,10 @@
 //! Outputs in memory.
-ghost use Rattle.std.specs.Prelude.{◌≡◌, ◌<◌, [], Some};
-ghost use Rattle.web_cli.specs.Ends.{MemoryOutput};
+ghost use Rattle.std.specs.Prelude.{◌≡◌, ◌<◌, [], Some, IsTrue, length, min};
+ghost use Rattle.web_cli.specs.Answers.{IfWrote, Writes};
+ghost use Rattle.web_cli.specs.Ends.{MemoryOutput, next_call, is_to_fail};
 ghost use Rattle.web_cli.specs.Outside.{OutputState};
 
+use crate::failing::is_to_fail;
 use crate::output::{Output, WriteAnswer};
 use std::alloc::Global;
 use std::marker::Model;
@@ -44,7 +46,11 @@ impl PlainOutput {
 impl Output for PlainOutput {
     ghost state = { λ s. s };
 
-    fn write(&mut self, bytes: &[u8]) -> WriteAnswer {
+    fn write(&mut self, bytes: &[u8]) -> WriteAnswer
+        requires { 0 < length bytes.now }
+        ensures writes { Writes result bytes.now self.old self.new }
+        ensures most { IfWrote result (λ count. count ≡ length bytes.now) }
+    {
         match self.bytes.extend_from_slice(bytes) {
             Ok(()) => WriteAnswer::Wrote(bytes.len()),
             Err(_) => {
@@ -113,9 +119,16 @@ impl<'a> MemOutput<'a> {
 impl<'a> Output for MemOutput<'a> {
     ghost state = { λ s. s.state };
 
-    fn write(&mut self, bytes: &[u8]) -> WriteAnswer {
+    fn write(&mut self, bytes: &[u8]) -> WriteAnswer
+        requires { 0 < length bytes.now }
+        ensures writes { Writes result bytes.now self.old.state self.new.state }
+        ensures fails { IsTrue (is_to_fail self.old.fails_at (next_call self.old.calls)) → result ≡ WriteAnswer.Failed }
+        ensures most { IfWrote result (λ count. count ≡ min (length bytes.now) self.old.most) }
+        ensures kept { (self.new.fails_at ≡ self.old.fails_at) × (self.new.most ≡ self.old.most) }
+        ensures calls { self.new.calls ≡ next_call self.old.calls }
+    {
         self.calls = self.calls.saturating_add(1);
-        if self.fails_at.contains(&self.calls) {
+        if is_to_fail(self.fails_at, self.calls) {
             self.faults = self.faults.saturating_add(1);
             return WriteAnswer::Failed;
         }

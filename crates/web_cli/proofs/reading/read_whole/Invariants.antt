@@ -1,4 +1,4 @@
-use Rattle.std.proofs.Common.{◌≡◌, ◌-◌, ◌≤◌, length}
+use Rattle.std.proofs.Common.{◌≡◌, ◌-◌, length}
 use Rattle.web_cli.specs.Outside.{Came, raised}
 use Rattle.web_cli.proofs.reading.read_whole.Given as goal
 

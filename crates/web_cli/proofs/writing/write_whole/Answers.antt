@@ -1,4 +1,4 @@
-use Rattle.std.proofs.Common.{rules, ◌≡◌, ℕ, ◌+◌, ◌-◌, ◌*◌, ◌<◌, ◌≤◌, length, List, [], ◌∷◌, ◌++◌, take, drop}
+use Rattle.std.proofs.Common.{rules}
 use Rattle.web_cli.proofs.Going.{went_on}
 use Rattle.web_cli.proofs.writing.write_whole.Goals as goal
 
