@@ -1,6 +1,28 @@
-//! The program's edge: scripts, what comes in and goes out, and the commands.
+//! The command of Rothveng: a script in, the text of its replies out.
 #![tactic(auto)]
 
+mod due;
+mod failing;
+mod input;
+mod memory_input;
+mod memory_output;
+mod output;
+mod reading;
 mod script;
+mod serving;
+mod standard;
+mod status;
+mod words;
+mod writing;
 
+pub use input::{Input, ReadAnswer};
+pub use memory_input::{MemInput, PlainInput};
+pub use memory_output::{MemOutput, PlainOutput};
+pub use output::{Output, WriteAnswer};
+pub use reading::{ReadWhole, SCRIPT_LIMIT, read_whole};
 pub use script::{Script, ScriptedExchange, Verdict, first_script_law, read_script};
+pub use serving::run;
+pub use standard::{StdInput, StdOutput};
+pub use status::Status;
+pub use words::is_serve;
+pub use writing::write_whole;

@@ -1,0 +1,45 @@
+//! Serves a script as the program rothveng does, in plain Rust, to measure against.
+mod printing;
+mod script;
+mod serving;
+
+use std::io::{Read, Write};
+use std::process::ExitCode;
+
+/// The most bytes that a script may have.
+const SCRIPT_LIMIT: u64 = 16_777_216;
+
+const USAGE: &[u8] = b"usage: serve --pool=N | generate SEED COUNT | replay SEED COUNT\n";
+const NOT_BUILT: &[u8] = b"not built\n";
+
+fn main() -> ExitCode {
+    let words: Vec<String> = std::env::args().skip(1).collect();
+    if words != ["serve", "--pool=0"] {
+        return say(USAGE, 64);
+    }
+    let mut bytes = Vec::new();
+    if std::io::stdin()
+        .lock()
+        .take(SCRIPT_LIMIT + 1)
+        .read_to_end(&mut bytes)
+        .is_err()
+    {
+        return ExitCode::from(3);
+    }
+    if bytes.len() as u64 > SCRIPT_LIMIT {
+        return say(NOT_BUILT, 2);
+    }
+    let Some(script) = script::read(&bytes) else {
+        return say(NOT_BUILT, 2);
+    };
+    let (flights, made) = serving::serve(script);
+    say(&printing::printed(&flights, made), 0)
+}
+
+/// Writes the text, and gives the status, or that writing failed.
+fn say(text: &[u8], status: u8) -> ExitCode {
+    match std::io::stdout().lock().write_all(text) {
+        Ok(()) => ExitCode::from(status),
+        Err(_) => ExitCode::from(4),
+    }
+}

@@ -1,0 +1,89 @@
+-- What the top call answers and writes, status by status.
+use Rattle.std.specs.Prelude.{◌≡◌, ◌<◌, ◌≤◌, ◌+◌, ◌⊎◌, ℕ, List, [], length, Some, true, false}
+use Rattle.web_texts.specs.Counts.{Rose}
+use Rattle.web_cli.specs.Outside.{InputState, OutputState}
+use Rattle.web_cli.specs.Reading.{limit, IsAll, IsTooLong, IsFault}
+use Rattle.web_cli.specs.Writing.{IsWritten, IsCutOff}
+use Rattle.web_cli.specs.Words.{usage}
+use Rattle.web_cli.specs.Due.{is_first_script, replies_text, not_built, due_text}
+use Rattle.web_cli.specs.declared.status.Status.{Status}
+use Rattle.web_cli.specs.declared.status.Status.TheVariants as status
+
+-- all was read, it is a first script, and its replies were written
+pub record IsServed (came : List ℕ) (i j : InputState) (o p : OutputState) : Type 0 where
+  pub read : IsAll came i j
+  pub first : is_first_script came ≡ true
+  pub written : IsWritten (replies_text came) o p
+
+-- a script is refused: more bytes than the limit came, or all was read and it is no first script
+abbrev pub IsNoScript : List ℕ → InputState → InputState → Type 0
+IsNoScript came i j = IsTooLong came i j ⊎ (IsAll came i j × (is_first_script came ≡ false))
+
+-- the script is refused, and that was written
+pub record IsRefused (came : List ℕ) (i j : InputState) (o p : OutputState) : Type 0 where
+  pub read : IsNoScript came i j
+  pub written : IsWritten not_built o p
+
+-- a read failed, and nothing was written
+pub record IsReadFault (came : List ℕ) (i j : InputState) (o p : OutputState) : Type 0 where
+  pub read : IsFault came i j
+  pub nothing : p ≡ o
+
+-- the script was read as far as it has to be, and a front of what is due was written
+pub record IsCut (came : List ℕ) (i j : InputState) (o p : OutputState) : Type 0 where
+  pub read : IsAll came i j ⊎ IsTooLong came i j
+  pub cut : (sent : ℕ) × IsCutOff sent (due_text came) o p
+
+-- memory was wanting, no read had failed, and nothing was written
+pub record IsWanting (i j : InputState) (o p : OutputState) : Type 0 where
+  pub faults : j.faults ≡ i.faults
+  pub nothing : p ≡ o
+
+-- the words are `serve --pool=0`, and these bytes came
+abbrev pub Serves : Status → List ℕ → InputState → InputState → OutputState → OutputState → Type 0
+Serves status.Done came i j o p = IsServed came i j o p
+Serves status.Script came i j o p = IsRefused came i j o p
+Serves status.ReadFault came i j o p = IsReadFault came i j o p
+Serves status.WriteFault came i j o p = IsCut came i j o p
+Serves status.NoMemory came i j o p = IsWanting i j o p
+Serves status.Usage came i j o p = ⊥
+
+-- the words are no command: the usage was written, or a front of it and then a write failed
+abbrev pub Refuses : Status → OutputState → OutputState → Type 0
+Refuses status.Usage o p = IsWritten usage o p
+Refuses status.WriteFault o p = (sent : ℕ) × IsCutOff sent usage o p
+Refuses _ o p = ⊥
+
+-- nothing was read, and the words were refused
+pub record IsNoCommand (answer : Status) (i j : InputState) (o p : OutputState) : Type 0 where
+  pub input : j ≡ i
+  pub refused : Refuses answer o p
+
+-- a read failed in this call: nothing else is answered but want of memory
+abbrev pub FaultIsTold : Status → InputState → InputState → Type 0
+FaultIsTold answer i j = i.faults < j.faults → (answer ≡ status.ReadFault) ⊎ (answer ≡ status.NoMemory)
+
+-- a write failed in this call: that is what is answered
+abbrev pub WriteFaultIsTold : Status → OutputState → OutputState → Type 0
+WriteFaultIsTold answer o p = o.faults < p.faults → answer ≡ status.WriteFault
+
+-- more bytes than the limit came: the script is refused, unless a write fails or memory is wanting
+abbrev pub TooLongIsTold : Status → InputState → InputState → Type 0
+TooLongIsTold answer i j = i.given + limit < j.given
+    → (answer ≡ status.Script) ⊎ ((answer ≡ status.WriteFault) ⊎ (answer ≡ status.NoMemory))
+
+-- all was read, and the replies of the script were written
+pub record IsDone (answer : Status) (script : List ℕ) (j : InputState) (o p : OutputState) : Type 0 where
+  pub answer_is : answer ≡ status.Done
+  pub nothing_left : j.left ≡ Some []
+  pub written : IsWritten (replies_text script) o p
+
+-- memory was wanting, and nothing was written
+pub record HasNoMemory (answer : Status) (o p : OutputState) : Type 0 where
+  pub answer_is : answer ≡ status.NoMemory
+  pub nothing : p ≡ o
+
+-- Every first script within the limit, with no fault of input or output, is served, unless memory is wanting.
+abbrev pub Headline : Status → InputState → InputState → OutputState → OutputState → Type 0
+Headline answer i j o p = (script : List ℕ) → i.left ≡ Some script → length script ≤ limit → is_first_script script ≡ true
+    → ¬ (Rose i.faults j.faults) → ¬ (Rose o.faults p.faults) → HasNoMemory answer o p ⊎ IsDone answer script j o p

@@ -1,0 +1,43 @@
+-- What reading to the end comes to.
+use Rattle.std.specs.Prelude.{◌≡◌, ◌<◌, ◌≤◌, ◌+◌, ℕ, true, List, [], length, Result, Ok, Err, IfSome}
+use Rattle.web_texts.specs.Counts.{Rose}
+use Rattle.web_texts.specs.declared.memory.NoMemory.{NoMemory}
+use Rattle.web_cli.specs.Outside.{InputState, raised, RoseBeyond, Came}
+use Rattle.web_cli.specs.declared.reading.ReadWhole.{ReadWhole}
+use Rattle.web_cli.specs.declared.reading.ReadWhole.TheVariants as whole
+
+-- the most bytes that a script may have
+abbrev pub limit : ℕ
+limit = 16777216
+
+-- these bytes came, no more than the limit, and then the end
+pub record IsAll (came : List ℕ) (old new : InputState) : Type 0 where
+  pub bytes : Came came old new
+  pub given : new.given ≡ raised old.given (length came)
+  pub fits : length came ≤ limit
+  pub within : new.given ≤ old.given + limit
+  pub faults : new.faults ≡ old.faults
+  pub ended : new.ended ≡ true
+  pub nothing : IfSome new.left (λ rest. rest ≡ [])
+
+-- these bytes came, more than the limit
+pub record IsTooLong (came : List ℕ) (old new : InputState) : Type 0 where
+  pub bytes : Came came old new
+  pub given : new.given ≡ raised old.given (length came)
+  pub more : limit < length came
+  pub beyond : RoseBeyond limit old.given new.given
+  pub faults : new.faults ≡ old.faults
+
+-- these bytes came, no more than the limit, and then a read failed
+pub record IsFault (came : List ℕ) (old new : InputState) : Type 0 where
+  pub bytes : Came came old new
+  pub given : new.given ≡ raised old.given (length came)
+  pub fits : length came ≤ limit
+  pub within : new.given ≤ old.given + limit
+  pub rose : Rose old.faults new.faults
+
+abbrev pub ReadsWhole : Result ReadWhole NoMemory → InputState → InputState → Type 0
+ReadsWhole (Ok (whole.All bytes)) old new = IsAll bytes.items old new
+ReadsWhole (Ok whole.TooLong) old new = (came : List ℕ) × IsTooLong came old new
+ReadsWhole (Ok whole.Failed) old new = (came : List ℕ) × IsFault came old new
+ReadsWhole (Err wanting) old new = new.faults ≡ old.faults

@@ -1,0 +1,17 @@
+//! The words that the program is called with.
+ghost use Rattle.std.specs.Prelude.{◌↔◌, IsTrue, map, string_bytes};
+ghost use Rattle.web_cli.specs.Words.{IsServe};
+
+/// What is said where the words are no command.
+pub(crate) const USAGE: &[u8] =
+    b"usage: serve --pool=N | generate SEED COUNT | replay SEED COUNT\n";
+
+/// Whether the words are `serve --pool=0`.
+pub fn is_serve(words: &[String]) -> bool
+    ensures { IsTrue result ↔ IsServe (map string_bytes words.now) }
+{
+    match words {
+        [first, second] => first.as_str() == "serve" && second.as_str() == "--pool=0",
+        _ => false,
+    }
+}
