@@ -1,5 +1,6 @@
 pub mod Answers
 pub mod Asked
+pub mod Demo
 pub mod Due
 pub mod Ends
 pub mod Entries
@@ -10,6 +11,7 @@ pub mod Kinds
 pub mod Line
 pub mod Outcome
 pub mod Outside
+pub mod Printing
 pub mod Reading
 pub mod Script
 pub mod Status

@@ -1,10 +1,17 @@
 //! What is due for a script.
-ghost use Rattle.std.specs.Prelude.{IfOk};
-ghost use Rattle.web_cli.specs.Due.{IsDue};
+ghost use Rattle.std.specs.Prelude.{◌≡◌, ◌<◌, ◌^◌, length, IfOk};
+ghost use Rattle.std.specs.List.{AllPass, flat_map, list_any};
+ghost use Rattle.web_request.specs.Body.{is_body, joined};
+ghost use Rattle.web_worker.specs.Served.{lacks_memory};
+ghost use Rattle.web_cli.specs.Due.{IsDue, replies_to};
 
+use crate::demo::{exchanges, worker};
+use crate::printing::printed;
+use crate::script::{Script, Verdict, read_script};
 use bytes::Bytes;
 use std::alloc::Global;
 use web_request::NoMemory;
+use web_worker::{Outcome, serve_all};
 
 /// What a script of at most the limit is answered.
 #[derive(Drop)]
@@ -15,23 +22,43 @@ pub enum Due {
     Refused,
 }
 
-/// What is due for these bytes. None of them is copied.
-pub(crate) fn due_of_vec(alloc: Global, bytes: Vec<u8>) -> Result<Due, NoMemory>
-    ensures { IfOk result (λ due. IsDue due bytes.items) }
+fn is_lost(outcomes: &[Outcome]) -> bool
+    ensures { result ≡ list_any lacks_memory outcomes.now }
 {
-    let bytes = Bytes::from_vec(bytes)?;
-    due_of(alloc, bytes)
+    outcomes
+        .iter()
+        .any(|outcome| matches!(outcome, Outcome::NoMemory))
 }
 
-#[tactic(auto, unfolding(crate::specs::Due::is_first_script, crate::specs::Due::replies_text))]
-fn due_of(alloc: Global, bytes: Bytes) -> Result<Due, NoMemory>
-    ensures { IfOk result (λ due. IsDue due bytes) }
+/// Serves a script, and gives the text of its replies. Want of memory of one exchange is want of memory of all.
+fn replies(alloc: Global, script: Script) -> Result<Vec<u8>, NoMemory>
+    requires bodies { AllPass (λ e. is_body e.marks) script.exchanges }
+    requires small { length (flat_map (λ e. joined e.marks) script.exchanges) < 2 ^ 63 }
+    ensures { IfOk result (λ text. text.items ≡ replies_to script) }
 {
-    if bytes.is_empty() {
-        let mut text = Vec::new(alloc);
-        text.extend_from_slice(b"pool\nmade 0\n")?;
-        Ok(Due::Replies(text))
-    } else {
-        Ok(Due::Refused)
+    let Script {
+        exchanges: asked,
+        plan,
+    } = script;
+    let mut worker = worker(alloc)?;
+    let exchanges = exchanges(alloc, asked)?;
+    let outcomes = match serve_all(alloc, &mut worker, exchanges, &plan) {
+        Ok(outcomes) => outcomes,
+        Err(_) => return Err(NoMemory),
+    };
+    if is_lost(&outcomes) {
+        return Err(NoMemory);
+    }
+    let pool = worker.pool();
+    printed(alloc, &outcomes, pool.serials(), pool.made())
+}
+
+/// What is due for these bytes. None of them is copied.
+pub(crate) fn due_of(alloc: Global, bytes: Vec<u8>) -> Result<Due, NoMemory>
+    ensures { IfOk result (λ due. IsDue due bytes.items) }
+{
+    match read_script(alloc, Bytes::from_vec(bytes)?)? {
+        Verdict::Valid(script) => Ok(Due::Replies(replies(alloc, script)?)),
+        Verdict::Refused => Ok(Due::Refused),
     }
 }

@@ -1,12 +1,14 @@
 //! The command of Rothveng: a script in, the text of its replies out.
 #![tactic(auto)]
 
+mod demo;
 mod due;
 mod failing;
 mod input;
 mod memory_input;
 mod memory_output;
 mod output;
+mod printing;
 mod reading;
 mod script;
 mod serving;
@@ -15,6 +17,7 @@ mod status;
 mod words;
 mod writing;
 
+pub use demo::{Demo, DemoConn, DemoLayer, DemoLocal};
 pub use input::{Input, ReadAnswer};
 pub use memory_input::{MemInput, PlainInput};
 pub use memory_output::{MemOutput, PlainOutput};

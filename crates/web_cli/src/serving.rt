@@ -3,7 +3,7 @@ ghost use Rattle.std.specs.Prelude.{◌≡◌, List, ℕ, map, string_bytes};
 ghost use Rattle.web_cli.specs.Words.{IsServe};
 ghost use Rattle.web_cli.specs.Outcome.{FaultIsTold, Headline, IsNoCommand, Serves, TooLongIsTold, WriteFaultIsTold};
 
-use crate::due::{Due, due_of_vec};
+use crate::due::{Due, due_of};
 use crate::input::Input;
 use crate::output::Output;
 use crate::reading::{ReadWhole, read_whole};
@@ -21,7 +21,7 @@ fn serve<I: Input, O: Output>(alloc: Global, input: &mut I, output: &mut O) -> S
         Err(_) => Status::NoMemory,
         Ok(ReadWhole::Failed) => Status::ReadFault,
         Ok(ReadWhole::TooLong) => say(output, NOT_BUILT, Status::Script),
-        Ok(ReadWhole::All(bytes)) => match due_of_vec(alloc, bytes) {
+        Ok(ReadWhole::All(bytes)) => match due_of(alloc, bytes) {
             Err(_) => Status::NoMemory,
             Ok(Due::Refused) => say(output, NOT_BUILT, Status::Script),
             Ok(Due::Replies(text)) => say(output, &text, Status::Done),

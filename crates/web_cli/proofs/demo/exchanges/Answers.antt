@@ -1,0 +1,30 @@
+use Rattle.std.proofs.Common.{◌≡◌, ◌++◌, ◌∷◌, ◌∙◌, [], append-nil, append_assoc, arith, ap, sym, subst, length, List}
+use Rattle.std.specs.List.{AllPass, flat_map}
+use Rattle.web_request.specs.Body.{is_body, joined}
+use Rattle.web_cli.specs.Asked.{Asked}
+use Rattle.web_cli.specs.Demo.{bodies_of}
+use Rattle.web_cli.proofs.Asking.{map_more, no_items, part_at, passes_at}
+use Rattle.web_cli.proofs.demo.exchanges.Goals as goal
+
+pub exchange-requires-clause-small : goal.exchange-requires-clause-small
+exchange-requires-clause-small c =
+    let all = rw c.in-Some.ensures.steps.0 at c.loop-one.invariant.rest in
+    let part = rw all at (part_at (λ (e : Asked). joined e.marks) c.loop-one.yielded c.next.new.self.rest.items c.in-Some.one) in
+    omega (arith, part, c.requires.small)
+
+pub exchange-requires-clause-body : goal.exchange-requires-clause-body
+exchange-requires-clause-body c =
+    let all = rw c.in-Some.ensures.steps.0 at c.loop-one.invariant.rest in
+    passes_at (λ (e : Asked). is_body e.marks) c.loop-one.yielded c.next.new.self.rest.items c.in-Some.one (rw all c.requires.bodies)
+
+pub loop-one-preserved : goal.loop-one-preserved
+loop-one-preserved c = record {
+  bodies = rw c.in_ok-push.ensures.items (map_more _ _ c.loop-one.exchanges.items c.loop-one.yielded c.in_ok-exchange.field-0 c.in-Some.one c.loop-one.invariant.bodies c.in_ok-exchange.ensures);
+  rest = append_assoc c.loop-one.yielded (c.in-Some.one ∷ []) c.next.new.self.rest.items ∙ rw c.in-Some.ensures.steps.0 at c.loop-one.invariant.rest;
+}
+
+pub returns : goal.returns
+returns c =
+    let nothing : c.loop-one.one-iterator.rest.items ≡ [] = no_items c.loop-one.one-iterator.rest.items (sym c.loop-one.one-iterator.rest.ok.0 ∙ c.in-None.ensures.steps.0) in
+    let all : c.loop-one.yielded ≡ c.args.asked.items = sym (append-nil c.loop-one.yielded) ∙ ap (λ l. c.loop-one.yielded ++ l) (sym nothing) ∙ c.loop-one.invariant.rest in
+    c.loop-one.invariant.bodies ∙ ap bodies_of all

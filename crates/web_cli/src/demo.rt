@@ -1,0 +1,112 @@
+//! The application of the program.
+ghost use Rattle.std.specs.Prelude.{◌≡◌, ◌<◌, ◌^◌, [], true, length, map, IfOk};
+ghost use Rattle.std.specs.List.{AllPass, flat_map};
+ghost use Rattle.web_request.specs.Body.{is_body, joined};
+ghost use Rattle.web_cli.specs.Demo.{bodies_of};
+ghost use Rattle.web_body.specs.Bodies.{marks_feed};
+
+use crate::script::ScriptedExchange;
+use http::{Method, Version};
+use http_header::HeaderMap;
+use http_uri::Uri;
+use std::alloc::Global;
+use std::rc::Rc;
+use web_body::{Marks, Payload};
+use web_request::{App, AppConfig, Configured, Duplicate, IpAddr, RequestHead, SocketAddr};
+use web_texts::{NoMemory, Text};
+use web_worker::{Exchange, Worker};
+
+/// The types of the program's application. Its records hold nothing yet.
+#[derive(Drop)]
+pub struct Demo;
+
+#[derive(Drop)]
+pub struct DemoLayer;
+
+#[derive(Drop)]
+pub struct DemoLocal;
+
+#[derive(Drop)]
+pub struct DemoConn;
+
+impl Configured for DemoLayer {}
+
+impl Duplicate for DemoLocal {
+    fn duplicate(&self, _alloc: Global) -> Result<DemoLocal, NoMemory> {
+        Ok(DemoLocal)
+    }
+}
+
+impl App for Demo {
+    type Layer = DemoLayer;
+
+    type Local = DemoLocal;
+
+    type Conn = DemoConn;
+
+    type Source = Marks;
+}
+
+/// A worker with an empty root layer, for `localhost:8080`, that keeps no record.
+pub(crate) fn worker(alloc: Global) -> Result<Worker<Demo>, NoMemory>
+    ensures none_kept { IfOk result (λ w. w.serials ≡ []) }
+    ensures none_made { IfOk result (λ w. w.made ≡ 0) }
+{
+    let root = Rc::new(alloc, DemoLayer)?;
+    let config = AppConfig {
+        host: Text::of(alloc, "localhost:8080")?,
+        secure: false,
+        local_addr: SocketAddr {
+            ip: IpAddr::V4([127, 0, 0, 1]),
+            port: 8080,
+        },
+    };
+    Worker::new(alloc, root, config, 0)
+}
+
+/// The only head that a script can ask for so far. Its target is in form, so that only memory can be wanting.
+fn head(alloc: Global) -> Result<RequestHead, NoMemory> {
+    let Ok(uri) = Uri::from_static("/bytes") else {
+        return Err(NoMemory);
+    };
+    Ok(RequestHead {
+        uri,
+        method: Method::POST,
+        version: Version::HTTP_11,
+        headers: HeaderMap::new(alloc),
+        peer_addr: None,
+    })
+}
+
+/// The exchange that a script asks for, with its body as a stream.
+fn exchange(alloc: Global, asked: ScriptedExchange) -> Result<Exchange<Demo>, NoMemory>
+    requires body { is_body asked.marks ≡ true }
+    requires small { length (joined asked.marks) < 2 ^ 63 }
+    ensures { IfOk result (λ x. x.body ≡ Payload.Stream (marks_feed asked.marks)) }
+{
+    let ScriptedExchange { marks } = asked;
+    Ok(Exchange {
+        head: head(alloc)?,
+        params: Vec::new(alloc),
+        layers: Vec::new(alloc),
+        conn: None,
+        local: None,
+        body: Payload::Stream(Marks::new(marks)),
+    })
+}
+
+/// The exchanges that a script asks for.
+pub(crate) fn exchanges(
+    alloc: Global,
+    asked: Vec<ScriptedExchange>,
+) -> Result<Vec<Exchange<Demo>>, NoMemory>
+    requires bodies { AllPass (λ e. is_body e.marks) asked.items }
+    requires small { length (flat_map (λ e. joined e.marks) asked.items) < 2 ^ 63 }
+    ensures { IfOk result (λ xs. map (λ x. x.body) xs.items ≡ bodies_of asked.items) }
+{
+    let mut exchanges = Vec::with_capacity(alloc, asked.len())?;
+    for one in asked {
+        exchanges.push(exchange(alloc, one)?)?;
+    }
+    Ok(exchanges)
+}
