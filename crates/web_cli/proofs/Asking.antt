@@ -2,10 +2,11 @@
 use Rattle.std.proofs.Common.{◌≡◌, ◌≤◌, ℕ, Bool, true, List, [], ◌∷◌, ◌++◌, map, length, refl, ap, arith, length-append}
 use Rattle.std.specs.List.{AllPass, flat_map}
 use Rattle.std.proofs.lemmas.List.{map_push}
+use Rattle.std.proofs.lemmas.List.Elements.{All-head, All-tail}
 
 pub passes_at : {X : Type 0} (p : X → Bool) (front more : List X) (e : X) → AllPass p (front ++ e ∷ more) → p e ≡ true
-passes_at p [] more e h = h.0
-passes_at p (x ∷ front) more e h = passes_at p front more e h.1
+passes_at p [] more e h = All-head (λ x. p x ≡ true) e more h
+passes_at p (x ∷ front) more e h = passes_at p front more e (All-tail (λ y. p y ≡ true) x (front ++ e ∷ more) h)
 
 pub part_at : {X : Type 0} (f : X → List ℕ) (front more : List X) (e : X) → length (f e) ≤ length (flat_map f (front ++ e ∷ more))
 part_at f [] more e = omega (arith, length-append (f e) (flat_map f more))
