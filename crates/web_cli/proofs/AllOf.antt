@@ -1,9 +1,9 @@
 -- Numbers with one space between, byte by byte.
 use Rattle.std.proofs.Common.{◌≡◌, ◌==◌, ◌≤◌, ◌<◌, ◌+◌, ◌-◌, ◌*◌, ◌&&◌, ℕ, Bool, true, false, not, List, [], ◌∷◌, ◌++◌, map, length, drop, get_or, cond, Option, Some, None, refl, ap, sym, ◌∙◌, append_assoc, arith, length-append}
-use Rattle.std.specs.Prelude.{nat_le, fold}
+use Rattle.std.specs.Prelude.{nat_le}
 use Rattle.std.specs.Char.{is_ascii_digit}
 use Rattle.std.specs.Option.{option_map, option_and_then}
-use Rattle.std.specs.List.{slice_split, list_all, All, onto_first}
+use Rattle.std.specs.List.{slice_split, list_all, onto_first}
 use Rattle.std.proofs.Math.Seq.{take-append_seam}
 use Rattle.std.proofs.lemmas.Bool.Decides.{nat_tests}
 use Rattle.std.proofs.lemmas.List.{append-nil, get_or_at, at_drop_more, drop_all}
@@ -11,7 +11,7 @@ use Rattle.std.proofs.lemmas.List.Folds.{list_all-append}
 use Rattle.std.proofs.lemmas.List.Sums.{fold-append}
 use Rattle.std.proofs.lemmas.List.Splits.{length-slice_split}
 use Rattle.web_texts.proofs.Values.{too_large}
-use Rattle.web_texts.specs.Digits.{digits_up_to, digits_value, are_digits}
+use Rattle.web_texts.specs.Digits.{digits_up_to, digits_value}
 use Rattle.web_cli.specs.Line.{is_space}
 use Rattle.web_cli.specs.Entries.{all_of, entries_said, IsAdded}
 
@@ -27,7 +27,6 @@ entries_on begun value (b ∷ rest) =
 
 abbrev pub with_front : List ℕ → Option (List ℕ) → Option (List ℕ)
 with_front front said = option_map (λ rest. front ++ rest) said
-
 
 pushed : (front : List ℕ) (n : ℕ) (said : Option (List ℕ)) → with_front front (option_map (λ ns. n ∷ ns) said) ≡ with_front (front ++ n ∷ []) said
 pushed front n None = refl

@@ -1,4 +1,4 @@
-use Rattle.std.proofs.Common.{sym, ◌∙◌, drop, get_or, ◌+◌, arith, rules}
+use Rattle.std.proofs.Common.{sym, ◌∙◌, drop, get_or, ◌+◌, arith}
 use Rattle.web_cli.proofs.AllOf.{digit_read, digit_large, space_read, other_read, at_byte, at_end, no_space, not_begun, space_is, added_all, refused_all}
 use Rattle.web_cli.proofs.script.entries.read_entries.Goals as goal
 use Rattle.web_cli.proofs.script.entries.read_entries.Goals.{then-byte-ne32-via-then-byte-ne32, then-byte-ne32-via-else-byte-ne32+then-not-has_digits, then-is_ascii_digit+else-entry-gt-MOST_ENTRY, else-is_ascii_digit+else-byte-ne32+else-not-has_digits+in_ok-push}
@@ -27,15 +27,15 @@ bytes-preserved c =
     let next = at_byte c.bytes.plan.items c.bytes.has_digits c.bytes.entry c.args.text.now c.bytes.byte-index _ c.bytes-test.true c.bytes.invariant.said in
     elim c.if-is_ascii_digit.branch [
       | then-is_ascii_digit+else-entry-gt-MOST_ENTRY w ↦ rw (w.plan-is, w.entry-is, w.has_digits-is, w.from.ensures) (record {
-          said = digit_read c.bytes.plan.items c.bytes.has_digits c.bytes.entry (get_or c.args.text.now c.bytes.byte-index 0) (drop (c.bytes.byte-index + 1) c.args.text.now) _ next
-              (sym c.is_ascii_digit.ensures.value ∙ w.if-is_ascii_digit.true) (omega (arith, w.if-entry-gt-MOST_ENTRY.false, w.from.ensures));
-          small = omega (arith, w.if-entry-gt-MOST_ENTRY.false, w.from.ensures);
-        })
+        said = digit_read c.bytes.plan.items c.bytes.has_digits c.bytes.entry (get_or c.args.text.now c.bytes.byte-index 0) (drop (c.bytes.byte-index + 1) c.args.text.now) _ next
+            (sym c.is_ascii_digit.ensures.value ∙ w.if-is_ascii_digit.true) (omega (arith, w.if-entry-gt-MOST_ENTRY.false, w.from.ensures));
+        small = omega (arith, w.if-entry-gt-MOST_ENTRY.false, w.from.ensures);
+      })
       | else-is_ascii_digit+else-byte-ne32+else-not-has_digits+in_ok-push w ↦ rw (w.plan-is, w.entry-is, w.has_digits-is, w.in_ok-push.ensures.items) (record {
-          said = space_read c.bytes.plan.items c.bytes.has_digits c.bytes.entry (get_or c.args.text.now c.bytes.byte-index 0) (drop (c.bytes.byte-index + 1) c.args.text.now) _ next
-              (sym c.is_ascii_digit.ensures.value ∙ w.if-is_ascii_digit.false) (space_is _ w.if-byte-ne32.false) w.if-not-has_digits.false;
-          small = omega arith;
-        })
+        said = space_read c.bytes.plan.items c.bytes.has_digits c.bytes.entry (get_or c.args.text.now c.bytes.byte-index 0) (drop (c.bytes.byte-index + 1) c.args.text.now) _ next
+            (sym c.is_ascii_digit.ensures.value ∙ w.if-is_ascii_digit.false) (space_is _ w.if-byte-ne32.false) w.if-not-has_digits.false;
+        small = omega arith;
+      })
     ]
 
 pub returns-in_ok-push-2 : goal.returns-in_ok-push-2
