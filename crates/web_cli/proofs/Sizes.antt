@@ -1,9 +1,10 @@
 -- The pieces of a script are together no longer than the script.
-use Rattle.std.proofs.Common.{◌≡◌, ◌≤◌, ℕ, ◌+◌, ◌-◌, ◌==◌, ◌||◌, Bool, true, false, List, [], ◌∷◌, ◌++◌, map, length, take, drop, cond, refl, ap, ◌∙◌, arith, length-append, Result, Ok, Err}
-use Rattle.std.specs.List.{flat_map, before_first, slice_split, onto_first, slice_index, position_or_len}
+use Rattle.std.proofs.Common.{◌≡◌, ◌≤◌, ◌<◌, ◌^◌, ℕ, ◌+◌, ◌-◌, ◌==◌, ◌||◌, Bool, true, false, List, [], ◌∷◌, ◌++◌, map, length, take, drop, cond, refl, ap, ◌∙◌, arith, length-append, Result, Ok, Err}
+use Rattle.std.specs.List.{All, flat_map, before_first, slice_split, onto_first, slice_index, position_or_len}
 use Rattle.std.specs.Result.{result_unwrap_or}
 use Rattle.std.specs.Str.Lines.{strip_carriage_return}
 use Rattle.std.proofs.lemmas.List.{length-take, length-drop}
+use Rattle.std.proofs.lemmas.List.Folds.{length-flat_map-take}
 use Rattle.hex.specs.Hex.{decode_of}
 use Rattle.hex.specs.declared.error.FromHexError.{FromHexError}
 use Rattle.hex.proofs.HexLemmas.{decode_of-ok}
@@ -115,3 +116,10 @@ parts_le (x ∷ text) = omega (arith, onto_le (is_newline x) x (slice_split is_n
 
 pub sizes : (bytes : List ℕ) → total (exchanges (script_lines bytes)) ≤ length bytes
 sizes bytes = omega (arith, total_le (script_lines bytes), lines_le (slice_split is_newline bytes), parts_le bytes)
+
+pub each_small : (bytes : List ℕ) → length bytes < 2 ^ 63 → All (λ e. length (joined e.marks) < 2 ^ 63) (exchanges (script_lines bytes))
+each_small bytes small =
+    λ k d inside.
+    let one = length-flat_map-take (λ (e : Asked). joined e.marks) (exchanges (script_lines bytes)) k d inside in
+    let all = sizes bytes in
+    omega (arith, one, all, small)

@@ -2,7 +2,7 @@
 ghost use Rattle.std.specs.Prelude.{◌≡◌, ◌+◌, ◌<◌, ◌^◌, ◌∷◌, [], length, take, drop, IfOk, IfSome, IfNone};
 ghost use Rattle.std.specs.List.{slice_split};
 ghost use Rattle.web_cli.specs.Script.{is_newline, script_lines};
-ghost use Rattle.web_cli.specs.Verdict.{IsVerdict, AreBodies, AreSmall};
+ghost use Rattle.web_cli.specs.Verdict.{IsVerdict, AreBodies, AreSmall, HaveAtMost};
 
 mod entries;
 mod exchange;
@@ -44,7 +44,8 @@ fn line_end(text: &[u8]) -> Option<usize>
 pub fn read_script(alloc: Global, bytes: Bytes) -> Result<Verdict, NoMemory>
     ensures verdict { IfOk result (λ verdict. IsVerdict (script_lines bytes) verdict) }
     ensures bodies { IfOk result (λ verdict. AreBodies verdict) }
-    ensures sizes { IfOk result (λ verdict. AreSmall verdict) }
+    ensures small { IfOk result (λ verdict. AreSmall verdict) }
+    ensures total { IfOk result (λ verdict. HaveAtMost (length bytes) verdict) }
 {
     let mut reader = Reader::new(alloc);
     let mut rest = bytes;

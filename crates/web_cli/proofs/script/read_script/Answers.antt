@@ -1,8 +1,8 @@
-use Rattle.std.proofs.Common.{◌∙◌, arith, take, drop, ◌+◌}
+use Rattle.std.proofs.Common.{◌∙◌, take, drop, ◌+◌}
 use Rattle.web_cli.specs.Script.{script_lines}
 use Rattle.web_cli.proofs.Bodies.{bodies_read}
 use Rattle.web_cli.proofs.Loop.{line_read, line_faulty, last_read, last_faulty, at_end}
-use Rattle.web_cli.proofs.Sizes.{sizes}
+use Rattle.web_cli.proofs.Sizes.{sizes, each_small}
 use Rattle.web_cli.proofs.script.read_script.Goals as goal
 
 pub returns-then-not-branch-clause-verdict : goal.returns-then-not-branch-clause-verdict
@@ -36,10 +36,16 @@ returns-clause-bodies c =
     (rw c.as_slice.ensures at c.in_default.ensures.last) c.len.ensures.value c.in_ok-read_line-2.ensures c.if-not-branch-2.false c.lines.invariant.at in
     rw c.in_ok-finish.ensures (bodies_read c.read_line-2.new.self read.sound)
 
-pub returns-clause-sizes : goal.returns-clause-sizes
-returns-clause-sizes c =
+pub returns-clause-small : goal.returns-clause-small
+returns-clause-small c =
     let read = last_read (script_lines c.args.bytes) c.lines.rest c.len.result c.lines.reader c.read_line-2.new.self c.in_ok-read_line-2.field-0
     (rw c.as_slice.ensures at c.in_default.ensures.last) c.len.ensures.value c.in_ok-read_line-2.ensures c.if-not-branch-2.false c.lines.invariant.at in
     let ends = at_end (script_lines c.args.bytes) c.read_line-2.new.self read in
-    let total = sizes c.args.bytes in
-    rw (c.in_ok-finish.ensures ∙ ends.1) (omega (arith, total, c.lines.invariant.small))
+    rw (c.in_ok-finish.ensures ∙ ends.1) (each_small c.args.bytes c.lines.invariant.small)
+
+pub returns-clause-total : goal.returns-clause-total
+returns-clause-total c =
+    let read = last_read (script_lines c.args.bytes) c.lines.rest c.len.result c.lines.reader c.read_line-2.new.self c.in_ok-read_line-2.field-0
+    (rw c.as_slice.ensures at c.in_default.ensures.last) c.len.ensures.value c.in_ok-read_line-2.ensures c.if-not-branch-2.false c.lines.invariant.at in
+    let ends = at_end (script_lines c.args.bytes) c.read_line-2.new.self read in
+    rw (c.in_ok-finish.ensures ∙ ends.1) (sizes c.args.bytes)
