@@ -1,6 +1,6 @@
 -- The flights of a plan, poll by poll.
-use Rattle.std.proofs.Common.{◌≡◌, ℕ, zero, suc, ◌+◌, ◌<◌, ◌≤◌, ◌≢◌, List, [], ◌∷◌, ◌++◌, map, refl, sym, ◌∙◌, ap, arith, subst, ◌⊎◌, inl, inr}
-use Rattle.std.specs.Prelude.{Option, None, Some, Result, ⊤, MatchOption, slice_get, slice_set}
+use Rattle.std.proofs.Common.{◌≡◌, ℕ, zero, suc, ◌+◌, ◌<◌, ◌≤◌, ◌≢◌, true, false, length, List, [], ◌∷◌, ◌++◌, map, refl, sym, ◌∙◌, ap, arith, subst, ◌⊎◌, inl, inr}
+use Rattle.std.specs.Prelude.{Option, None, Some, Result, ⊤, MatchOption, slice_get, slice_index_or, slice_set}
 use Rattle.web_request.specs.declared.source.Mark.{Mark}
 use Rattle.web_request.specs.Feed.{Feed}
 use Rattle.web_request.specs.Pool.{Pool}
@@ -15,7 +15,7 @@ use Rattle.web_worker.specs.declared.flight.Stage.TheVariants.{Waiting, Extracti
 use Rattle.web_worker.specs.Exchanges.{Asked, Held, FlightView}
 use Rattle.web_worker.specs.Answers.{Rules, Replies, RepliesBefore}
 use Rattle.web_worker.specs.Flights.{ExchangeGives, ExchangeBefore, FlightGives, FlightBefore, OnePollLater, Polled, Moves}
-use Rattle.web_worker.specs.Polls.{PollsAt, Remains, Effect, EffectAt, IsOpen}
+use Rattle.web_worker.specs.Polls.{PollsAt, Remains, Effect, EffectAt, is_open}
 use Rattle.web_worker.specs.Pooled.{Makes}
 use Rattle.web_worker.specs.Served.{polls, EachFrom, Allowed, Served}
 use Rattle.web_worker.specs.Flown.{Under, FlightOf, Flown, Lands, Landed}
@@ -164,10 +164,10 @@ module _ {S L D C V E F : Type 0} (R : Rules L D C V E) (request : Asked S L D C
   effect_of d r f (Answered outcome.Unfinished) once p = p
   effect_of d r f (Answered outcome.NoMemory) once p = tt
 
-  move_effect : (d : ℕ) (r : Reply) (f g : FlightView S L D C F) → IsOpen f → Remains R request feed gives f d r → Moves R request feed gives f g → Effect R request feed gives d r g
+  move_effect : (d : ℕ) (r : Reply) (f g : FlightView S L D C F) → is_open f ≡ true → Remains R request feed gives f d r → Moves R request feed gives f g → Effect R request feed gives d r g
   move_effect d r (Waiting x) g open_one once m = effect_of d r (Waiting x) g once m
   move_effect d r (Extracting h) g open_one once m = effect_of d r (Extracting h) g once m
-  move_effect d r (Answered o) g open_one once m = absurd open_one
+  move_effect d r (Answered o) g open_one once m = absurd (cc)
 
   get_set : {X : Type 0} (xs : List X) (k : ℕ) (f g : X) → slice_get xs k ≡ Some f → slice_get (slice_set xs k g) k ≡ Some g
   get_set [] k f g e = absurd cc
@@ -185,3 +185,27 @@ module _ {S L D C V E F : Type 0} (R : Rules L D C V E) (request : Asked S L D C
 
   pub effects : (k : ℕ) (old new : List (FlightView S L D C F)) (a b : Pool L) → PollsAt R request feed gives k old new a b → EffectAt R request feed gives k old new
   effects k old new a b m = effect_at k old new a b (slice_get old k) refl m
+
+  -- a number that names no flight, or an answered one
+  none_there : (fs : List (FlightView S L D C F)) (k : ℕ) → length fs ≤ k → slice_get fs k ≡ None
+  none_there [] k le = refl
+  none_there (f ∷ fs) zero le = absurd (omega arith)
+  none_there (f ∷ fs) (suc k) le = none_there fs k (omega arith)
+
+  pub names_none : (fs : List (FlightView S L D C F)) (k : ℕ) (p : Pool L) → length fs ≤ k → PollsAt R request feed gives k fs fs p p
+  names_none fs k p le = rw (none_there fs k le) (refl, refl)
+
+  some_there : {X : Type 0} (xs : List X) (k : ℕ) (x : X) → k < length xs → x ≡ slice_index_or xs k x → slice_get xs k ≡ Some x
+  some_there [] k x lt e = absurd (omega arith)
+  some_there (y ∷ xs) zero x lt e = ap Some (sym e)
+  some_there (y ∷ xs) (suc k) x lt e = some_there xs k x (omega arith) e
+
+  rests : (fs : List (FlightView S L D C F)) (k : ℕ) (f : FlightView S L D C F) (p : Pool L) → is_open f ≡ false
+      → (g : FlightView S L D C F) × (slice_set fs k f ≡ slice_set fs k g) × Moves R request feed gives f g × Makes f g p p
+  rests fs k (Waiting x) p e = absurd (cc)
+  rests fs k (Extracting h) p e = absurd (cc)
+  rests fs k (Answered o) p e = (Answered o, refl, refl, refl)
+
+  pub names_answered : (fs : List (FlightView S L D C F)) (k : ℕ) (f : FlightView S L D C F) (p : Pool L) → k < length fs → f ≡ slice_index_or fs k f → is_open f ≡ false
+      → PollsAt R request feed gives k fs (slice_set fs k f) p p
+  names_answered fs k f p lt is shut = rw (some_there fs k f lt is) (rests fs k f p shut)

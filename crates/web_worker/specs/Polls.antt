@@ -1,5 +1,5 @@
 -- One poll of one flight among others.
-use Rattle.std.specs.Prelude.{◌≡◌, ℕ, suc, List, Result, ⊤, MatchOption, Some, slice_get, slice_set}
+use Rattle.std.specs.Prelude.{◌≡◌, ℕ, suc, Bool, true, false, List, Result, ⊤, MatchOption, Some, slice_get, slice_set}
 use Rattle.web_request.specs.Feed.{Feed}
 use Rattle.web_request.specs.Pool.{Pool}
 use Rattle.web_request.specs.Request.{Request}
@@ -11,10 +11,11 @@ use Rattle.web_worker.specs.Answers.{Rules}
 use Rattle.web_worker.specs.Flights.{FlightGives, Moves}
 use Rattle.web_worker.specs.Pooled.{Makes}
 
-abbrev pub IsOpen : {S L D C F : Type 0} → FlightView S L D C F → Type 0
-IsOpen (Waiting x) = ⊤
-IsOpen (Extracting h) = ⊤
-IsOpen (Answered o) = ⊥
+-- a flight that is not answered
+abbrev pub is_open : {S L D C F : Type 0} → FlightView S L D C F → Bool
+is_open (Waiting x) = true
+is_open (Extracting h) = true
+is_open (Answered o) = false
 
 module _ {S L D C V E F : Type 0} (R : Rules L D C V E) (request : Asked S L D C → Request L D C) (feed : S → Feed) (gives : F → ℕ → Result V E → Type 0) where
   -- the flight of this number makes its move, and the others stay; a number that names no flight changes nothing
@@ -36,5 +37,5 @@ module _ {S L D C V E F : Type 0} (R : Rules L D C V E) (request : Asked S L D C
 
   -- the effect of a poll of an unanswered flight, where its promises allow one delay and one reply
   abbrev pub EffectAt : ℕ → List (FlightView S L D C F) → List (FlightView S L D C F) → Type 0
-  EffectAt k old new = (f : FlightView S L D C F) (d : ℕ) (r : Reply) → slice_get old k ≡ Some f → IsOpen f → Remains f d r
+  EffectAt k old new = (f : FlightView S L D C F) (d : ℕ) (r : Reply) → slice_get old k ≡ Some f → is_open f ≡ true → Remains f d r
       → (g : FlightView S L D C F) × (slice_get new k ≡ Some g) × Effect d r g

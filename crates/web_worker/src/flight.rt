@@ -53,6 +53,7 @@ impl<A: App> Flight<A> {
     ghost use Rattle.web_request.specs.Pool.{Pool};
     ghost use Rattle.web_body.specs.Collecting.{body_gives};
     ghost use Rattle.web_worker.specs.Flown.{Lands};
+    ghost use Rattle.web_worker.specs.Polls.{is_open};
     ghost use Rattle.web_worker.specs.Pooled.{KeepsNone};
     ghost use Rattle.web_worker.specs.Replies.{bytes_rules, request_of};
 
@@ -62,6 +63,16 @@ impl<A: App> Flight<A> {
     {
         Flight {
             stage: Stage::Waiting(exchange),
+        }
+    }
+
+    /// Whether it is unanswered, so that a poll goes on with it.
+    pub(crate) fn is_open(&self) -> bool
+        ensures { result ≡ is_open self.now }
+    {
+        match &self.stage {
+            Stage::Waiting(_) | Stage::Extracting(_) => true,
+            Stage::Answered(_) => false,
         }
     }
 

@@ -99,6 +99,7 @@ fn take_off<A: App>(
 }
 
 /// One poll of a flight.
+#[inline(never)]
 fn advance<A: App>(alloc: Global, pool: &mut HttpRequestPool<A>, flight: Flight<A>) -> Flight<A>
     requires none_kept { KeepsNone pool.old }
     requires room { pool.old.made + may_make (Some flight) < 2 ^ 64 }
@@ -128,8 +129,10 @@ fn poll_at<A: App>(
 {
     if k < flights.len() {
         let place = &mut flights[k];
-        let flight = mem::replace(place, Flight::lost());
-        *place = advance(alloc, pool, flight);
+        if place.is_open() {
+            let flight = mem::replace(place, Flight::lost());
+            *place = advance(alloc, pool, flight);
+        }
     }
 }
 
