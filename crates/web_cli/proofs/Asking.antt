@@ -1,16 +1,12 @@
 -- The exchanges that a script asks for, one by one.
-use Rattle.std.proofs.Common.{◌≡◌, ◌≤◌, ℕ, Bool, true, List, [], ◌∷◌, ◌++◌, map, length, refl, ap, arith, length-append}
-use Rattle.std.specs.List.{AllPass, flat_map}
+use Rattle.std.proofs.Common.{◌≡◌, List, [], ◌∷◌, ◌++◌, map, length, refl, arith}
+use Rattle.std.specs.List.{All}
 use Rattle.std.proofs.lemmas.List.{map_push}
 use Rattle.std.proofs.lemmas.List.Elements.{All-head, All-tail}
 
-pub passes_at : {X : Type 0} (p : X → Bool) (front more : List X) (e : X) → AllPass p (front ++ e ∷ more) → p e ≡ true
-passes_at p [] more e h = All-head (λ x. p x ≡ true) e more h
-passes_at p (x ∷ front) more e h = passes_at p front more e (All-tail (λ y. p y ≡ true) x (front ++ e ∷ more) h)
-
-pub part_at : {X : Type 0} (f : X → List ℕ) (front more : List X) (e : X) → length (f e) ≤ length (flat_map f (front ++ e ∷ more))
-part_at f [] more e = omega (arith, length-append (f e) (flat_map f more))
-part_at f (x ∷ front) more e = omega (arith, length-append (f x) (flat_map f (front ++ e ∷ more)), part_at f front more e)
+pub holds_at : {X : Type 0} (P : X → Type 0) (front more : List X) (e : X) → All P (front ++ e ∷ more) → P e
+holds_at P [] more e h = All-head P e more h
+holds_at P (x ∷ front) more e h = holds_at P front more e (All-tail P x (front ++ e ∷ more) h)
 
 pub map_more : {X Y Z : Type 0} (f : X → Z) (g : Y → Z) (xs : List X) (ys : List Y) (x : X) (y : Y) → map f xs ≡ map g ys → f x ≡ g y → map f (xs ++ x ∷ []) ≡ map g (ys ++ y ∷ [])
 map_more f g xs ys x y e h = rw (map_push f xs x, map_push g ys y, e, h) refl

@@ -1,6 +1,6 @@
 //! The application of the program.
 ghost use Rattle.std.specs.Prelude.{◌≡◌, ◌<◌, ◌^◌, [], true, length, map, IfOk};
-ghost use Rattle.std.specs.List.{AllPass, flat_map};
+ghost use Rattle.std.specs.List.{All, AllPass};
 ghost use Rattle.web_request.specs.Body.{is_body, joined};
 ghost use Rattle.web_cli.specs.Demo.{bodies_of};
 ghost use Rattle.web_body.specs.Bodies.{marks_feed};
@@ -101,7 +101,7 @@ pub(crate) fn exchanges(
     asked: Vec<ScriptedExchange>,
 ) -> Result<Vec<Exchange<Demo>>, NoMemory>
     requires bodies { AllPass (λ e. is_body e.marks) asked.items }
-    requires small { length (flat_map (λ e. joined e.marks) asked.items) < 2 ^ 63 }
+    requires small { All (λ e. length (joined e.marks) < 2 ^ 63) asked.items }
     ensures { IfOk result (λ xs. map (λ x. x.body) xs.items ≡ bodies_of asked.items) }
 {
     let mut exchanges = Vec::with_capacity(alloc, asked.len())?;

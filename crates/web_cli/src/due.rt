@@ -1,6 +1,6 @@
 //! What is due for a script.
 ghost use Rattle.std.specs.Prelude.{◌≡◌, ◌<◌, ◌^◌, length, IfOk};
-ghost use Rattle.std.specs.List.{AllPass, flat_map, list_any};
+ghost use Rattle.std.specs.List.{All, AllPass, list_any};
 ghost use Rattle.web_request.specs.Body.{is_body, joined};
 ghost use Rattle.web_worker.specs.Served.{lacks_memory};
 ghost use Rattle.web_cli.specs.Due.{IsDue, replies_to};
@@ -33,7 +33,7 @@ fn is_lost(outcomes: &[Outcome]) -> bool
 /// Serves a script, and gives the text of its replies. Want of memory of one exchange is want of memory of all.
 fn replies(alloc: Global, script: Script) -> Result<Vec<u8>, NoMemory>
     requires bodies { AllPass (λ e. is_body e.marks) script.exchanges }
-    requires small { length (flat_map (λ e. joined e.marks) script.exchanges) < 2 ^ 63 }
+    requires small { All (λ e. length (joined e.marks) < 2 ^ 63) script.exchanges }
     ensures { IfOk result (λ text. text.items ≡ replies_to script) }
 {
     let Script {

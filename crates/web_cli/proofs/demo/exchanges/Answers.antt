@@ -1,21 +1,19 @@
-use Rattle.std.proofs.Common.{◌≡◌, ◌++◌, ◌∷◌, ◌∙◌, [], append-nil, append_assoc, arith, ap, sym, subst, length, List}
-use Rattle.std.specs.List.{AllPass, flat_map}
+use Rattle.std.proofs.Common.{◌≡◌, ◌<◌, ◌^◌, ◌++◌, ◌∷◌, ◌∙◌, [], append-nil, append_assoc, ap, sym, length, true}
 use Rattle.web_request.specs.Body.{is_body, joined}
 use Rattle.web_cli.specs.Asked.{Asked}
 use Rattle.web_cli.specs.Demo.{bodies_of}
-use Rattle.web_cli.proofs.Asking.{map_more, no_items, part_at, passes_at}
+use Rattle.web_cli.proofs.Asking.{holds_at, map_more, no_items}
 use Rattle.web_cli.proofs.demo.exchanges.Goals as goal
 
 pub exchange-requires-clause-small : goal.exchange-requires-clause-small
 exchange-requires-clause-small c =
     let all = rw c.in-Some.ensures.steps.0 at c.loop-one.invariant.rest in
-    let part = rw all at (part_at (λ (e : Asked). joined e.marks) c.loop-one.yielded c.next.new.self.rest.items c.in-Some.one) in
-    omega (arith, part, c.requires.small)
+    holds_at (λ (e : Asked). length (joined e.marks) < 2 ^ 63) c.loop-one.yielded c.next.new.self.rest.items c.in-Some.one (rw all c.requires.small)
 
 pub exchange-requires-clause-body : goal.exchange-requires-clause-body
 exchange-requires-clause-body c =
     let all = rw c.in-Some.ensures.steps.0 at c.loop-one.invariant.rest in
-    passes_at (λ (e : Asked). is_body e.marks) c.loop-one.yielded c.next.new.self.rest.items c.in-Some.one (rw all c.requires.bodies)
+    holds_at (λ (e : Asked). is_body e.marks ≡ true) c.loop-one.yielded c.next.new.self.rest.items c.in-Some.one (rw all c.requires.bodies)
 
 pub loop-one-preserved : goal.loop-one-preserved
 loop-one-preserved c = record {
