@@ -1,6 +1,6 @@
 -- From the outcomes of the exchanges that a script asks for to the text of its replies.
-use Rattle.std.proofs.Common.{◌≡◌, ℕ, suc, ◌+◌, ◌<◌, Bool, true, false, List, [], ◌∷◌, map, refl, ap, sym, ◌∙◌, subst, ◌⊎◌, inl, inr, add-one, Global}
-use Rattle.std.specs.Prelude.{Option, Some, Result, Vec, IfOk, MatchOption, ⊤}
+use Rattle.std.proofs.Common.{◌≡◌, ℕ, suc, true, false, List, [], ◌∷◌, map, refl, subst, inl, inr, add-one, Global}
+use Rattle.std.specs.Prelude.{Result, Vec, IfOk, MatchOption, ⊤}
 use Rattle.std.specs.List.{enumerate_from, list_any}
 use Rattle.web_texts.proofs.Blocks.{or_false}
 use Rattle.web_request.specs.declared.source.Mark.{Mark}
@@ -10,7 +10,6 @@ use Rattle.web_body.specs.declared.payload.Payload.{Payload}
 use Rattle.web_body.specs.declared.payload.Payload.TheVariants as payload
 use Rattle.web_body.specs.Payload.{payload_feed}
 use Rattle.web_worker.specs.declared.outcome.Outcome.{Outcome}
-use Rattle.web_worker.specs.declared.outcome.Outcome.TheVariants as outcome
 use Rattle.web_worker.specs.Exchanges.{Asked as Exchanged}
 use Rattle.web_worker.specs.Function.{IsOutcome, EachServed, delay_of, reply_of}
 use Rattle.web_worker.specs.Served.{polls, EachFrom, outcome_of, named_from, named, lacks_memory}

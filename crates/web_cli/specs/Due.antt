@@ -1,5 +1,5 @@
 -- The text that is due for a script.
-use Rattle.std.specs.Prelude.{◌≡◌, ℕ, Bool, true, false, List, [], ◌∷◌, ◌++◌, length, codes, map, nat_lt, if◌then◌else◌}
+use Rattle.std.specs.Prelude.{◌≡◌, ℕ, Bool, true, false, List, [], ◌++◌, length, codes, map, nat_lt, if◌then◌else◌}
 use Rattle.std.specs.List.{enumerate_from}
 use Rattle.web_worker.specs.declared.outcome.Outcome.{Outcome}
 use Rattle.web_worker.specs.Function.{delay_of, reply_of}

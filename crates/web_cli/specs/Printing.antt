@@ -1,5 +1,5 @@
 -- The text of what became of the exchanges.
-use Rattle.std.specs.Prelude.{ℕ, ◌==◌, ◌&&◌, Bool, List, [], ◌∷◌, ◌++◌, length, codes, flat_map, nat_le, decimal, if◌then◌else◌}
+use Rattle.std.specs.Prelude.{ℕ, ◌==◌, ◌&&◌, Bool, List, [], ◌++◌, length, codes, flat_map, nat_le, decimal, if◌then◌else◌}
 use Rattle.std.specs.List.{enumerate_from, list_all}
 use Rattle.hex.specs.Hex.{encode_lower}
 use Rattle.web_extract.specs.Bare.{Reply}

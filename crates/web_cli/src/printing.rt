@@ -84,7 +84,13 @@ fn put_reply(alloc: Global, out: &mut Vec<u8>, reply: &Bare) -> Result<(), NoMem
     ensures { OnOk result (out.new.items ≡ out.old.items ++ reply_text reply.now) }
 {
     let status = reply.status.as_u16();
-    put_parts(alloc, out, status, reply.content_type, reply.body.as_slice())
+    put_parts(
+        alloc,
+        out,
+        status,
+        reply.content_type,
+        reply.body.as_slice(),
+    )
 }
 
 fn put_outcome(alloc: Global, out: &mut Vec<u8>, outcome: &Outcome) -> Result<(), NoMemory>

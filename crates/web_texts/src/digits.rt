@@ -2,13 +2,14 @@
 ghost use Rattle.std.specs.Prelude.{◌≡◌, ◌≤◌, IfSome};
 ghost use Rattle.web_texts.specs.Digits.{digits_up_to};
 
-/// The number that the text's digits say, if it is at most `max`. Leading zeros are read, signs are not.
+/// The number that a text of digits alone says, if it is at most `max`. Leading zeros are read, signs are not.
 pub fn read_digits(text: &str, max: u64) -> Option<u64>
     ensures { result ≡ digits_up_to max text.now }
 {
     number_of(text.as_bytes(), max)
 }
 
+/// As `read_digits`, of bytes.
 pub fn number_of(text: &[u8], max: u64) -> Option<u64>
     ensures value { result ≡ digits_up_to max text.now }
     ensures most { IfSome result (λ n. n ≤ max) }

@@ -1,11 +1,13 @@
 //! Lists.
-ghost use Rattle.std.specs.Prelude.{◌≡◌, ◌++◌, ◌∷◌, [], OnOk};
+ghost use Rattle.std.specs.Prelude.{◌≡◌, ◌++◌, ◌∷◌, [], IfErr, OnErr, OnOk};
 
 use std::alloc::AllocFailed;
 use std::cmp::Ordering;
 use std::hash::{Hash, Hasher};
 use std::marker::Model;
 
+/// A list, which contracts see as a list. Where a type of this repository is compared, ordered or hashed by its lists, it
+/// holds this in place of a `Vec`.
 #[derive(Debug, Drop)]
 pub struct Items<T> {
     items: Vec<T>,
@@ -23,6 +25,7 @@ impl<T> Model for Items<T> {
 }
 
 impl<T> Items<T> {
+    /// The list of these items. It takes no memory, and neither does `into_vec`.
     pub fn of(items: Vec<T>) -> Self
         ensures { result ≡ items.items }
     {
@@ -42,8 +45,11 @@ impl<T> Items<T> {
         self.items.as_slice()
     }
 
+    /// Puts an item at the end. Where memory is wanting, the item comes back and the list is as before.
     pub fn push(&mut self, item: T) -> Result<(), AllocFailed<T>>
-        ensures { OnOk result (self.new ≡ self.old ++ item ∷ []) }
+        ensures ok { OnOk result (self.new ≡ self.old ++ item ∷ []) }
+        ensures err { IfErr result (λ refused. refused.value ≡ item) }
+        ensures kept { OnErr result (self.new ≡ self.old) }
     {
         self.items.push(item)
     }

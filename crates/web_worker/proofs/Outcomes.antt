@@ -1,20 +1,17 @@
 -- From what the promises allow to the one outcome of each exchange.
-use Rattle.std.proofs.Common.{◌≡◌, ℕ, suc, ◌<◌, ◌≤◌, Bool, true, false, cond, List, [], ◌∷◌, nat_lt, refl, sym, ◌∙◌, ap, arith, subst, ◌⊎◌, inl, inr}
-use Rattle.std.specs.Prelude.{Option, None, Some, Result, ⊤, MatchOption}
+use Rattle.std.proofs.Common.{◌≡◌, ℕ, suc, ◌<◌, Bool, true, false, cond, List, [], ◌∷◌, nat_lt, refl, ◌∙◌, ap, arith, subst, inl, inr}
+use Rattle.std.specs.Prelude.{Option, None, Some, ⊤, MatchOption}
 use Rattle.std.proofs.lemmas.Bool.{ltb-true}
 use Rattle.std.proofs.lemmas.Bool.Decides.{nat_tests}
 use Rattle.web_request.specs.declared.source.Mark.{Mark}
 use Rattle.web_request.specs.Feed.{Feed}
-use Rattle.web_request.specs.Reading.{reading}
 use Rattle.web_request.specs.Request.{Request}
-use Rattle.web_body.specs.Collecting.{answer_of}
 use Rattle.web_body.specs.Payload.{payload_feed}
 use Rattle.web_extract.specs.Bare.{Reply}
 use Rattle.web_worker.specs.declared.outcome.Outcome.{Outcome}
 use Rattle.web_worker.specs.declared.outcome.Outcome.TheVariants as outcome
 use Rattle.web_worker.specs.Exchanges.{Asked}
-use Rattle.web_worker.specs.Answers.{Rules, Replies, RepliesBefore}
-use Rattle.web_worker.specs.Flights.{ExchangeGives, ExchangeBefore}
+use Rattle.web_worker.specs.Answers.{Replies, RepliesBefore}
 use Rattle.web_worker.specs.Function.{delay_of, reply_of, IsOutcome, EachServed}
 use Rattle.web_worker.specs.Replies.{bytes_rules, reply_to}
 use Rattle.web_worker.specs.Served.{polls, EachFrom, outcome_of, Allowed, Served}

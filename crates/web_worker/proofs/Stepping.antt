@@ -1,10 +1,10 @@
 -- The flights of a plan, poll by poll.
-use Rattle.std.proofs.Common.{◌≡◌, ℕ, zero, suc, ◌+◌, ◌<◌, ◌≤◌, ◌≢◌, true, false, length, List, [], ◌∷◌, ◌++◌, map, refl, sym, ◌∙◌, ap, arith, subst, ◌⊎◌, inl, inr}
+use Rattle.std.proofs.Common.{◌≡◌, ℕ, zero, suc, ◌+◌, ◌<◌, ◌≤◌, ◌≢◌, true, false, length, List, [], ◌∷◌, ◌++◌, map, refl, sym, ap, arith, subst, inl, inr}
 use Rattle.std.specs.Prelude.{Option, None, Some, Result, ⊤, MatchOption, slice_get, slice_index_or, slice_set}
 use Rattle.web_request.specs.declared.source.Mark.{Mark}
 use Rattle.web_request.specs.Feed.{Feed}
 use Rattle.web_request.specs.Pool.{Pool}
-use Rattle.web_request.specs.Request.{Record, Request}
+use Rattle.web_request.specs.Request.{Request}
 use Rattle.web_body.specs.Payload.{payload_feed}
 use Rattle.web_body.specs.Polled.{GivesSome}
 use Rattle.web_extract.specs.Bare.{Reply}

@@ -1,5 +1,5 @@
 -- What is seen of an exchange, and of one that is under way.
-use Rattle.web_request.specs.Request.{Parts, Record, Request}
+use Rattle.web_request.specs.Request.{Parts, Record}
 use Rattle.web_body.specs.declared.payload.Payload.{Payload}
 use Rattle.web_worker.specs.declared.flight.Stage.{Stage}
 

@@ -5,7 +5,6 @@ use Rattle.web_request.specs.Request.{Request}
 use Rattle.web_body.specs.Payload.{payload_feed}
 use Rattle.web_body.specs.Polled.{GivesSome}
 use Rattle.web_extract.specs.Bare.{Reply}
-use Rattle.web_worker.specs.declared.outcome.Outcome.{Outcome}
 use Rattle.web_worker.specs.declared.outcome.Outcome.TheVariants as outcome
 use Rattle.web_worker.specs.declared.flight.Stage.TheVariants.{Waiting, Extracting, Answered}
 use Rattle.web_worker.specs.Exchanges.{Asked, FlightView}

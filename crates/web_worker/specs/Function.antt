@@ -1,9 +1,8 @@
 -- Where the promises allow one answer, the outcome is a function of the exchange and of its number of polls.
-use Rattle.std.specs.Prelude.{◌≡◌, ℕ, ◌<◌, List, MatchOption, ◌⊎◌, ⊤}
+use Rattle.std.specs.Prelude.{◌≡◌, ℕ, List, MatchOption, ◌⊎◌, ⊤}
 use Rattle.web_request.specs.declared.source.Mark.{Mark}
 use Rattle.web_request.specs.Feed.{Feed}
 use Rattle.web_request.specs.Reading.{reading}
-use Rattle.web_request.specs.Request.{Request}
 use Rattle.web_body.specs.Payload.{payload_feed}
 use Rattle.web_body.specs.Collecting.{answer_of}
 use Rattle.web_extract.specs.Bare.{Reply}

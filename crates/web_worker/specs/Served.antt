@@ -1,5 +1,5 @@
 -- What a whole plan makes of the exchanges.
-use Rattle.std.specs.Prelude.{◌≡◌, ◌==◌, ℕ, suc, ◌+◌, ◌<◌, ◌≤◌, List, [], ◌∷◌, map, Option, None, Some, Result, Bool, true, false, ⊤, cond, ◌⊎◌, nat_lt}
+use Rattle.std.specs.Prelude.{◌≡◌, ◌==◌, ℕ, suc, ◌+◌, ◌<◌, ◌≤◌, List, [], ◌∷◌, Bool, true, false, ⊤, cond, ◌⊎◌, nat_lt}
 use Rattle.std.specs.List.{list_any}
 use Rattle.web_request.specs.Feed.{Feed}
 use Rattle.web_request.specs.Pool.{Pool}

@@ -1,10 +1,7 @@
-use Rattle.std.proofs.Common.{◌≡◌, ℕ, ◌+◌, ◌∙◌, [], List, ap, arith, sym, false}
+use Rattle.std.proofs.Common.{◌≡◌, ◌∙◌, ap, arith, sym, false}
 use Rattle.std.specs.List.{list_any}
-use Rattle.web_body.specs.Bodies.{marks_feed}
-use Rattle.web_body.specs.declared.payload.Payload.TheVariants as payload
 use Rattle.web_request.specs.Pool.{Pool}
-use Rattle.web_worker.specs.Served.{lacks_memory, named}
-use Rattle.web_cli.specs.Asked.{Asked}
+use Rattle.web_worker.specs.Served.{lacks_memory}
 use Rattle.web_cli.proofs.Replying.{named_same, outcomes_are, replied}
 use Rattle.web_cli.proofs.due.replies.Goals as goal
 
@@ -18,9 +15,9 @@ returns c =
     let made = c.made.ensures ∙ ap (λ (p : Pool _). p.made) c.pool-pool.ensures.pool ∙ records.exact some in
     let named_all = named_same _ _ plan c.in_ok-exchanges.exchanges.items c.script.inside.exchanges.items bodies in
     rw (← c.script.view_is) (
-      replied c.printed.result (record { exchanges = c.script.inside.exchanges.items; plan = plan }) c.deref-3.result.now c.serials.result.now c.made.result
-          (c.deref-3.ensures.value ∙ outcomes_are plan c.in_ok-exchanges.exchanges.items c.script.inside.exchanges.items c.in-Ok.outcomes.items served bodies some)
-          (c.serials.ensures.numbers ∙ ap (λ (p : Pool _). p.serials) c.pool-pool.ensures.pool ∙ ap (λ (p : Pool _). p.serials) records.rest ∙ c.in_ok-worker.ensures.none_kept)
-          (omega (arith, made, named_all, c.in_ok-worker.ensures.none_made))
-          c.printed.ensures
+    replied c.printed.result (record { exchanges = c.script.inside.exchanges.items; plan = plan }) c.deref-3.result.now c.serials.result.now c.made.result
+    (c.deref-3.ensures.value ∙ outcomes_are plan c.in_ok-exchanges.exchanges.items c.script.inside.exchanges.items c.in-Ok.outcomes.items served bodies some)
+    (c.serials.ensures.numbers ∙ ap (λ (p : Pool _). p.serials) c.pool-pool.ensures.pool ∙ ap (λ (p : Pool _). p.serials) records.rest ∙ c.in_ok-worker.ensures.none_kept)
+    (omega (arith, made, named_all, c.in_ok-worker.ensures.none_made))
+    c.printed.ensures
     )

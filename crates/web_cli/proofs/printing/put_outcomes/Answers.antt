@@ -1,5 +1,4 @@
-use Rattle.std.proofs.Common.{◌++◌, append_assoc}
-use Rattle.std.specs.List.{flat_map, enumerate_from}
+use Rattle.std.proofs.Common.{append_assoc}
 use Rattle.web_texts.proofs.Numbered.{numbered_more}
 use Rattle.web_cli.specs.Printing.{exchange_text}
 use Rattle.web_cli.proofs.printing.put_outcomes.Goals as goal

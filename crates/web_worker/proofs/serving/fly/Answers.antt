@@ -1,4 +1,4 @@
-use Rattle.std.proofs.Common.{ℕ, ◌+◌, ◌<◌, ◌≤◌, arith, refl, take, slice_index_or, subst, sym}
+use Rattle.std.proofs.Common.{ℕ, arith, take, slice_index_or}
 use Rattle.std.proofs.lemmas.List.{take_more}
 use Rattle.web_body.specs.Collecting.{body_gives}
 use Rattle.web_worker.specs.Pooled.{having_made}

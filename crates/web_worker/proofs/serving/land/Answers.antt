@@ -1,4 +1,4 @@
-use Rattle.std.proofs.Common.{rules, ◌≡◌, ◌++◌, ◌∙◌, [], ◌∷◌, arith, ap, append-nil, length, refl, subst, sym, List}
+use Rattle.std.proofs.Common.{◌≡◌, ◌++◌, ◌∙◌, [], ◌∷◌, arith, ap, append-nil, length, refl, subst, sym, List}
 use Rattle.std.proofs.lemmas.Grind.{common_steps}
 use Rattle.web_body.specs.Collecting.{body_gives}
 use Rattle.web_worker.specs.Flown.{Lands, Landed}

@@ -1,4 +1,4 @@
-use Rattle.std.proofs.Common.{◌≡◌, ◌+◌, ◌<◌, ◌++◌, ◌∙◌, List, take, drop, length, arith, subst, sym}
+use Rattle.std.proofs.Common.{◌≡◌, ◌++◌, ◌∙◌, List, take, drop, length, arith, subst, sym}
 use Rattle.std.proofs.Math.Seq.{take-append_seam}
 use Rattle.web_body.specs.Collecting.{body_gives}
 use Rattle.web_request.specs.Pool.{Pool}
