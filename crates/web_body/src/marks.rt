@@ -1,16 +1,18 @@
 //! Bodies in memory, cut into pieces as a script says.
-ghost use Rattle.std.specs.Prelude.{◌≡◌, ◌<◌, ◌^◌, true, length};
+ghost use Rattle.std.specs.Prelude.{◌≡◌, ◌<◌, ◌^◌, ◌++◌, [], true, length};
+ghost use Rattle.std.specs.Option.{IfNone, option_to_list};
 ghost use Rattle.web_request.specs.Body.{is_body, joined};
-ghost use Rattle.web_body.specs.Bodies.{marks_feed};
+ghost use Rattle.web_body.specs.Bodies.{is_empty_piece, without_empty, marks_feed};
 
 use std::collections::VecDeque;
 use std::marker::Model;
 use web_request::{Mark, Source, Turn};
 
-/// A body in memory that gives its marks, one at each call, and takes no memory. It tells its marks.
+/// A body in memory that gives its marks, one at each call, and takes no memory. It skips empty pieces, and tells the
+/// other marks.
 ///
-/// Contracts see it as the marks that are left and the counts of what it gave. The counts of stalls and of faults stay at
-/// the last value of a `u64` once they stand there.
+/// Contracts see it as the marks that are left, without empty pieces, and the counts of what it gave. The counts of stalls
+/// and of faults stay at the last value of a `u64` once they stand there.
 #[derive(Drop)]
 pub struct Marks {
     left: VecDeque<Mark>,
@@ -23,18 +25,20 @@ impl Model for Marks {
     ghost use Rattle.std.specs.Prelude.{◌≡◌, ◌+◌, ◌<◌, ◌^◌, Some, true, length};
     ghost use Rattle.web_request.specs.Body.{is_body, joined};
     ghost use Rattle.web_request.specs.Feed.{Feed};
+    ghost use Rattle.web_body.specs.Bodies.{without_empty};
 
     ghost Value = { Feed };
 
-    ghost view = { λ m. record { marks = Some m.left.items; faults = m.faults; stalls = m.stalls; given = m.given; answers = length m.left.items } };
+    ghost view = { λ m. record { marks = Some (without_empty m.left.items); faults = m.faults; stalls = m.stalls; given = m.given; answers = length (without_empty m.left.items) } };
 
-    ghost invariant = { λ m. (is_body m.left.items ≡ true) × (m.given + length (joined m.left.items) < 2 ^ 63) };
+    ghost invariant = { λ m. (is_body (without_empty m.left.items) ≡ true) × (m.given + length (joined (without_empty m.left.items)) < 2 ^ 63) };
 }
 
 impl Marks {
-    /// The body of these marks, of which nothing was given yet.
+    /// The body of these marks, of which nothing was given yet. By condition nothing but empty pieces stands behind a
+    /// fault, and the pieces total below 2^63 bytes.
     pub fn new(marks: Vec<Mark>) -> Marks
-        requires body { is_body marks.items ≡ true }
+        requires body { is_body (without_empty marks.items) ≡ true }
         requires small { length (joined marks.items) < 2 ^ 63 }
         ensures { result ≡ marks_feed marks.items }
     {
@@ -51,7 +55,7 @@ impl Source for Marks {
     ghost feed = { λ m. m };
 
     fn next(&mut self) -> Turn {
-        match self.left.pop_front() {
+        match pop_nonempty(&mut self.left) {
             Some(Mark::Piece(bytes)) => {
                 self.given += bytes.len() as u64;
                 Turn::Piece(bytes)
@@ -66,5 +70,28 @@ impl Source for Marks {
             }
             None => Turn::End,
         }
+    }
+}
+
+/// Takes the first mark that is no empty piece, and the empty pieces before it.
+fn pop_nonempty(left: &mut VecDeque<Mark>) -> Option<Mark>
+    ensures first { without_empty left.old.items ≡ option_to_list result ++ without_empty left.new.items }
+    ensures none { IfNone result (left.new.items ≡ []) }
+{
+    while let Some(mark) = left.pop_front() {
+        if !is_empty_piece(&mark) {
+            return Some(mark);
+        }
+    }
+    None
+}
+
+fn is_empty_piece(mark: &Mark) -> bool
+    ensures { result ≡ is_empty_piece mark.now }
+{
+    match mark {
+        Mark::Piece(bytes) => bytes.is_empty(),
+        Mark::Stall => false,
+        Mark::Fault => false,
     }
 }

@@ -66,6 +66,7 @@ impl<S> Model for HttpMessageBody<S> {
 impl<S: Source> HttpMessageBody<S> {
     /// Takes the payload of a request, to be collected under the default limit. It takes no memory.
     pub fn new<A: App<Source = S>>(
+        _alloc: Global,
         _req: &HttpRequest<A>,
         payload: &mut Payload<S>,
     ) -> HttpMessageBody<S>

@@ -22,7 +22,7 @@ impl<A: App> FromRequest<A> for Bytes {
     ghost some = { λ q m. bytes_some m };
 
     fn from_request(
-        _alloc: Global,
+        alloc: Global,
         req: &HttpRequest<A>,
         payload: &mut Payload<A::Source>,
     ) -> Result<HttpMessageBody<A::Source>, NoMemory>
@@ -33,6 +33,6 @@ impl<A: App> FromRequest<A> for Bytes {
         ensures value { IfOk result (λ f. f ≡ collecting payload.old 262144) }
         ensures taken { payload.new ≡ Payload.None }
     {
-        Ok(HttpMessageBody::new(req, payload))
+        Ok(HttpMessageBody::new(alloc, req, payload))
     }
 }

@@ -9,6 +9,7 @@ pub returns : goal.returns
 returns c =
     let plan = c.script.inside.plan.items in
     let bodies = c.in_ok-exchanges.ensures in
+    let asked = rw (← c.script.view_is) at c.requires.bodies in
     let served = rw c.deref.ensures.value at c.in-Ok.ensures.served in
     let records = rw c.deref.ensures.value at c.in-Ok.ensures.records in
     let some : list_any lacks_memory c.in-Ok.outcomes.items ≡ false = ap (list_any lacks_memory) (sym c.deref-2.ensures.value) ∙ sym c.is_lost.ensures ∙ c.if-is_lost.false in
@@ -16,7 +17,7 @@ returns c =
     let named_all = named_same _ _ plan c.in_ok-exchanges.exchanges.items c.script.inside.exchanges.items bodies in
     rw (← c.script.view_is) (
     replied c.printed.result (record { exchanges = c.script.inside.exchanges.items; plan = plan }) c.deref-3.result.now c.serials.result.now c.made.result
-    (c.deref-3.ensures.value ∙ outcomes_are plan c.in_ok-exchanges.exchanges.items c.script.inside.exchanges.items c.in-Ok.outcomes.items served bodies some)
+    (c.deref-3.ensures.value ∙ outcomes_are plan c.in_ok-exchanges.exchanges.items c.script.inside.exchanges.items c.in-Ok.outcomes.items served bodies asked some)
     (c.serials.ensures.numbers ∙ ap (λ (p : Pool _). p.serials) c.pool-pool.ensures.pool ∙ ap (λ (p : Pool _). p.serials) records.rest ∙ c.in_ok-worker.ensures.none_kept)
     (omega (arith, made, named_all, c.in_ok-worker.ensures.none_made))
     c.printed.ensures
