@@ -1,6 +1,6 @@
 -- From the outcomes of the exchanges that a script asks for to the text of its replies.
-use Rattle.std.proofs.Common.{◌≡◌, ℕ, suc, ◌+◌, ◌<◌, Bool, true, false, List, [], ◌∷◌, map, refl, ap, sym, ◌∙◌, subst, ◌⊎◌, inl, inr, add-one, Global}
-use Rattle.std.specs.Prelude.{Option, Some, Result, Vec, IfOk, MatchOption, ⊤}
+use Rattle.std.proofs.Common.{◌≡◌, ℕ, suc, true, false, List, [], ◌∷◌, map, refl, subst, inl, inr, add-one, Global}
+use Rattle.std.specs.Prelude.{Result, Vec, IfOk, MatchOption, ⊤}
 use Rattle.std.specs.List.{AllPass, enumerate_from, list_any}
 use Rattle.std.proofs.lemmas.List.Elements.{All-head, All-tail}
 use Rattle.web_texts.proofs.Blocks.{or_false}
