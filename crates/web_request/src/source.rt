@@ -7,7 +7,7 @@ use bytes::Bytes;
 /// One mark of a body.
 #[derive(Drop)]
 pub enum Mark {
-    /// Bytes, at least one.
+    /// Bytes of the body.
     Piece(Bytes),
     /// Nothing yet: who asks has to ask again later.
     Stall,
