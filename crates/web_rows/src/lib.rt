@@ -1,0 +1,20 @@
+//! Tests of the whole, and no other code: what each script is answered, inputs and outputs that fail at each call in turn,
+//! words that are no command, and one use of each public function that takes memory.
+//!
+//! The wanted texts are written by hand from what the program promises.
+#![tactic(auto)]
+
+#[cfg(test)]
+mod bodies;
+#[cfg(test)]
+mod ends;
+#[cfg(test)]
+mod records;
+#[cfg(test)]
+mod refusals;
+#[cfg(test)]
+mod replies;
+#[cfg(test)]
+mod texts;
+#[cfg(test)]
+mod workers;

@@ -1,0 +1,125 @@
+//! Workers and scripts, each by itself.
+use crate::bodies::{failing, hello};
+use crate::records::{config, head};
+use bytes::Bytes;
+use http::StatusCode;
+use std::alloc::Global;
+use std::process::Abort;
+use std::rc::Rc;
+use std::test::Fail;
+use web_body::{Marks, Payload};
+use web_cli::{Demo, DemoLayer, Script, Verdict, read_script};
+use web_request::{Mark, NoMemory};
+use web_worker::{Exchange, Flight, Outcome, Worker, poll_one, serve_all};
+
+fn worker(alloc: Global) -> Result<Worker<Demo>, NoMemory> {
+    let root = Rc::new(alloc, DemoLayer)?;
+    Worker::new(alloc, root, config(alloc)?, 0)
+}
+
+fn exchange(alloc: Global, body: Payload<Marks>) -> Result<Exchange<Demo>, NoMemory> {
+    Ok(Exchange {
+        head: head(alloc, "/bytes")?,
+        params: Vec::new(alloc),
+        layers: Vec::new(alloc),
+        conn: None,
+        local: None,
+        body,
+    })
+}
+
+/// `hello` with a stall, `ab` with a fault, and `hello` once more.
+fn exchanges(alloc: Global) -> Result<Vec<Exchange<Demo>>, NoMemory> {
+    let mut exchanges = Vec::new(alloc);
+    for body in [
+        Payload::Stream(Marks::new(hello(alloc)?)),
+        Payload::Stream(Marks::new(failing(alloc)?)),
+        Payload::Whole(Bytes::from_static(b"whole")),
+        Payload::Stream(Marks::new(hello(alloc)?)),
+    ] {
+        exchanges.push(exchange(alloc, body)?)?;
+    }
+    Ok(exchanges)
+}
+
+fn is_reply(outcome: &Outcome, status: StatusCode, body: &[u8]) -> bool {
+    match outcome {
+        Outcome::Reply(reply) => reply.status == status && reply.body.as_slice() == body,
+        Outcome::Unfinished | Outcome::NoMemory => false,
+    }
+}
+
+#[test]
+fn exchanges_are_served_in_the_order_of_the_plan(rt: HostRuntime) -> Result<(), Fail> {
+    let mut worker = worker(rt.alloc())?;
+    let exchanges = exchanges(rt.alloc())?;
+    assert_eq!(rt; exchanges.len(), 4);
+    assert_eq!(rt; worker.pool().made(), 0);
+    let plan = [0, 3, 1, 0, 2, 0, 9];
+    let Ok(outcomes) = serve_all(rt.alloc(), &mut worker, exchanges, &plan) else {
+        panic!(rt; "no memory");
+    };
+    assert_eq!(rt; outcomes.len(), 4);
+    assert!(rt; is_reply(&outcomes[0], StatusCode::OK, b"hello"));
+    assert!(rt;
+        is_reply(
+            &outcomes[1],
+            StatusCode::BAD_REQUEST,
+            b"payload read failed"
+        )
+    );
+    assert!(rt; is_reply(&outcomes[2], StatusCode::OK, b"whole"));
+    assert!(rt; matches!(outcomes[3], Outcome::Unfinished));
+    assert_eq!(rt; worker.pool().made(), 4);
+    assert!(rt; worker.pool().serials().is_empty());
+    Ok(())
+}
+
+#[test]
+fn each_first_poll_makes_one_record(rt: HostRuntime) -> Result<(), Fail> {
+    let mut worker = worker(rt.alloc())?;
+    let mut flights = Vec::new(rt.alloc());
+    for exchange in exchanges(rt.alloc())? {
+        flights.push(Flight::new(exchange))?;
+    }
+    for (place, made) in [(1, 1), (0, 2), (1, 2), (0, 2), (9, 2), (3, 3)] {
+        assert!(rt; worker.pool().made() < 9);
+        poll_one(rt.alloc(), &mut worker, &mut flights, place);
+        assert_eq!(rt; worker.pool().made(), made, "after a poll of {place}");
+    }
+    Ok(())
+}
+
+/// The script that these bytes say.
+fn script_of(rt: &impl Abort, alloc: Global, text: &'static [u8]) -> Result<Script, NoMemory> {
+    match read_script(alloc, Bytes::from_static(text))? {
+        Verdict::Valid(script) => Ok(script),
+        Verdict::Refused => panic!(rt; "refused"),
+    }
+}
+
+fn is_piece(mark: &Mark, want: &[u8]) -> bool {
+    match mark {
+        Mark::Piece(bytes) => bytes.as_slice() == want,
+        Mark::Stall | Mark::Fault => false,
+    }
+}
+
+#[test]
+fn a_script_is_read(rt: HostRuntime) -> Result<(), Fail> {
+    let text =
+        b"exchange POST /bytes\ntext a b\nstall\npiece 6A\nfault\nexchange POST /bytes\nplan 1\nplan 0 7";
+    let script = script_of(&rt, rt.alloc(), text)?;
+    assert!(rt; script.plan.as_slice() == [1, 0, 7].as_slice());
+    assert_eq!(rt; script.exchanges.len(), 2);
+    let marks = script.exchanges[0].marks.as_slice();
+    assert_eq!(rt; marks.len(), 4);
+    assert!(rt; is_piece(&marks[0], b"a b"));
+    assert!(rt; matches!(marks[1], Mark::Stall));
+    assert!(rt; is_piece(&marks[2], b"j"));
+    assert!(rt; matches!(marks[3], Mark::Fault));
+    assert!(rt; script.exchanges[1].marks.is_empty());
+    let refused = read_script(rt.alloc(), Bytes::from_static(b"plan 0\nstall\n"))?;
+    assert!(rt; matches!(refused, Verdict::Refused));
+    Ok(())
+}
