@@ -1,0 +1,50 @@
+-- Responses as plain values, and the replies to errors.
+use Rattle.std.specs.Prelude.{ℕ, List, Option, None, Some, codes}
+use Rattle.web_reply.specs.Bodies.{Plain}
+use Rattle.web_reply.specs.Causes.{cause_status, cause_text}
+use Rattle.web_reply.specs.Heads.{new_head, typed_head}
+use Rattle.web_reply.specs.declared.body.WholeBody.{WholeBody}
+use Rattle.web_reply.specs.declared.body.WholeBody.TheVariants as whole
+use Rattle.web_reply.specs.declared.cause.Cause.{Cause}
+use Rattle.web_reply.specs.declared.head.ResponseHead.{ResponseHead}
+
+-- A response: its head, its body and the cause that it keeps. Headers are the list of names, each with its values. What
+-- of them counts is the values of each name, and their order.
+pub record Reply (B : Type 0) : Type 0 where
+  pub head : ResponseHead
+  pub body : B
+  pub error : Option Cause
+
+-- a response with this body in the place of its own
+abbrev pub with_body : {B C : Type 0} → C → Reply B → Reply C
+with_body body r = record { head = r.head; body = body; error = r.error }
+
+-- the response with its body as a plain value
+abbrev pub plain_reply : {B : Type 0} → (B → Plain) → Reply B → Reply Plain
+plain_reply plain r = with_body (plain r.body) r
+
+-- of this status and body, HTTP/1.1 and no headers
+abbrev pub bare_reply : {B : Type 0} → ℕ → B → Reply B
+bare_reply status body = record { head = new_head status; body = body; error = None }
+
+-- of this status, content type and body, HTTP/1.1 and no further header
+abbrev pub typed_reply : {B : Type 0} → ℕ → List ℕ → B → Reply B
+typed_reply status content_type body = record { head = typed_head status content_type; body = body; error = None }
+
+abbrev pub plain_text : List ℕ
+plain_text = codes "text/plain; charset=utf-8"
+
+-- the reply of a cause
+abbrev pub default_reply : Cause → Reply WholeBody
+default_reply cause = typed_reply (cause_status cause) plain_text (whole.Bytes (cause_text cause))
+
+-- an error
+pub record Fault : Type 0 where
+  pub cause : Cause
+
+abbrev pub fault_of : Cause → Fault
+fault_of cause = record { cause = cause }
+
+-- the reply of an error, which keeps the cause
+abbrev pub error_reply : Fault → Reply WholeBody
+error_reply e = record (default_reply e.cause) { error = Some e.cause }

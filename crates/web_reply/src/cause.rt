@@ -1,0 +1,87 @@
+//! Why a reply is an error.
+
+use http::StatusCode;
+use std::fmt;
+use web_body::PayloadError;
+use web_texts::Text;
+
+/// Why a header was refused.
+#[derive(Clone, Copy, Debug, PartialEq, Eq)]
+pub enum HttpError {
+    /// The text is no header name (RFC 9110, section 5.1).
+    Name,
+    /// The text is no header value (RFC 9110, section 5.5).
+    Value,
+    /// The header map is full.
+    MaxSize,
+}
+
+/// What kind of fault input or output had.
+#[derive(Clone, Copy, Debug, PartialEq, Eq)]
+pub enum IoKind {
+    NotFound,
+    PermissionDenied,
+    Other,
+}
+
+/// Why a reply is an error. It decides the status and the text of the reply.
+#[derive(Debug, Drop)]
+pub enum Cause {
+    /// A body could not be collected: 413 for `Overflow`, else 400.
+    Payload(PayloadError),
+    /// A header was refused: 500.
+    Http(HttpError),
+    /// Bytes are not UTF-8: 400.
+    Utf8,
+    /// Input or output failed: 404 for `NotFound`, 403 for `PermissionDenied`, else 500.
+    Io(IoKind),
+    /// A cause of the application, with a status and a text of its own.
+    Custom { status: StatusCode, text: Text },
+}
+
+impl fmt::Display for HttpError {
+    ghost use Rattle.std.specs.Prelude.{Some};
+    ghost use Rattle.web_reply.specs.Causes.{http_text};
+
+    ghost output = { λ e. Some (http_text e) };
+
+    fn fmt<W: fmt::Write>(&self, f: &mut fmt::Formatter<W>) -> fmt::Result {
+        f.write_str(match self {
+            HttpError::Name => "invalid header name",
+            HttpError::Value => "invalid header value",
+            HttpError::MaxSize => "too many headers",
+        })
+    }
+}
+
+impl fmt::Display for IoKind {
+    ghost use Rattle.std.specs.Prelude.{Some};
+    ghost use Rattle.web_reply.specs.Causes.{io_text};
+
+    ghost output = { λ e. Some (io_text e) };
+
+    fn fmt<W: fmt::Write>(&self, f: &mut fmt::Formatter<W>) -> fmt::Result {
+        f.write_str(match self {
+            IoKind::NotFound => "not found",
+            IoKind::PermissionDenied => "permission denied",
+            IoKind::Other => "input or output failed",
+        })
+    }
+}
+
+impl fmt::Display for Cause {
+    ghost use Rattle.std.specs.Prelude.{Some};
+    ghost use Rattle.web_reply.specs.Causes.{cause_text};
+
+    ghost output = { λ c. Some (cause_text c) };
+
+    fn fmt<W: fmt::Write>(&self, f: &mut fmt::Formatter<W>) -> fmt::Result {
+        match self {
+            Cause::Payload(fault) => write!(f, "{fault}"),
+            Cause::Http(fault) => write!(f, "{fault}"),
+            Cause::Utf8 => f.write_str("invalid UTF-8"),
+            Cause::Io(kind) => write!(f, "{kind}"),
+            Cause::Custom { status: _, text } => f.write_str(text.as_str()),
+        }
+    }
+}

@@ -1,0 +1,33 @@
+//! Answers without content.
+
+use crate::body::WholeBody;
+use crate::error::Error;
+use crate::responder::Responder;
+use crate::response::HttpResponse;
+use http::StatusCode;
+use std::alloc::Global;
+use web_request::{App, HttpRequest};
+use web_texts::NoMemory;
+
+/// What was done, or not. It answers an empty 204 (RFC 9110, section 15.3.5), or the reply to the error.
+#[derive(Debug, Drop)]
+pub struct Done<E>(pub Result<(), E>);
+
+impl<A: App, E: Into<Error> + Drop> Responder<A> for Done<E> {
+    ghost use Rattle.web_reply.specs.Responds.{DoneResponds};
+
+    type Body = WholeBody;
+
+    ghost responds = { λ v q r. DoneResponds E.converts v.0 r };
+
+    fn respond_to(
+        self,
+        alloc: Global,
+        _req: &HttpRequest<A>,
+    ) -> Result<HttpResponse<WholeBody>, NoMemory> {
+        match self.0 {
+            Ok(()) => Ok(HttpResponse::new(alloc, StatusCode::NO_CONTENT)),
+            Err(error) => HttpResponse::from_error(alloc, error.into()),
+        }
+    }
+}

@@ -1,0 +1,168 @@
+//! Errors, which turn into replies.
+ghost use Rattle.std.specs.Prelude.{◌≡◌, ℕ, IfOk, OnOk, OnErr};
+ghost use Rattle.web_reply.specs.Replies.{Fault, Reply};
+ghost use Rattle.web_reply.specs.declared.body.WholeBody.{WholeBody};
+
+use crate::body::WholeBody;
+use crate::cause::{Cause, HttpError, IoKind};
+use crate::response::HttpResponse;
+use crate::typed::{PLAIN_TEXT, typed};
+use bytes::Bytes;
+use http::StatusCode;
+use std::alloc::Global;
+use std::fmt;
+use std::fmt::Display;
+use std::marker::Model;
+use web_body::PayloadError;
+use web_texts::NoMemory;
+
+/// A result whose error turns into a reply.
+pub type Result<T, E = Error> = std::result::Result<T, E>;
+
+/// What turns into the reply to an error.
+pub trait ResponseError: Display {
+    /// The status of its reply.
+    ghost status: { Self → ℕ };
+
+    /// Its reply.
+    ghost reply: { Self → Reply WholeBody };
+
+    /// What it is once its reply was given.
+    ghost after: { Self → Self };
+
+    fn status_code(&self) -> StatusCode
+        ensures { result ≡ status self.now };
+
+    /// Its reply. Where memory is wanting, it stays as it was.
+    fn error_response(&mut self, alloc: Global) -> Result<HttpResponse<WholeBody>, NoMemory>
+        ensures value { IfOk result (λ given. given ≡ reply self.old) }
+        ensures after { OnOk result (self.new ≡ after self.old) }
+        ensures kept { OnErr result (self.new ≡ self.old) };
+}
+
+impl ResponseError for Cause {
+    ghost use Rattle.web_reply.specs.Causes.{cause_status};
+    ghost use Rattle.web_reply.specs.Replies.{default_reply};
+
+    ghost status = { cause_status };
+
+    ghost reply = { default_reply };
+
+    ghost after = { λ cause. cause };
+
+    fn status_code(&self) -> StatusCode {
+        match self {
+            Cause::Payload(PayloadError::Overflow) => StatusCode::PAYLOAD_TOO_LARGE,
+            Cause::Payload(PayloadError::Io) => StatusCode::BAD_REQUEST,
+            Cause::Http(_) => StatusCode::INTERNAL_SERVER_ERROR,
+            Cause::Utf8 => StatusCode::BAD_REQUEST,
+            Cause::Io(IoKind::NotFound) => StatusCode::NOT_FOUND,
+            Cause::Io(IoKind::PermissionDenied) => StatusCode::FORBIDDEN,
+            Cause::Io(IoKind::Other) => StatusCode::INTERNAL_SERVER_ERROR,
+            Cause::Custom { status, text: _ } => *status,
+        }
+    }
+
+    fn error_response(&mut self, alloc: Global) -> Result<HttpResponse<WholeBody>, NoMemory> {
+        let text = self.to_string(alloc)?;
+        typed(
+            alloc,
+            self.status_code(),
+            PLAIN_TEXT,
+            Bytes::from_string(text)?,
+        )
+    }
+}
+
+/// Why there is a reply to an error in the place of the reply that was asked for.
+#[derive(Debug, Drop)]
+pub struct Error {
+    cause: Cause,
+}
+
+impl Model for Error {
+    ghost Value = { Fault };
+
+    ghost view = { λ e. record { cause = e.cause } };
+}
+
+impl Error {
+    pub fn cause(&self) -> &Cause
+        ensures { result.now ≡ self.now.cause }
+    {
+        &self.cause
+    }
+
+    /// The cause, as what turns into the reply.
+    pub fn as_response_error(&self) -> &Cause
+        ensures { result.now ≡ self.now.cause }
+    {
+        &self.cause
+    }
+
+    pub(crate) fn into_cause(self) -> Cause
+        ensures { result ≡ self.cause }
+    {
+        self.cause
+    }
+}
+
+impl From<Cause> for Error {
+    ghost use Rattle.web_reply.specs.Replies.{fault_of};
+
+    ghost from_gives = { λ cause e. e ≡ fault_of cause };
+
+    fn from(cause: Cause) -> Error {
+        Error { cause }
+    }
+}
+
+impl From<PayloadError> for Error {
+    ghost use Rattle.web_reply.specs.Replies.{fault_of};
+    ghost use Rattle.web_reply.specs.declared.cause.Cause.TheVariants.{Payload};
+
+    ghost from_gives = { λ fault e. e ≡ fault_of (Payload fault) };
+
+    fn from(fault: PayloadError) -> Error {
+        Error {
+            cause: Cause::Payload(fault),
+        }
+    }
+}
+
+impl From<HttpError> for Error {
+    ghost use Rattle.web_reply.specs.Replies.{fault_of};
+    ghost use Rattle.web_reply.specs.declared.cause.Cause.TheVariants.{Http};
+
+    ghost from_gives = { λ fault e. e ≡ fault_of (Http fault) };
+
+    fn from(fault: HttpError) -> Error {
+        Error {
+            cause: Cause::Http(fault),
+        }
+    }
+}
+
+impl From<IoKind> for Error {
+    ghost use Rattle.web_reply.specs.Replies.{fault_of};
+    ghost use Rattle.web_reply.specs.declared.cause.Cause.TheVariants.{Io};
+
+    ghost from_gives = { λ kind e. e ≡ fault_of (Io kind) };
+
+    fn from(kind: IoKind) -> Error {
+        Error {
+            cause: Cause::Io(kind),
+        }
+    }
+}
+
+impl fmt::Display for Error {
+    ghost use Rattle.std.specs.Prelude.{Some};
+    ghost use Rattle.web_reply.specs.Causes.{cause_text};
+
+    ghost output = { λ e. Some (cause_text e.cause) };
+
+    fn fmt<W: fmt::Write>(&self, f: &mut fmt::Formatter<W>) -> fmt::Result {
+        self.cause.fmt(f)
+    }
+}

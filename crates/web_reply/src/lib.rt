@@ -1,0 +1,26 @@
+//! Responses, the errors that turn into them, and the values that a handler may answer with.
+#![tactic(auto)]
+
+mod body;
+mod byte_responders;
+mod byte_str;
+mod cause;
+mod done;
+mod error;
+mod head;
+mod owned_bodies;
+mod responder;
+mod response;
+mod status_pair;
+mod text_responders;
+mod typed;
+
+pub use body::{BodySize, BoxBody, EitherBody, MessageBody, WholeBody};
+pub use byte_str::{ByteStr, CowStr};
+pub use cause::{Cause, HttpError, IoKind};
+pub use done::Done;
+pub use error::{Error, ResponseError, Result};
+pub use head::{ConnectionType, Reason, ResponseHead};
+pub use responder::Responder;
+pub use response::HttpResponse;
+pub use web_texts::{NoMemory, Text};

@@ -1,0 +1,64 @@
+//! Byte and text types as bodies. What has no bytes is still a body of bytes.
+
+use crate::body::{BodySize, BoxBody, MessageBody};
+use bytes::Bytes;
+use std::alloc::Global;
+use web_request::Source;
+use web_texts::{NoMemory, Text};
+
+impl<S: Source> MessageBody<S> for Bytes {
+    ghost use Rattle.web_reply.specs.Bodies.{Plain.Bytes as bytes_body};
+
+    ghost plain = { λ bytes. bytes_body bytes };
+
+    fn size(&self) -> BodySize {
+        BodySize::Sized(self.len() as u64)
+    }
+
+    fn boxed(self, _alloc: Global) -> Result<BoxBody<S>, NoMemory> {
+        Ok(BoxBody::Bytes(self))
+    }
+}
+
+impl<S: Source> MessageBody<S> for Vec<u8> {
+    ghost use Rattle.web_reply.specs.Bodies.{Plain.Bytes as bytes_body};
+
+    ghost plain = { λ bytes. bytes_body bytes.items };
+
+    fn size(&self) -> BodySize {
+        BodySize::Sized(self.len() as u64)
+    }
+
+    fn boxed(self, _alloc: Global) -> Result<BoxBody<S>, NoMemory> {
+        Ok(BoxBody::Bytes(Bytes::from_vec(self)?))
+    }
+}
+
+impl<S: Source> MessageBody<S> for String {
+    ghost use Rattle.std.specs.Prelude.{string_bytes};
+    ghost use Rattle.web_reply.specs.Bodies.{Plain.Bytes as bytes_body};
+
+    ghost plain = { λ text. bytes_body (string_bytes text) };
+
+    fn size(&self) -> BodySize {
+        BodySize::Sized(self.len() as u64)
+    }
+
+    fn boxed(self, _alloc: Global) -> Result<BoxBody<S>, NoMemory> {
+        Ok(BoxBody::Bytes(Bytes::from_string(self)?))
+    }
+}
+
+impl<S: Source> MessageBody<S> for Text {
+    ghost use Rattle.web_reply.specs.Bodies.{Plain.Bytes as bytes_body};
+
+    ghost plain = { λ text. bytes_body text };
+
+    fn size(&self) -> BodySize {
+        BodySize::Sized(self.as_str().len() as u64)
+    }
+
+    fn boxed(self, _alloc: Global) -> Result<BoxBody<S>, NoMemory> {
+        Ok(BoxBody::Bytes(Bytes::from_string(self.into_string())?))
+    }
+}

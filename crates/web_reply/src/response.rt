@@ -1,0 +1,244 @@
+//! Responses.
+ghost use Rattle.std.specs.Prelude.{◌≡◌, ◌↔◌, IsTrue, IfOk, None, Some, option_copied};
+ghost use Rattle.std.specs.Borrow.{sem};
+ghost use Rattle.web_reply.specs.Bodies.{box_plain};
+ghost use Rattle.web_reply.specs.Heads.{KeepsAlive, Upgrades};
+ghost use Rattle.web_reply.specs.Lent.{lends_head, lends_headers, lends_status};
+ghost use Rattle.web_reply.specs.Mapped.{MapsBody};
+ghost use Rattle.web_reply.specs.Replies.{bare_reply, error_reply, plain_reply, with_body};
+
+use crate::body::{BoxBody, EitherBody, MessageBody, WholeBody};
+use crate::cause::Cause;
+use crate::error::{Error, ResponseError};
+use crate::head::{ConnectionType, ResponseHead};
+use http::{StatusCode, Version};
+use http_header::{HeaderMap, HeaderValue};
+use std::alloc::Global;
+use std::marker::Model;
+use web_request::Source;
+use web_texts::NoMemory;
+
+/// A response: a head, a body, and the cause where it is the reply to an error.
+#[derive(Drop)]
+pub struct HttpResponse<B> {
+    head: ResponseHead,
+    body: B,
+    error: Option<Cause>,
+}
+
+impl<B> Model for HttpResponse<B> {
+    ghost use Rattle.web_reply.specs.Replies.{Reply};
+
+    ghost Value = { Reply B };
+
+    ghost view = { λ r. record { head = r.head; body = r.body; error = r.error } };
+}
+
+impl HttpResponse<WholeBody> {
+    /// An empty response of HTTP/1.1 without headers.
+    pub fn new(alloc: Global, status: StatusCode) -> HttpResponse<WholeBody>
+        ensures { result ≡ bare_reply status WholeBody.Empty }
+    {
+        HttpResponse::with_body(alloc, status, WholeBody::Empty)
+    }
+
+    /// The reply to an error: the status and the text of its cause, as plain text. It keeps the cause.
+    pub fn from_error(alloc: Global, error: Error) -> Result<HttpResponse<WholeBody>, NoMemory>
+        ensures { IfOk result (λ reply. reply ≡ error_reply error) }
+    {
+        let mut cause = error.into_cause();
+        let HttpResponse { head, body, .. } = cause.error_response(alloc)?;
+        Ok(HttpResponse {
+            head,
+            body,
+            error: Some(cause),
+        })
+    }
+}
+
+impl<B> HttpResponse<B> {
+    /// A response of HTTP/1.1 with this body and without headers.
+    pub fn with_body(alloc: Global, status: StatusCode, body: B) -> HttpResponse<B>
+        ensures { result ≡ bare_reply status body }
+    {
+        HttpResponse {
+            head: ResponseHead {
+                version: Version::HTTP_11,
+                status,
+                headers: HeaderMap::empty(alloc),
+                reason: None,
+                connection: None,
+                no_chunking: false,
+            },
+            body,
+            error: None,
+        }
+    }
+
+    pub fn head(&self) -> &ResponseHead
+        ensures { result.now ≡ self.now.head }
+    {
+        &self.head
+    }
+
+    pub fn head_mut(&mut self) -> &mut ResponseHead
+        ensures* writes_back { sem 𝓛 (lends_head B.row self.entry result) }
+        ensures value { result.now ≡ self.old.head }
+    {
+        &mut self.head
+    }
+
+    pub fn status(&self) -> StatusCode
+        ensures { result ≡ self.now.head.status }
+    {
+        self.head.status
+    }
+
+    pub fn status_mut(&mut self) -> &mut StatusCode
+        ensures* writes_back { sem 𝓛 (lends_status B.row self.entry result) }
+        ensures value { result.now ≡ self.old.head.status }
+    {
+        let head = &mut self.head;
+        &mut head.status
+    }
+
+    pub fn headers(&self) -> &HeaderMap<HeaderValue>
+        ensures { result.now ≡ self.now.head.headers }
+    {
+        &self.head.headers
+    }
+
+    pub fn headers_mut(&mut self) -> &mut HeaderMap<HeaderValue>
+        ensures* writes_back { sem 𝓛 (lends_headers B.row self.entry result) }
+        ensures value { result.now ≡ self.old.head.headers }
+    {
+        let head = &mut self.head;
+        &mut head.headers
+    }
+
+    pub fn body(&self) -> &B
+        ensures { result.now ≡ self.now.body }
+    {
+        &self.body
+    }
+
+    /// The cause, where this is the reply to an error.
+    pub fn error(&self) -> Option<&Cause>
+        ensures { option_copied result ≡ self.now.error }
+    {
+        self.error.as_ref()
+    }
+
+    /// Whether the connection is handed to another protocol.
+    pub fn upgrade(&self) -> bool
+        ensures { IsTrue result ↔ Upgrades self.now.head }
+    {
+        matches!(self.head.connection, Some(ConnectionType::Upgrade))
+    }
+
+    /// Whether the connection is kept. Where nothing is said of it, it is kept in HTTP/1.1 alone.
+    pub fn keep_alive(&self) -> bool
+        ensures { IsTrue result ↔ KeepsAlive self.now.head }
+    {
+        match self.head.connection {
+            Some(connection) => matches!(connection, ConnectionType::KeepAlive),
+            None => self.head.version == Version::HTTP_11,
+        }
+    }
+
+    /// The response with another body.
+    pub fn set_body<B2>(self, body: B2) -> HttpResponse<B2>
+    where
+        B: Drop,
+        ensures { result ≡ with_body body self }
+    {
+        HttpResponse {
+            head: self.head,
+            body,
+            error: self.error,
+        }
+    }
+
+    /// The response without its body, and the body.
+    pub fn into_parts(self) -> (HttpResponse<()>, B)
+        ensures rest { result.0 ≡ with_body tt self }
+        ensures body { result.1 ≡ self.body }
+    {
+        let HttpResponse { head, body, error } = self;
+        let rest = HttpResponse {
+            head,
+            body: (),
+            error,
+        };
+        (rest, body)
+    }
+
+    /// The response without its body.
+    pub fn drop_body(self) -> HttpResponse<()>
+    where
+        B: Drop,
+        ensures { result ≡ with_body tt self }
+    {
+        self.set_body(())
+    }
+
+    /// The response with the head and the body that `f` makes of its own.
+    pub fn map_body<F: FnOnce(&mut ResponseHead, B) -> B2, B2>(self, f: F) -> HttpResponse<B2>
+        requires callable { F.IsAlwaysCallable f }
+        ensures parts { MapsBody F.FnOnce f self.head self.body result.head result.body }
+        ensures error { result.error ≡ self.error }
+    {
+        let HttpResponse {
+            mut head,
+            body,
+            error,
+        } = self;
+        let body = f(&mut head, body);
+        HttpResponse { head, body, error }
+    }
+
+    /// The response with its body as the left kind.
+    pub fn map_into_left_body<R>(self) -> HttpResponse<EitherBody<B, R>>
+        ensures { result ≡ with_body (EitherBody.Left self.body) self }
+    {
+        HttpResponse {
+            head: self.head,
+            body: EitherBody::Left(self.body),
+            error: self.error,
+        }
+    }
+
+    /// The response with its body as the right kind.
+    pub fn map_into_right_body<L>(self) -> HttpResponse<EitherBody<L, B>>
+        ensures { result ≡ with_body (EitherBody.Right self.body) self }
+    {
+        HttpResponse {
+            head: self.head,
+            body: EitherBody::Right(self.body),
+            error: self.error,
+        }
+    }
+
+    /// The response with its body in the common form.
+    pub fn map_into_boxed_body<S: Source>(
+        self,
+        alloc: Global,
+    ) -> Result<HttpResponse<BoxBody<S>>, NoMemory>
+    where
+        B: MessageBody<S>,
+        ensures { IfOk result (λ boxed. plain_reply (λ b. box_plain S.feed b) boxed ≡ plain_reply B.plain self) }
+    {
+        let HttpResponse { head, body, error } = self;
+        Ok(HttpResponse {
+            head,
+            body: body.boxed(alloc)?,
+            error,
+        })
+    }
+
+    pub fn into_body(self) -> B
+        ensures { result ≡ self.body }
+    {
+        self.body
+    }
+}

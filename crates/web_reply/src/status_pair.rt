@@ -1,0 +1,28 @@
+//! Values with a status of their own.
+
+use crate::responder::Responder;
+use crate::response::HttpResponse;
+use http::StatusCode;
+use std::alloc::Global;
+use web_request::{App, HttpRequest};
+use web_texts::NoMemory;
+
+/// The response of the value, with this status.
+impl<A: App, R: Responder<A>> Responder<A> for (R, StatusCode) {
+    ghost use Rattle.web_reply.specs.Responds.{StatusResponds};
+
+    type Body = R::Body;
+
+    ghost responds = { λ v q r. StatusResponds R.responds v.0 v.1 q r };
+
+    fn respond_to(
+        self,
+        alloc: Global,
+        req: &HttpRequest<A>,
+    ) -> Result<HttpResponse<R::Body>, NoMemory> {
+        let (value, status) = self;
+        let mut reply = value.respond_to(alloc, req)?;
+        *reply.status_mut() = status;
+        Ok(reply)
+    }
+}
