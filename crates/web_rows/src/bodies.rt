@@ -14,7 +14,7 @@ use web_extract::FromRequest;
 use web_request::{HttpRequest, Mark, NoMemory, Source, Turn};
 
 /// `he`, an empty piece, a stall, `llo`.
-pub fn hello(alloc: Global) -> Result<Vec<Mark>, NoMemory>
+pub(crate) fn hello(alloc: Global) -> Result<Vec<Mark>, NoMemory>
     ensures body { IfOk result (λ marks. is_body (without_empty marks.items) ≡ true) }
     ensures small { IfOk result (λ marks. length (joined marks.items) < 2 ^ 63) }
 {
@@ -27,7 +27,7 @@ pub fn hello(alloc: Global) -> Result<Vec<Mark>, NoMemory>
 }
 
 /// `ab`, then a fault.
-pub fn failing(alloc: Global) -> Result<Vec<Mark>, NoMemory>
+pub(crate) fn failing(alloc: Global) -> Result<Vec<Mark>, NoMemory>
     ensures body { IfOk result (λ marks. is_body (without_empty marks.items) ≡ true) }
     ensures small { IfOk result (λ marks. length (joined marks.items) < 2 ^ 63) }
 {

@@ -12,7 +12,7 @@ use web_request::{
     SocketAddr, Text,
 };
 
-pub fn config(alloc: Global) -> Result<AppConfig, NoMemory> {
+pub(crate) fn config(alloc: Global) -> Result<AppConfig, NoMemory> {
     Ok(AppConfig {
         host: Text::of(alloc, "localhost:8080")?,
         secure: false,
@@ -23,7 +23,7 @@ pub fn config(alloc: Global) -> Result<AppConfig, NoMemory> {
     })
 }
 
-pub fn head(alloc: Global, target: &'static str) -> Result<RequestHead, NoMemory> {
+pub(crate) fn head(alloc: Global, target: &'static str) -> Result<RequestHead, NoMemory> {
     let Ok(uri) = Uri::from_static(target) else {
         return Err(NoMemory);
     };
@@ -36,13 +36,13 @@ pub fn head(alloc: Global, target: &'static str) -> Result<RequestHead, NoMemory
     })
 }
 
-pub fn pool(alloc: Global, capacity: usize) -> Result<HttpRequestPool<Demo>, NoMemory> {
+pub(crate) fn pool(alloc: Global, capacity: usize) -> Result<HttpRequestPool<Demo>, NoMemory> {
     let root = Rc::new(alloc, DemoLayer)?;
     HttpRequestPool::with_capacity(alloc, root, config(alloc)?, capacity)
 }
 
 /// A request of this target, with something in each place.
-pub fn started(
+pub(crate) fn started(
     rt: &impl Abort,
     alloc: Global,
     pool: &mut HttpRequestPool<Demo>,

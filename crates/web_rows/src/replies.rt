@@ -4,7 +4,7 @@ use std::test::Fail;
 use web_cli::{MemInput, PlainOutput, Status, run};
 
 /// Words of the command line.
-pub fn words(alloc: Global, texts: &[&str]) -> Result<Vec<String>, AllocError> {
+pub(crate) fn words(alloc: Global, texts: &[&str]) -> Result<Vec<String>, AllocError> {
     let mut words = Vec::new(alloc);
     for text in texts {
         words.push(String::from_str(alloc, text)?)?;
