@@ -2,8 +2,6 @@
 use Rattle.std.specs.Prelude.{◌≡◌, ℕ, List, Option, None, Some, Result, Ok, Err, codes}
 use Rattle.web_reply.specs.Bodies.{Plain, Plain.Bytes, Plain.Empty, whole_plain}
 use Rattle.web_reply.specs.Replies.{Reply, Fault, bare_reply, error_reply, plain_reply, plain_text, typed_reply}
-use Rattle.web_reply.specs.declared.byte_str.CowStr.{CowStr}
-use Rattle.web_reply.specs.declared.byte_str.CowStr.TheVariants.{Borrowed, Owned}
 
 abbrev pub text_reply : List ℕ → Reply Plain
 text_reply text = typed_reply 200 plain_text (Bytes text)
@@ -13,10 +11,6 @@ bytes_reply bytes = typed_reply 200 (codes "application/octet-stream") (Bytes by
 
 abbrev pub empty_reply : ℕ → Reply Plain
 empty_reply status = bare_reply status Empty
-
-abbrev pub cow_bytes : CowStr → List ℕ
-cow_bytes (Borrowed text) = text.now
-cow_bytes (Owned text) = text
 
 -- the reply to an error that this value turns into
 abbrev pub Refuses : {E : Type 0} → (E → Fault → Type 0) → E → Reply Plain → Type 0

@@ -1,9 +1,8 @@
-//! Texts in shared bytes, and texts that may be borrowed.
+//! Texts in shared bytes.
 ghost use Rattle.std.specs.Prelude.{◌≡◌, ◌↔◌, IsOk, IfOk, IfErr, IsUtf8};
 
 use bytes::Bytes;
 use std::marker::Model;
-use web_texts::Text;
 
 /// Shared bytes that are UTF-8 text. Contracts see them as the bytes.
 #[derive(Debug, Drop)]
@@ -43,11 +42,4 @@ impl ByteStr {
     {
         self.text.into_bytes()
     }
-}
-
-/// A text that is borrowed or owned.
-#[derive(Debug, Drop)]
-pub enum CowStr<'a> {
-    Borrowed(&'a str),
-    Owned(Text),
 }

@@ -16,7 +16,7 @@ mod text_responders;
 mod typed;
 
 pub use body::{BodySize, BoxBody, EitherBody, MessageBody, WholeBody};
-pub use byte_str::{ByteStr, CowStr};
+pub use byte_str::ByteStr;
 pub use cause::{Cause, HttpError, IoKind};
 pub use done::Done;
 pub use error::{Error, ResponseError, Result};
