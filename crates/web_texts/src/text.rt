@@ -38,6 +38,14 @@ impl Text {
     {
         self.text.as_str()
     }
+
+    /// The text itself. It takes no memory.
+    pub fn into_string(self) -> String
+        ensures { string_bytes result ≡ self }
+    {
+        let Text { text } = self;
+        text
+    }
 }
 
 impl From<String> for Text {
