@@ -1,3 +1,2 @@
-pub mod Bare
 pub mod Collected
 pub mod Extracts

@@ -10,7 +10,7 @@ impl<A: App> FromRequest<A> for Bytes {
     ghost use Rattle.std.specs.Prelude.{◌≡◌, IsOk, IfOk, false};
     ghost use Rattle.web_body.specs.Collecting.{body_gives, collecting};
     ghost use Rattle.web_body.specs.Payload.{payload_feed};
-    ghost use Rattle.web_extract.specs.Collected.{MeansBytes, bytes_some};
+    ghost use Rattle.web_extract.specs.Collected.{MeansBytes, bytes_some, payload_converted};
     ghost use Rattle.web_extract.specs.Extracts.{Extracts};
 
     type Error = PayloadError;
@@ -20,6 +20,8 @@ impl<A: App> FromRequest<A> for Bytes {
     ghost means = { λ q m rest n x. MeansBytes m rest n x };
 
     ghost some = { λ q m. bytes_some m };
+
+    ghost converted = { payload_converted };
 
     fn from_request(
         alloc: Global,

@@ -3,16 +3,18 @@ ghost use Rattle.std.specs.Prelude.{◌≡◌, ◌⊎◌, ℕ, List, Result, IfO
 ghost use Rattle.web_request.specs.declared.source.Mark.{Mark};
 ghost use Rattle.web_request.specs.Request.{Request};
 ghost use Rattle.web_body.specs.Payload.{payload_feed};
+ghost use Rattle.web_reply.specs.Replies.{Fault};
 ghost use Rattle.web_extract.specs.Extracts.{Extracts, ExtractsEmpty, AllowsSome};
 
 use std::alloc::Global;
 use web_body::{Payload, Poll};
+use web_reply::Error;
 use web_request::{App, HttpRequest, NoMemory};
 
 /// A value that is made of a request and its payload, as an argument of a handler is.
 pub trait FromRequest<A: App>: Sized + Drop {
     /// Why there is no value.
-    type Error: Drop;
+    type Error: Into<Error> + Drop;
 
     type Future: Poll<Output = Result<Self, Self::Error>>;
 
@@ -42,4 +44,7 @@ pub trait FromRequest<A: App>: Sized + Drop {
 
     /// For no request and no marks is it the case that nothing may come.
     ghost some: { (q : Request A.Layer A.Local A.Conn) (m : List Mark) → AllowsSome (means q m) };
+
+    /// Each refusal turns into an error.
+    ghost converted: { (e : Self.Error) → (f : Fault) × Self.Error.converts e f };
 }
