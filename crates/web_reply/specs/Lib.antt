@@ -5,3 +5,4 @@ pub mod Lent
 pub mod Mapped
 pub mod Replies
 pub mod Responds
+pub mod Texts

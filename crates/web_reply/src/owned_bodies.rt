@@ -4,7 +4,7 @@ use crate::body::{BodySize, BoxBody, MessageBody};
 use bytes::Bytes;
 use std::alloc::Global;
 use web_request::Source;
-use web_texts::NoMemory;
+use web_texts::{NoMemory, Text};
 
 impl<S: Source> MessageBody<S> for Bytes {
     ghost use Rattle.web_reply.specs.Bodies.{Plain.Bytes as bytes_body};
@@ -46,5 +46,19 @@ impl<S: Source> MessageBody<S> for String {
 
     fn boxed(self, _alloc: Global) -> Result<BoxBody<S>, NoMemory> {
         Ok(BoxBody::Bytes(Bytes::from_string(self)?))
+    }
+}
+
+impl<S: Source> MessageBody<S> for Text {
+    ghost use Rattle.web_reply.specs.Bodies.{Plain.Bytes as bytes_body};
+
+    ghost plain = { λ text. bytes_body text };
+
+    fn size(&self) -> BodySize {
+        BodySize::Sized(self.as_str().len() as u64)
+    }
+
+    fn boxed(self, _alloc: Global) -> Result<BoxBody<S>, NoMemory> {
+        Ok(BoxBody::Bytes(Bytes::from_string(self.into_string())?))
     }
 }

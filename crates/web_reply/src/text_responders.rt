@@ -6,6 +6,7 @@ ghost use Rattle.web_reply.specs.Responds.{text_reply};
 
 use crate::body::WholeBody;
 use crate::byte_str::ByteStr;
+use crate::cow_str::CowStr;
 use crate::responder::Responder;
 use crate::response::HttpResponse;
 use crate::typed::{PLAIN_TEXT, typed};
@@ -13,7 +14,7 @@ use bytes::Bytes;
 use http::StatusCode;
 use std::alloc::Global;
 use web_request::{App, HttpRequest};
-use web_texts::NoMemory;
+use web_texts::{NoMemory, Text};
 
 /// A response of status 200 with these bytes, of the type `text/plain; charset=utf-8`.
 fn text(alloc: Global, bytes: Bytes) -> Result<HttpResponse<WholeBody>, NoMemory>
@@ -65,6 +66,41 @@ impl<A: App> Responder<A> for String {
         _req: &HttpRequest<A>,
     ) -> Result<HttpResponse<WholeBody>, NoMemory> {
         text(alloc, Bytes::from_string(self)?)
+    }
+}
+
+impl<A: App> Responder<A> for Text {
+    type Body = WholeBody;
+
+    ghost responds = { λ t q r. r ≡ text_reply t };
+
+    fn respond_to(
+        self,
+        alloc: Global,
+        _req: &HttpRequest<A>,
+    ) -> Result<HttpResponse<WholeBody>, NoMemory> {
+        text(alloc, Bytes::from_string(self.into_string())?)
+    }
+}
+
+impl<A: App> Responder<A> for CowStr<'_> {
+    ghost use Rattle.web_reply.specs.Texts.{cow_bytes};
+
+    type Body = WholeBody;
+
+    ghost responds = { λ s q r. r ≡ text_reply (cow_bytes s) };
+
+    fn respond_to(
+        self,
+        alloc: Global,
+        _req: &HttpRequest<A>,
+    ) -> Result<HttpResponse<WholeBody>, NoMemory> {
+        match self {
+            CowStr::Borrowed(borrowed) => {
+                text(alloc, Bytes::copy_from_slice(alloc, borrowed.as_bytes())?)
+            }
+            CowStr::Owned(owned) => text(alloc, Bytes::from_string(owned.into_string())?),
+        }
     }
 }
 
