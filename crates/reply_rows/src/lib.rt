@@ -1,0 +1,5 @@
+//! Tests of responses and responders, and no other code.
+#![tactic(auto)]
+
+#[cfg(test)]
+mod responders;
