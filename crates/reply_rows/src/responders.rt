@@ -316,30 +316,6 @@ fn each_responder_answers_through_its_bound(rt: HostRuntime) -> Result<(), Fail>
     Ok(())
 }
 
-/// Each cause with the status and the text that it has.
-fn causes(alloc: Global) -> Result<Vec<(Cause, u16, &'static str)>, NoMemory> {
-    Ok(vec![in alloc;
-        (
-            Cause::Payload(PayloadError::Overflow),
-            413,
-            "payload reached its limit"
-        ),
-        (Cause::Payload(PayloadError::Io), 400, "payload read failed"),
-        (Cause::Http(HttpError::Name), 500, "invalid header name"),
-        (Cause::Http(HttpError::Value), 500, "invalid header value"),
-        (Cause::Http(HttpError::MaxSize), 500, "too many headers"),
-        (Cause::Utf8, 400, "invalid UTF-8"),
-        (Cause::Io(IoKind::NotFound), 404, "not found"),
-        (
-            Cause::Io(IoKind::PermissionDenied),
-            403,
-            "permission denied"
-        ),
-        (Cause::Io(IoKind::Other), 500, "input or output failed"),
-        (conflict(alloc)?, 409, "x"),
-    ]?)
-}
-
 /// The status, the text and the reply of what turns into one, by the trait alone.
 fn answered<E: ResponseError>(
     alloc: Global,
@@ -365,27 +341,71 @@ fn is_error(
     Ok(())
 }
 
+/// The same cause once more.
+fn copy_of(alloc: Global, cause: &Cause) -> Result<Cause, NoMemory> {
+    Ok(match cause {
+        Cause::Payload(fault) => Cause::Payload(*fault),
+        Cause::Http(fault) => Cause::Http(*fault),
+        Cause::Utf8 => Cause::Utf8,
+        Cause::Io(kind) => Cause::Io(*kind),
+        Cause::Custom { status, text } => Cause::Custom {
+            status: *status,
+            text: text.duplicate(alloc)?,
+        },
+    })
+}
+
+/// Sees that a cause has this status and this text, and so has the reply to an error of it, which keeps it.
+fn is_answered(
+    rt: &impl Abort,
+    alloc: Global,
+    mut cause: Cause,
+    status: u16,
+    text: &str,
+) -> Result<(), NoMemory> {
+    let want = copy_of(alloc, &cause)?;
+    let (own_status, own_text, own_reply) = answered(alloc, &mut cause)?;
+    assert_eq!(rt; own_status.as_u16(), status, "{text}");
+    assert_eq!(rt; own_text.as_str(), text);
+    assert!(rt; own_reply.error().is_none(), "{text}");
+    is_typed(
+        rt,
+        alloc,
+        own_reply,
+        status,
+        "text/plain; charset=utf-8",
+        text.as_bytes(),
+    )?;
+    let error = Error::from(cause);
+    is_error(rt, alloc, &error, &want, text)?;
+    let reply = HttpResponse::from_error(alloc, error)?;
+    is_refusal(rt, alloc, reply, &want, status, text)
+}
+
 #[test]
 fn each_cause_has_its_status_and_its_text(rt: HostRuntime) -> Result<(), Fail> {
     let alloc = rt.alloc();
-    let wanted = causes(alloc)?;
-    for ((mut cause, status, text), (want, _, _)) in causes(alloc)?.into_iter().zip(wanted) {
-        let (own_status, own_text, own_reply) = answered(alloc, &mut cause)?;
-        assert_eq!(rt; own_status.as_u16(), status, "{text}");
-        assert_eq!(rt; own_text.as_str(), text);
-        assert!(rt; own_reply.error().is_none(), "{text}");
-        is_typed(
-            &rt,
-            alloc,
-            own_reply,
-            status,
-            "text/plain; charset=utf-8",
-            text.as_bytes(),
-        )?;
-        let error = Error::from(cause);
-        is_error(&rt, alloc, &error, &want, text)?;
-        let reply = HttpResponse::from_error(alloc, error)?;
-        is_refusal(&rt, alloc, reply, &want, status, text)?;
+    for (cause, status, text) in [
+        (
+            Cause::Payload(PayloadError::Overflow),
+            413,
+            "payload reached its limit",
+        ),
+        (Cause::Payload(PayloadError::Io), 400, "payload read failed"),
+        (Cause::Http(HttpError::Name), 500, "invalid header name"),
+        (Cause::Http(HttpError::Value), 500, "invalid header value"),
+        (Cause::Http(HttpError::MaxSize), 500, "too many headers"),
+        (Cause::Utf8, 400, "invalid UTF-8"),
+        (Cause::Io(IoKind::NotFound), 404, "not found"),
+        (
+            Cause::Io(IoKind::PermissionDenied),
+            403,
+            "permission denied",
+        ),
+        (Cause::Io(IoKind::Other), 500, "input or output failed"),
+        (conflict(alloc)?, 409, "x"),
+    ] {
+        is_answered(&rt, alloc, cause, status, text)?;
     }
     for (error, want, text) in [
         (
