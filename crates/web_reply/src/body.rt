@@ -1,5 +1,5 @@
 //! Bodies of responses.
-ghost use Rattle.std.specs.Prelude.{◌≡◌, IfOk};
+ghost use Rattle.std.specs.Prelude.{◌≡◌, IfOk, IsOk};
 ghost use Rattle.web_reply.specs.Bodies.{Plain, box_plain, size_of};
 
 use bytes::Bytes;
@@ -67,7 +67,10 @@ impl<S: Source> MessageBody<S> for () {
         BodySize::Sized(0)
     }
 
-    fn boxed(self, _alloc: Global) -> Result<BoxBody<S>, NoMemory> {
+    fn boxed(self, _alloc: Global) -> Result<BoxBody<S>, NoMemory>
+        ensures value { IfOk result (λ body. box_plain S.feed body ≡ empty) }
+        ensures ok { IsOk result }
+    {
         Ok(BoxBody::Empty)
     }
 }
@@ -84,7 +87,10 @@ impl<S: Source> MessageBody<S> for WholeBody {
         }
     }
 
-    fn boxed(self, _alloc: Global) -> Result<BoxBody<S>, NoMemory> {
+    fn boxed(self, _alloc: Global) -> Result<BoxBody<S>, NoMemory>
+        ensures value { IfOk result (λ body. box_plain S.feed body ≡ whole_plain self) }
+        ensures ok { IsOk result }
+    {
         Ok(match self {
             WholeBody::Empty => BoxBody::Empty,
             WholeBody::Bytes(bytes) => BoxBody::Bytes(bytes),
@@ -104,7 +110,10 @@ impl<S: Source> MessageBody<S> for BoxBody<S> {
         }
     }
 
-    fn boxed(self, _alloc: Global) -> Result<BoxBody<S>, NoMemory> {
+    fn boxed(self, _alloc: Global) -> Result<BoxBody<S>, NoMemory>
+        ensures value { IfOk result (λ body. box_plain S.feed body ≡ box_plain S.feed self) }
+        ensures ok { IsOk result }
+    {
         Ok(self)
     }
 }

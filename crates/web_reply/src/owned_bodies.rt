@@ -1,4 +1,6 @@
 //! Byte and text types as bodies. What has no bytes is still a body of bytes.
+ghost use Rattle.std.specs.Prelude.{◌≡◌, IfOk, IsOk};
+ghost use Rattle.web_reply.specs.Bodies.{box_plain};
 
 use crate::body::{BodySize, BoxBody, MessageBody};
 use bytes::Bytes;
@@ -15,7 +17,10 @@ impl<S: Source> MessageBody<S> for Bytes {
         BodySize::Sized(self.len() as u64)
     }
 
-    fn boxed(self, _alloc: Global) -> Result<BoxBody<S>, NoMemory> {
+    fn boxed(self, _alloc: Global) -> Result<BoxBody<S>, NoMemory>
+        ensures value { IfOk result (λ body. box_plain S.feed body ≡ bytes_body self) }
+        ensures ok { IsOk result }
+    {
         Ok(BoxBody::Bytes(self))
     }
 }

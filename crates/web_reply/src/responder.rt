@@ -1,5 +1,5 @@
 //! Values that become responses.
-ghost use Rattle.std.specs.Prelude.{IfOk};
+ghost use Rattle.std.specs.Prelude.{◌≡◌, IfOk, IsOk};
 ghost use Rattle.web_request.specs.Request.{Request};
 ghost use Rattle.web_reply.specs.Bodies.{Plain};
 ghost use Rattle.web_reply.specs.Replies.{Reply, plain_reply};
@@ -29,17 +29,14 @@ pub trait Responder<A: App>: Sized + Drop {
 
 /// The response itself.
 impl<A: App, B: MessageBody<A::Source>> Responder<A> for HttpResponse<B> {
-    ghost use Rattle.std.specs.Prelude.{◌≡◌};
-
     type Body = B;
 
     ghost responds = { λ v q r. r ≡ plain_reply B.plain v };
 
-    fn respond_to(
-        self,
-        _alloc: Global,
-        _req: &HttpRequest<A>,
-    ) -> Result<HttpResponse<B>, NoMemory> {
+    fn respond_to(self, _alloc: Global, _req: &HttpRequest<A>) -> Result<HttpResponse<B>, NoMemory>
+        ensures value { IfOk result (λ reply. plain_reply B.plain reply ≡ plain_reply B.plain self) }
+        ensures ok { IsOk result }
+    {
         Ok(self)
     }
 }
