@@ -111,7 +111,7 @@ impl<S: Source> MessageBody<S> for BoxBody<S> {
     }
 
     fn boxed(self, _alloc: Global) -> Result<BoxBody<S>, NoMemory>
-        ensures value { IfOk result (λ body. box_plain S.feed body ≡ box_plain S.feed self) }
+        ensures value { IfOk result (λ body. body ≡ self) }
         ensures ok { IsOk result }
     {
         Ok(self)

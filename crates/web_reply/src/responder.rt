@@ -34,7 +34,7 @@ impl<A: App, B: MessageBody<A::Source>> Responder<A> for HttpResponse<B> {
     ghost responds = { λ v q r. r ≡ plain_reply B.plain v };
 
     fn respond_to(self, _alloc: Global, _req: &HttpRequest<A>) -> Result<HttpResponse<B>, NoMemory>
-        ensures value { IfOk result (λ reply. plain_reply B.plain reply ≡ plain_reply B.plain self) }
+        ensures value { IfOk result (λ reply. reply ≡ self) }
         ensures ok { IsOk result }
     {
         Ok(self)
