@@ -382,6 +382,30 @@ fn is_answered(
     is_refusal(rt, alloc, reply, &want, status, text)
 }
 
+/// Turns each kind of fault into an error.
+fn converted(rt: &impl Abort, alloc: Global) -> Result<(), NoMemory> {
+    for (error, want, text) in [
+        (
+            Error::from(PayloadError::Io),
+            Cause::Payload(PayloadError::Io),
+            "payload read failed",
+        ),
+        (
+            Error::from(HttpError::Name),
+            Cause::Http(HttpError::Name),
+            "invalid header name",
+        ),
+        (
+            Error::from(IoKind::NotFound),
+            Cause::Io(IoKind::NotFound),
+            "not found",
+        ),
+    ] {
+        is_error(rt, alloc, &error, &want, text)?;
+    }
+    Ok(())
+}
+
 #[test]
 fn each_cause_has_its_status_and_its_text(rt: HostRuntime) -> Result<(), Fail> {
     let alloc = rt.alloc();
@@ -407,25 +431,7 @@ fn each_cause_has_its_status_and_its_text(rt: HostRuntime) -> Result<(), Fail> {
     ] {
         is_answered(&rt, alloc, cause, status, text)?;
     }
-    for (error, want, text) in [
-        (
-            Error::from(PayloadError::Io),
-            Cause::Payload(PayloadError::Io),
-            "payload read failed",
-        ),
-        (
-            Error::from(HttpError::Name),
-            Cause::Http(HttpError::Name),
-            "invalid header name",
-        ),
-        (
-            Error::from(IoKind::NotFound),
-            Cause::Io(IoKind::NotFound),
-            "not found",
-        ),
-    ] {
-        is_error(&rt, alloc, &error, &want, text)?;
-    }
+    converted(&rt, alloc)?;
     Ok(())
 }
 
