@@ -6,8 +6,7 @@ use Rattle.std.proofs.lemmas.Bool.Decides.{nat_tests}
 use Rattle.web_request.specs.Feed.{Feed}
 use Rattle.web_request.specs.Pool.{Pool, given_back}
 use Rattle.web_request.specs.Request.{Request}
-use Rattle.web_worker.specs.declared.outcome.Outcome.{Outcome}
-use Rattle.web_worker.specs.declared.outcome.Outcome.TheVariants as outcome
+use Rattle.web_worker.specs.Endings.{Ending, Ending.Replied, Ending.Unfinished, Ending.NoMemory}
 use Rattle.web_worker.specs.declared.flight.Stage.TheVariants.{Waiting, Extracting, Answered}
 use Rattle.web_worker.specs.Exchanges.{Asked, FlightView}
 use Rattle.web_worker.specs.Answers.{Rules}
@@ -120,11 +119,11 @@ module _ {S L D C V E F : Type 0} (R : Rules L D C V E) (request : Asked S L D C
   adds_one (Waiting x) (Waiting y) p q m k = absurd m
   adds_one (Waiting x) (Extracting h) p q m (inl e) = taken_one false p q e
   adds_one (Waiting x) (Extracting h) p q m (inr e) = let n = e.1 in absurd (cc)
-  adds_one (Waiting x) (Answered (outcome.Reply r)) p q m (inl e) = taken_one false p q e
-  adds_one (Waiting x) (Answered (outcome.Reply r)) p q m (inr e) = let n = e.1 in absurd (cc)
-  adds_one (Waiting x) (Answered outcome.Unfinished) p q m k = absurd m
-  adds_one (Waiting x) (Answered outcome.NoMemory) p q m (inl e) = taken_one true p q e
-  adds_one (Waiting x) (Answered outcome.NoMemory) p q m (inr e) = not_taken p q e.0
+  adds_one (Waiting x) (Answered (Replied r)) p q m (inl e) = taken_one false p q e
+  adds_one (Waiting x) (Answered (Replied r)) p q m (inr e) = let n = e.1 in absurd (cc)
+  adds_one (Waiting x) (Answered Unfinished) p q m k = absurd m
+  adds_one (Waiting x) (Answered NoMemory) p q m (inl e) = taken_one true p q e
+  adds_one (Waiting x) (Answered NoMemory) p q m (inr e) = not_taken p q e.0
   adds_one (Extracting h) (Waiting y) p q m k = absurd m
   adds_one (Extracting h) (Extracting j) p q m k = stays 0 false p q k
   adds_one (Extracting h) (Answered o) p q m k = stays 0 (is_lost {S = S} {L = L} {D = D} {C = C} {F = F} (Answered o)) p q k
@@ -175,9 +174,9 @@ module _ {S L D C V E F : Type 0} (R : Rules L D C V E) (request : Asked S L D C
   named_one : (n : ℕ) (x : Asked S L D C) (f : FlightView S L D C F) → FlightOf R request feed gives n x f → cond {A = ℕ} (is_waiting f) 1 0 + cond {A = ℕ} (nat_lt 0 n) 1 0 ≡ 1
   named_one n x (Waiting y) h = rw (named_no n h.1) refl
   named_one n x (Extracting k) h = rw (named_yes n h.0) refl
-  named_one n x (Answered (outcome.Reply r)) h = let l : 0 < n = omega (arith, h.1) in rw (named_yes n l) refl
-  named_one n x (Answered outcome.Unfinished) h = absurd h
-  named_one n x (Answered outcome.NoMemory) h = rw (named_yes n h) refl
+  named_one n x (Answered (Replied r)) h = let l : 0 < n = omega (arith, h.1) in rw (named_yes n l) refl
+  named_one n x (Answered Unfinished) h = absurd h
+  named_one n x (Answered NoMemory) h = rw (named_yes n h) refl
 
   named_all : (p : List ℕ) (i : ℕ) (xs : List (Asked S L D C)) (fs : List (FlightView S L D C F)) → EachFrom (λ k x f. FlightOf R request feed gives (polls p k) x f) i xs fs → waiting fs + named_from p i xs ≡ length xs
   named_all p i [] [] h = refl
@@ -185,20 +184,20 @@ module _ {S L D C V E F : Type 0} (R : Rules L D C V E) (request : Asked S L D C
   named_all p i [] (f ∷ fs) h = absurd h
   named_all p i (x ∷ xs) [] h = absurd h
 
-  lost_one : (f : FlightView S L D C F) (o : Outcome) → Lands R request feed gives f o → lacks_memory o ≡ is_lost f
+  lost_one : (f : FlightView S L D C F) (o : Ending) → Lands R request feed gives f o → lacks_memory o ≡ is_lost f
   lost_one (Waiting x) o l = rw l refl
   lost_one (Extracting h) o l = rw l.0 refl
-  lost_one (Answered (outcome.Reply r)) o l = rw l refl
-  lost_one (Answered outcome.Unfinished) o l = rw l refl
-  lost_one (Answered outcome.NoMemory) o l = rw l refl
+  lost_one (Answered (Replied r)) o l = rw l refl
+  lost_one (Answered Unfinished) o l = rw l refl
+  lost_one (Answered NoMemory) o l = rw l refl
 
-  lost_all : (i : ℕ) (fs : List (FlightView S L D C F)) (os : List Outcome) → EachFrom (λ k f o. Lands R request feed gives f o) i fs os → list_any lacks_memory os ≡ list_any is_lost fs
+  lost_all : (i : ℕ) (fs : List (FlightView S L D C F)) (os : List Ending) → EachFrom (λ k f o. Lands R request feed gives f o) i fs os → list_any lacks_memory os ≡ list_any is_lost fs
   lost_all i [] [] h = refl
   lost_all i (f ∷ fs) (o ∷ os) h = rw (lost_one f o h.0, lost_all (suc i) fs os h.1) refl
   lost_all i [] (o ∷ os) h = absurd h
   lost_all i (f ∷ fs) [] h = absurd h
 
-  pub made_records : (plan : List ℕ) (xs : List (Asked S L D C)) (start fs : List (FlightView S L D C F)) (os : List Outcome) (p q : Pool L) → start ≡ map (λ x. Waiting x) xs
+  pub made_records : (plan : List ℕ) (xs : List (Asked S L D C)) (start fs : List (FlightView S L D C F)) (os : List Ending) (p q : Pool L) → start ≡ map (λ x. Waiting x) xs
       → Flown R request feed gives plan start fs → Landed R request feed gives fs os → Counted start fs p q → MadeRecords plan xs os p q
   made_records plan xs start fs os p q e flown landed c =
       let all = named_all plan 0 xs fs (flown xs e) in

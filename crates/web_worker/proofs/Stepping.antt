@@ -7,10 +7,10 @@ use Rattle.web_request.specs.Pool.{Pool}
 use Rattle.web_request.specs.Request.{Request}
 use Rattle.web_body.specs.Payload.{payload_feed}
 use Rattle.web_body.specs.Polled.{GivesSome}
-use Rattle.web_extract.specs.Bare.{Reply}
+use Rattle.web_reply.specs.Bodies.{Plain}
+use Rattle.web_reply.specs.Replies.{Reply}
 use Rattle.web_extract.specs.Extracts.{Extracts}
-use Rattle.web_worker.specs.declared.outcome.Outcome.{Outcome}
-use Rattle.web_worker.specs.declared.outcome.Outcome.TheVariants as outcome
+use Rattle.web_worker.specs.Endings.{Ending, Ending.Replied, Ending.Unfinished, Ending.NoMemory}
 use Rattle.web_worker.specs.declared.flight.Stage.TheVariants.{Waiting, Extracting, Answered}
 use Rattle.web_worker.specs.Exchanges.{Asked, Held, FlightView}
 use Rattle.web_worker.specs.Answers.{Rules, Replies, RepliesBefore}
@@ -32,22 +32,22 @@ module _ {S L D C V E F : Type 0} (R : Rules L D C V E) (request : Asked S L D C
   pending h k e g some s =
       (subst (λ (z : Held L D C F). OnePollLater R request feed gives (Extracting z) (Extracting (record { record_of = k.record_of; future = g }))) e (pending_same k g s), some)
 
-  pub answered : (h k : Held L D C F) → k ≡ h → (x : Result V E) (r : Reply) → gives k.future 0 x → r ≡ R.reply x → Polled R request feed gives (Extracting h) (Answered (outcome.Reply r))
-  answered h k e x r g s = (x, subst (λ (z : Held L D C F). gives z.future 0 x) e g, s)
+  pub answered : (h k : Held L D C F) → k ≡ h → (x : Result V E) (r : Reply Plain) → gives k.future 0 x → R.replies x k.record_of.request r → Polled R request feed gives (Extracting h) (Answered (Replied r))
+  answered h k e x r g s = subst (λ (z : Held L D C F). (y : Result V E) × gives z.future 0 y × R.replies y z.record_of.request r) e (x, g, s)
 
   -- where one flight may be answered with what another may, a poll of this is one of that
   polled_as : (old as_old new : FlightView S L D C F)
-      → ((d : ℕ) (r : Reply) → FlightGives R request feed gives as_old d r → FlightGives R request feed gives old d r)
+      → ((d : ℕ) (r : Reply Plain) → FlightGives R request feed gives as_old d r → FlightGives R request feed gives old d r)
       → ((polls : ℕ) → FlightBefore R request feed gives old polls → FlightBefore R request feed gives as_old polls)
       → Polled R request feed gives as_old new → Polled R request feed gives old new
   polled_as old as_old (Waiting x) f g p = p
   polled_as old as_old (Extracting h) f g p = ((λ d r a. f (suc d) r (p.0.0 d r a), λ polls b. p.0.1 polls (g (suc polls) b)), p.1)
-  polled_as old as_old (Answered (outcome.Reply r)) f g p = f 0 r p
-  polled_as old as_old (Answered outcome.Unfinished) f g p = p
-  polled_as old as_old (Answered outcome.NoMemory) f g p = p
+  polled_as old as_old (Answered (Replied r)) f g p = f 0 r p
+  polled_as old as_old (Answered Unfinished) f g p = p
+  polled_as old as_old (Answered NoMemory) f g p = p
 
-  started_gives : (o new : Option (List Mark)) (q : Request L D C) (f : F) → Extracts (R.means q) (gives f) o new → (d : ℕ) (r : Reply)
-      → (x : Result V E) × gives f d x × (r ≡ R.reply x) → MatchOption o ⊤ (λ m. Replies R q m d r)
+  started_gives : (o new : Option (List Mark)) (q : Request L D C) (f : F) → Extracts (R.means q) (gives f) o new → (d : ℕ) (r : Reply Plain)
+      → (x : Result V E) × gives f d x × R.replies x q r → MatchOption o ⊤ (λ m. Replies R q m d r)
   started_gives None new q f e d r g = tt
   started_gives (Some m) new q f e d r g = (e.0, g.0, e.2 d g.0 g.1, g.2)
 
@@ -63,7 +63,7 @@ module _ {S L D C V E F : Type 0} (R : Rules L D C V E) (request : Asked S L D C
   started x held new left e extracts p =
       let here : Extracts (R.means (request x)) (gives held.future) (payload_feed feed x.body).marks left = subst (λ (q : Request L D C). Extracts (R.means q) (gives held.future) (payload_feed feed x.body).marks left) e extracts in
       polled_as (Waiting x) (Extracting held) new
-      (started_gives (payload_feed feed x.body).marks left (request x) held.future here)
+      (λ d r g. started_gives (payload_feed feed x.body).marks left (request x) held.future here d r (subst (λ (q : Request L D C). (y : Result V E) × gives held.future d y × R.replies y q r) e g))
       (started_before (payload_feed feed x.body).marks left (request x) held.future here) p
 
   -- the poll after n polls of the exchange, of a flight that then stood so
@@ -76,9 +76,9 @@ module _ {S L D C V E F : Type 0} (R : Rules L D C V E) (request : Asked S L D C
   polled_next : (n : ℕ) (x : Asked S L D C) (f g : FlightView S L D C F) → Under R request feed gives n x f → Polled R request feed gives f g → FlightOf R request feed gives (suc n) x g
   polled_next n x f (Waiting y) h p = absurd p
   polled_next n x f (Extracting k) h p = (omega arith, under_next n x f (Extracting k) h p.0)
-  polled_next n x f (Answered (outcome.Reply r)) h p = let l : n + 0 < suc n = omega arith in (n + 0, l, h.0 0 r p)
-  polled_next n x f (Answered outcome.Unfinished) h p = p
-  polled_next n x f (Answered outcome.NoMemory) h p = omega arith
+  polled_next n x f (Answered (Replied r)) h p = let l : n + 0 < suc n = omega arith in (n + 0, l, h.0 0 r p)
+  polled_next n x f (Answered Unfinished) h p = p
+  polled_next n x f (Answered NoMemory) h p = omega arith
 
   waiting_under : (n : ℕ) (x : Asked S L D C) → n ≡ 0 → Under R request feed gives n x (Waiting x)
   waiting_under n x e = (
@@ -86,10 +86,10 @@ module _ {S L D C V E F : Type 0} (R : Rules L D C V E) (request : Asked S L D C
     λ k b. let q : n + k ≡ k = omega arith in subst (λ (m : ℕ). ExchangeBefore R request feed x m) q b,
   )
 
-  answered_next : (n : ℕ) (x : Asked S L D C) (o : Outcome) → FlightOf R request feed gives n x (Answered o) → FlightOf R request feed gives (suc n) x (Answered o)
-  answered_next n x (outcome.Reply r) h = let l : h.0 < suc n = omega (arith, h.1) in (h.0, l, h.2)
-  answered_next n x outcome.Unfinished h = h
-  answered_next n x outcome.NoMemory h = omega arith
+  answered_next : (n : ℕ) (x : Asked S L D C) (o : Ending) → FlightOf R request feed gives n x (Answered o) → FlightOf R request feed gives (suc n) x (Answered o)
+  answered_next n x (Replied r) h = let l : h.0 < suc n = omega (arith, h.1) in (h.0, l, h.2)
+  answered_next n x Unfinished h = h
+  answered_next n x NoMemory h = omega arith
 
   flight_next : (n : ℕ) (x : Asked S L D C) (f g : FlightView S L D C F) → FlightOf R request feed gives n x f → Moves R request feed gives f g → FlightOf R request feed gives (suc n) x g
   flight_next n x (Waiting y) g h m = polled_next n x (Waiting x) g (waiting_under n x h.1) (subst (λ (z : Asked S L D C). Polled R request feed gives (Waiting z) g) h.0 m)
@@ -122,23 +122,23 @@ module _ {S L D C V E F : Type 0} (R : Rules L D C V E) (request : Asked S L D C
   never : (n : ℕ) → n < 0 → ⊥
   never n h = absurd (omega arith)
 
-  pub lands_open : (h : Held L D C F) → GivesSome (gives h.future) → Lands R request feed gives (Extracting h) outcome.Unfinished
+  pub lands_open : (h : Held L D C F) → GivesSome (gives h.future) → Lands R request feed gives (Extracting h) Unfinished
   lands_open h some = (refl, λ b. some (λ n x a. never n (b n x a)))
 
   not_before : (n : ℕ) (x : Asked S L D C) (f : FlightView S L D C F) → Under R request feed gives n x f → (FlightBefore R request feed gives f 0 → ⊥) → ExchangeBefore R request feed x n → ⊥
   not_before n x f h still b = let q : n ≡ n + 0 = omega arith in still (h.1 0 (subst (λ (m : ℕ). ExchangeBefore R request feed x m) q b))
 
-  allowed_of : (n : ℕ) (x : Asked S L D C) (o : Outcome) → FlightOf R request feed gives n x (Answered o) → Allowed R request feed n x o
-  allowed_of n x (outcome.Reply r) h = h
-  allowed_of n x outcome.Unfinished h = absurd h
-  allowed_of n x outcome.NoMemory h = h
+  allowed_of : (n : ℕ) (x : Asked S L D C) (o : Ending) → FlightOf R request feed gives n x (Answered o) → Allowed R request feed n x o
+  allowed_of n x (Replied r) h = h
+  allowed_of n x Unfinished h = absurd h
+  allowed_of n x NoMemory h = h
 
-  lands_allowed : (n : ℕ) (x : Asked S L D C) (f : FlightView S L D C F) (o : Outcome) → FlightOf R request feed gives n x f → Lands R request feed gives f o → Allowed R request feed n x o
+  lands_allowed : (n : ℕ) (x : Asked S L D C) (f : FlightView S L D C F) (o : Ending) → FlightOf R request feed gives n x f → Lands R request feed gives f o → Allowed R request feed n x o
   lands_allowed n x (Waiting y) o h l = rw l (inl h.1)
   lands_allowed n x (Extracting k) o h l = rw l.0 (inr (not_before n x (Extracting k) h.1 l.1))
   lands_allowed n x (Answered p) o h l = rw l (allowed_of n x p h)
 
-  each_allowed : (p : List ℕ) (i : ℕ) (xs : List (Asked S L D C)) (fs : List (FlightView S L D C F)) (os : List Outcome)
+  each_allowed : (p : List ℕ) (i : ℕ) (xs : List (Asked S L D C)) (fs : List (FlightView S L D C F)) (os : List Ending)
       → EachFrom (λ k x f. FlightOf R request feed gives (polls p k) x f) i xs fs → EachFrom (λ k f o. Lands R request feed gives f o) i fs os → EachFrom (λ k x o. Allowed R request feed (polls p k) x o) i xs os
   each_allowed p i [] [] [] a b = tt
   each_allowed p i (x ∷ xs) (f ∷ fs) (o ∷ os) a b = (lands_allowed (polls p i) x f o a.0 b.0, each_allowed p (suc i) xs fs os a.1 b.1)
@@ -147,24 +147,27 @@ module _ {S L D C V E F : Type 0} (R : Rules L D C V E) (request : Asked S L D C
   each_allowed p i (x ∷ xs) [] os a b = absurd a
   each_allowed p i (x ∷ xs) (f ∷ fs) [] a b = absurd b
 
-  pub served : (p : List ℕ) (xs : List (Asked S L D C)) (start fs : List (FlightView S L D C F)) (os : List Outcome) → start ≡ map (λ x. Waiting x) xs
+  pub served : (p : List ℕ) (xs : List (Asked S L D C)) (start fs : List (FlightView S L D C F)) (os : List Ending) → start ≡ map (λ x. Waiting x) xs
       → Flown R request feed gives p start fs → Landed R request feed gives fs os → Served R request feed p xs os
   served p xs start fs os e f l = each_allowed p 0 xs fs os (f xs e) l
 
   -- the effect of a poll, where the promises allow one delay and one reply
-  one_less : (d : ℕ) (r : Reply) (f : FlightView S L D C F) (h : Held L D C F) → Remains R request feed gives f d r → OnePollLater R request feed gives f (Extracting h) → GivesSome (gives h.future)
+  one_less : (d : ℕ) (r : Reply Plain) (f : FlightView S L D C F) (h : Held L D C F) → Remains R request feed gives f d r → OnePollLater R request feed gives f (Extracting h) → GivesSome (gives h.future)
       → (e : ℕ) × (d ≡ suc e) × Remains R request feed gives (Extracting h) e r
-  one_less zero r f h once later some = absurd (some (λ n x a. let z = (once (suc n) (R.reply x) (later.0 n (R.reply x) (x, a, refl))).0 in absurd (omega arith)))
-  one_less (suc e) r f h once later some = (e, refl, λ k p a. let z = once (suc k) p (later.0 k p a) in (omega (arith, z.0), z.1))
+  one_less zero r f h once later some = absurd (some (λ n x a. never n (later.1 0 once.comes n x a)))
+  one_less (suc e) r f h once later some = (e, refl, record {
+    once = λ k p a. let z = once.once (suc k) p (later.0 k p a) in (omega (arith, z.0), z.1);
+    comes = later.1 (suc e) once.comes;
+  })
 
-  effect_of : (d : ℕ) (r : Reply) (f g : FlightView S L D C F) → Remains R request feed gives f d r → Polled R request feed gives f g → Effect R request feed gives d r g
+  effect_of : (d : ℕ) (r : Reply Plain) (f g : FlightView S L D C F) → Remains R request feed gives f d r → Polled R request feed gives f g → Effect R request feed gives d r g
   effect_of d r f (Waiting x) once p = p
   effect_of d r f (Extracting h) once p = one_less d r f h once p.0 p.1
-  effect_of d r f (Answered (outcome.Reply a)) once p = let z = once 0 a p in (sym z.0, z.1)
-  effect_of d r f (Answered outcome.Unfinished) once p = p
-  effect_of d r f (Answered outcome.NoMemory) once p = tt
+  effect_of d r f (Answered (Replied a)) once p = let z = once.once 0 a p in (sym z.0, z.1)
+  effect_of d r f (Answered Unfinished) once p = p
+  effect_of d r f (Answered NoMemory) once p = tt
 
-  move_effect : (d : ℕ) (r : Reply) (f g : FlightView S L D C F) → is_open f ≡ true → Remains R request feed gives f d r → Moves R request feed gives f g → Effect R request feed gives d r g
+  move_effect : (d : ℕ) (r : Reply Plain) (f g : FlightView S L D C F) → is_open f ≡ true → Remains R request feed gives f d r → Moves R request feed gives f g → Effect R request feed gives d r g
   move_effect d r (Waiting x) g open_one once m = effect_of d r (Waiting x) g once m
   move_effect d r (Extracting h) g open_one once m = effect_of d r (Extracting h) g once m
   move_effect d r (Answered o) g open_one once m = absurd (cc)

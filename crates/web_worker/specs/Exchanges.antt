@@ -2,6 +2,7 @@
 use Rattle.web_request.specs.Request.{Parts, Record}
 use Rattle.web_body.specs.declared.payload.Payload.{Payload}
 use Rattle.web_worker.specs.declared.flight.Stage.{Stage}
+use Rattle.web_worker.specs.Endings.{Ending}
 
 -- S, L, D and C: a source, a layer, the data of a request and that of a connection
 pub record Asked (S L D C : Type 0) : Type 0 where
@@ -14,4 +15,4 @@ pub record Held (L D C F : Type 0) : Type 0 where
   pub future : F
 
 abbrev pub FlightView : Type 0 → Type 0 → Type 0 → Type 0 → Type 0 → Type 0
-FlightView S L D C F = Stage (Asked S L D C) (Held L D C F)
+FlightView S L D C F = Stage (Asked S L D C) (Held L D C F) Ending

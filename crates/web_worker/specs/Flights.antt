@@ -4,8 +4,9 @@ use Rattle.web_request.specs.Feed.{Feed}
 use Rattle.web_request.specs.Request.{Request}
 use Rattle.web_body.specs.Payload.{payload_feed}
 use Rattle.web_body.specs.Polled.{GivesSome}
-use Rattle.web_extract.specs.Bare.{Reply}
-use Rattle.web_worker.specs.declared.outcome.Outcome.TheVariants as outcome
+use Rattle.web_reply.specs.Bodies.{Plain}
+use Rattle.web_reply.specs.Replies.{Reply}
+use Rattle.web_worker.specs.Endings.{Ending.Replied, Ending.Unfinished, Ending.NoMemory}
 use Rattle.web_worker.specs.declared.flight.Stage.TheVariants.{Waiting, Extracting, Answered}
 use Rattle.web_worker.specs.Exchanges.{Asked, FlightView}
 use Rattle.web_worker.specs.Answers.{Rules, Replies, RepliesBefore}
@@ -13,7 +14,7 @@ use Rattle.web_worker.specs.Answers.{Rules, Replies, RepliesBefore}
 -- `request` makes the request of an exchange, and `feed` tells a source
 module _ {S L D C V E : Type 0} (R : Rules L D C V E) (request : Asked S L D C → Request L D C) (feed : S → Feed) where
   -- where the marks are told, the exchange may be answered with r after d polls that leave it unanswered
-  abbrev pub ExchangeGives : Asked S L D C → ℕ → Reply → Type 0
+  abbrev pub ExchangeGives : Asked S L D C → ℕ → Reply Plain → Type 0
   ExchangeGives x d r = MatchOption (payload_feed feed x.body).marks ⊤ (λ m. Replies R (request x) m d r)
 
   -- the marks are told, and every answer comes before that many polls
@@ -23,9 +24,9 @@ module _ {S L D C V E : Type 0} (R : Rules L D C V E) (request : Asked S L D C �
 -- `gives` tells the future of the arguments
 module _ {S L D C V E F : Type 0} (R : Rules L D C V E) (request : Asked S L D C → Request L D C) (feed : S → Feed) (gives : F → ℕ → Result V E → Type 0) where
   -- the same, of a flight
-  abbrev pub FlightGives : FlightView S L D C F → ℕ → Reply → Type 0
+  abbrev pub FlightGives : FlightView S L D C F → ℕ → Reply Plain → Type 0
   FlightGives (Waiting x) d r = ExchangeGives R request feed x d r
-  FlightGives (Extracting h) d r = (x : Result V E) × gives h.future d x × (r ≡ R.reply x)
+  FlightGives (Extracting h) d r = (x : Result V E) × gives h.future d x × R.replies x h.record_of.request r
   FlightGives (Answered o) d r = ⊥
 
   abbrev pub FlightBefore : FlightView S L D C F → ℕ → Type 0
@@ -35,15 +36,15 @@ module _ {S L D C V E F : Type 0} (R : Rules L D C V E) (request : Asked S L D C
 
   -- what may come comes one poll later
   abbrev pub OnePollLater : FlightView S L D C F → FlightView S L D C F → Type 0
-  OnePollLater old new = ((d : ℕ) (r : Reply) → FlightGives new d r → FlightGives old (suc d) r) × ((polls : ℕ) → FlightBefore old (suc polls) → FlightBefore new polls)
+  OnePollLater old new = ((d : ℕ) (r : Reply Plain) → FlightGives new d r → FlightGives old (suc d) r) × ((polls : ℕ) → FlightBefore old (suc polls) → FlightBefore new polls)
 
   -- one poll of an unanswered flight: it stays so and what may come comes one poll later, or what may come now came, or there was no memory
   abbrev pub Polled : FlightView S L D C F → FlightView S L D C F → Type 0
   Polled old (Waiting x) = ⊥
   Polled old (Extracting h) = OnePollLater old (Extracting h) × GivesSome (gives h.future)
-  Polled old (Answered (outcome.Reply r)) = FlightGives old 0 r
-  Polled old (Answered outcome.Unfinished) = ⊥
-  Polled old (Answered outcome.NoMemory) = ⊤
+  Polled old (Answered (Replied r)) = FlightGives old 0 r
+  Polled old (Answered Unfinished) = ⊥
+  Polled old (Answered NoMemory) = ⊤
 
   abbrev pub Moves : FlightView S L D C F → FlightView S L D C F → Type 0
   Moves (Answered o) new = new ≡ Answered o

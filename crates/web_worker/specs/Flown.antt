@@ -4,9 +4,9 @@ use Rattle.std.specs.List.{list_any}
 use Rattle.web_request.specs.Feed.{Feed}
 use Rattle.web_request.specs.Pool.{Pool}
 use Rattle.web_request.specs.Request.{Request}
-use Rattle.web_extract.specs.Bare.{Reply}
-use Rattle.web_worker.specs.declared.outcome.Outcome.{Outcome}
-use Rattle.web_worker.specs.declared.outcome.Outcome.TheVariants as outcome
+use Rattle.web_reply.specs.Bodies.{Plain}
+use Rattle.web_reply.specs.Replies.{Reply}
+use Rattle.web_worker.specs.Endings.{Ending, Ending.Replied, Ending.Unfinished, Ending.NoMemory}
 use Rattle.web_worker.specs.declared.flight.Stage.TheVariants.{Waiting, Extracting, Answered}
 use Rattle.web_worker.specs.Exchanges.{Asked, FlightView}
 use Rattle.web_worker.specs.Answers.{Rules}
@@ -17,28 +17,28 @@ use Rattle.web_worker.specs.Served.{polls, EachFrom}
 module _ {S L D C V E F : Type 0} (R : Rules L D C V E) (request : Asked S L D C → Request L D C) (feed : S → Feed) (gives : F → ℕ → Result V E → Type 0) where
   -- a flight that is not answered after n polls gives what the exchange gives n polls later
   abbrev pub Under : ℕ → Asked S L D C → FlightView S L D C F → Type 0
-  Under n x f = ((d : ℕ) (r : Reply) → FlightGives R request feed gives f d r → ExchangeGives R request feed x (n + d) r)
+  Under n x f = ((d : ℕ) (r : Reply Plain) → FlightGives R request feed gives f d r → ExchangeGives R request feed x (n + d) r)
       × ((k : ℕ) → ExchangeBefore R request feed x (n + k) → FlightBefore R request feed gives f k)
 
   -- the flight of the exchange after n polls
   abbrev pub FlightOf : ℕ → Asked S L D C → FlightView S L D C F → Type 0
   FlightOf n x (Waiting y) = (y ≡ x) × (n ≡ 0)
   FlightOf n x (Extracting h) = (0 < n) × Under n x (Extracting h)
-  FlightOf n x (Answered (outcome.Reply r)) = (d : ℕ) × (d < n) × ExchangeGives R request feed x d r
-  FlightOf n x (Answered outcome.Unfinished) = ⊥
-  FlightOf n x (Answered outcome.NoMemory) = 0 < n
+  FlightOf n x (Answered (Replied r)) = (d : ℕ) × (d < n) × ExchangeGives R request feed x d r
+  FlightOf n x (Answered Unfinished) = ⊥
+  FlightOf n x (Answered NoMemory) = 0 < n
 
   -- the flights that a plan makes of waiting ones
   abbrev pub Flown : List ℕ → List (FlightView S L D C F) → List (FlightView S L D C F) → Type 0
   Flown plan old new = (xs : List (Asked S L D C)) → old ≡ map (λ x. Waiting x) xs → EachFrom (λ k x f. FlightOf (polls plan k) x f) 0 xs new
 
   -- the outcome of a flight at the end of a plan
-  abbrev pub Lands : FlightView S L D C F → Outcome → Type 0
-  Lands (Waiting x) o = o ≡ outcome.Unfinished
-  Lands (Extracting h) o = (o ≡ outcome.Unfinished) × (FlightBefore R request feed gives (Extracting h) 0 → ⊥)
+  abbrev pub Lands : FlightView S L D C F → Ending → Type 0
+  Lands (Waiting x) o = o ≡ Unfinished
+  Lands (Extracting h) o = (o ≡ Unfinished) × (FlightBefore R request feed gives (Extracting h) 0 → ⊥)
   Lands (Answered p) o = o ≡ p
 
-  abbrev pub Landed : List (FlightView S L D C F) → List Outcome → Type 0
+  abbrev pub Landed : List (FlightView S L D C F) → List Ending → Type 0
   Landed fs os = EachFrom (λ k f o. Lands f o) 0 fs os
 
 -- each flight that left the ground made a record, unless one was lost

@@ -1,4 +1,5 @@
 pub mod Answers
+pub mod Endings
 pub mod Exchanges
 pub mod Flights
 pub mod Flown

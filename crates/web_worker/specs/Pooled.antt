@@ -1,7 +1,7 @@
 -- A worker that keeps no record, and the records that its polls make.
 use Rattle.std.specs.Prelude.{◌≡◌, ℕ, ◌+◌, Bool, true, false, cond, List, [], ◌∷◌, Option, None, Some, ◌⊎◌}
 use Rattle.web_request.specs.Pool.{Pool}
-use Rattle.web_worker.specs.declared.outcome.Outcome.TheVariants as outcome
+use Rattle.web_worker.specs.Endings.{Ending.Replied, Ending.Unfinished, Ending.NoMemory}
 use Rattle.web_worker.specs.declared.flight.Stage.TheVariants.{Waiting, Extracting, Answered}
 use Rattle.web_worker.specs.Exchanges.{FlightView}
 
@@ -23,13 +23,13 @@ module _ {S L D C F : Type 0} where
   abbrev pub is_lost : FlightView S L D C F → Bool
   is_lost (Waiting x) = false
   is_lost (Extracting h) = false
-  is_lost (Answered (outcome.Reply r)) = false
-  is_lost (Answered outcome.Unfinished) = false
-  is_lost (Answered outcome.NoMemory) = true
+  is_lost (Answered (Replied r)) = false
+  is_lost (Answered Unfinished) = false
+  is_lost (Answered NoMemory) = true
 
   -- a flight that waits takes a new record at its first poll, unless there is no memory for it
   abbrev pub Makes : FlightView S L D C F → FlightView S L D C F → Pool L → Pool L → Type 0
-  Makes (Waiting x) g p q = (q ≡ having_made (p.made + 1) p) ⊎ ((q ≡ p) × (g ≡ Answered outcome.NoMemory))
+  Makes (Waiting x) g p q = (q ≡ having_made (p.made + 1) p) ⊎ ((q ≡ p) × (g ≡ Answered NoMemory))
   Makes (Extracting h) g p q = q ≡ p
   Makes (Answered o) g p q = q ≡ p
 

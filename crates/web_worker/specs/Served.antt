@@ -4,9 +4,9 @@ use Rattle.std.specs.List.{list_any}
 use Rattle.web_request.specs.Feed.{Feed}
 use Rattle.web_request.specs.Pool.{Pool}
 use Rattle.web_request.specs.Request.{Request}
-use Rattle.web_extract.specs.Bare.{Reply}
-use Rattle.web_worker.specs.declared.outcome.Outcome.{Outcome}
-use Rattle.web_worker.specs.declared.outcome.Outcome.TheVariants as outcome
+use Rattle.web_reply.specs.Bodies.{Plain}
+use Rattle.web_reply.specs.Replies.{Reply}
+use Rattle.web_worker.specs.Endings.{Ending, Ending.Replied, Ending.Unfinished, Ending.NoMemory}
 use Rattle.web_worker.specs.Exchanges.{Asked}
 use Rattle.web_worker.specs.Answers.{Rules}
 use Rattle.web_worker.specs.Flights.{ExchangeGives, ExchangeBefore}
@@ -34,16 +34,16 @@ abbrev pub named : {X : Type 0} → List ℕ → List X → ℕ
 named plan xs = named_from plan 0 xs
 
 -- what n polls make of an exchange that is answered with r after d polls that leave it unanswered
-abbrev pub outcome_of : ℕ → Reply → ℕ → Outcome
-outcome_of d r n = cond (nat_lt d n) (outcome.Reply r) outcome.Unfinished
+abbrev pub outcome_of : ℕ → Reply Plain → ℕ → Ending
+outcome_of d r n = cond (nat_lt d n) (Replied r) Unfinished
 
-abbrev pub lacks_memory : Outcome → Bool
-lacks_memory (outcome.Reply r) = false
-lacks_memory outcome.Unfinished = false
-lacks_memory outcome.NoMemory = true
+abbrev pub lacks_memory : Ending → Bool
+lacks_memory (Replied r) = false
+lacks_memory Unfinished = false
+lacks_memory NoMemory = true
 
 -- the record that each exchange that was named took, where none lacked memory
-pub record MadeRecords {L X : Type 0} (plan : List ℕ) (xs : List X) (os : List Outcome) (old new : Pool L) : Type 0 where
+pub record MadeRecords {L X : Type 0} (plan : List ℕ) (xs : List X) (os : List Ending) (old new : Pool L) : Type 0 where
   pub exact : list_any lacks_memory os ≡ false → new.made ≡ old.made + named plan xs
   pub least : old.made ≤ new.made
   pub most : new.made ≤ old.made + named plan xs
@@ -51,11 +51,11 @@ pub record MadeRecords {L X : Type 0} (plan : List ℕ) (xs : List X) (os : List
 
 module _ {S L D C V E : Type 0} (R : Rules L D C V E) (request : Asked S L D C → Request L D C) (feed : S → Feed) where
   -- what n polls may make of the exchange
-  abbrev pub Allowed : ℕ → Asked S L D C → Outcome → Type 0
-  Allowed n x (outcome.Reply r) = (d : ℕ) × (d < n) × ExchangeGives R request feed x d r
-  Allowed n x outcome.Unfinished = (n ≡ 0) ⊎ (ExchangeBefore R request feed x n → ⊥)
-  Allowed n x outcome.NoMemory = 0 < n
+  abbrev pub Allowed : ℕ → Asked S L D C → Ending → Type 0
+  Allowed n x (Replied r) = (d : ℕ) × (d < n) × ExchangeGives R request feed x d r
+  Allowed n x Unfinished = (n ≡ 0) ⊎ (ExchangeBefore R request feed x n → ⊥)
+  Allowed n x NoMemory = 0 < n
 
   -- each outcome is one that the plan's polls of that exchange alone allow
-  abbrev pub Served : List ℕ → List (Asked S L D C) → List Outcome → Type 0
+  abbrev pub Served : List ℕ → List (Asked S L D C) → List Ending → Type 0
   Served plan xs os = EachFrom (λ k x o. Allowed (polls plan k) x o) 0 xs os

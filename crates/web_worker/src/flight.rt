@@ -25,33 +25,35 @@ impl<A: App, F: Poll> Model for InFlight<A, F> {
 
 /// How far an exchange has come.
 #[derive(Drop)]
-pub enum Stage<X, E> {
+pub enum Stage<X, E, O> {
     /// No entry of the plan named it yet.
     Waiting(X),
     /// Its arguments are being made.
     Extracting(E),
-    Answered(Outcome),
+    Answered(O),
 }
 
 /// An exchange under way. Contracts see it as its stage.
 #[derive(Drop)]
 pub struct Flight<A: App> {
-    pub(crate) stage: Stage<Exchange<A>, InFlight<A, HttpMessageBody<A::Source>>>,
+    pub(crate) stage: Stage<Exchange<A>, InFlight<A, HttpMessageBody<A::Source>>, Outcome<A>>,
 }
 
 impl<A: App> Model for Flight<A> {
     ghost use Rattle.web_body.specs.Collecting.{Collecting};
+    ghost use Rattle.web_worker.specs.Endings.{stage_view};
     ghost use Rattle.web_worker.specs.Exchanges.{FlightView};
 
     ghost Value = { FlightView A.Source A.Layer A.Local A.Conn (Collecting A.Source) };
 
-    ghost view = { λ f. f.stage };
+    ghost view = { λ f. stage_view A.Source.feed f.stage };
 }
 
 impl<A: App> Flight<A> {
     ghost use Rattle.std.specs.Prelude.{◌≡◌};
     ghost use Rattle.web_request.specs.Pool.{Pool};
     ghost use Rattle.web_body.specs.Collecting.{body_gives};
+    ghost use Rattle.web_worker.specs.Endings.{Ending.NoMemory as lost, ending_of};
     ghost use Rattle.web_worker.specs.Flown.{Lands};
     ghost use Rattle.web_worker.specs.Polls.{is_open};
     ghost use Rattle.web_worker.specs.Pooled.{KeepsNone};
@@ -78,7 +80,7 @@ impl<A: App> Flight<A> {
 
     /// A flight that found no memory.
     pub(crate) fn lost() -> Flight<A>
-        ensures { result ≡ Stage.Answered Outcome.NoMemory }
+        ensures { result ≡ Stage.Answered lost }
     {
         Flight {
             stage: Stage::Answered(Outcome::NoMemory),
@@ -86,10 +88,10 @@ impl<A: App> Flight<A> {
     }
 
     /// What the flight came to, where the plan is at its end. A record that it still holds is given back.
-    pub(crate) fn into_outcome(self, pool: &mut HttpRequestPool<A>) -> Outcome
+    pub(crate) fn into_outcome(self, pool: &mut HttpRequestPool<A>) -> Outcome<A>
         requires { KeepsNone pool.old }
         ensures pool { pool.new ≡ pool.old }
-        ensures lands { (worker : Pool A.Layer) → Lands bytes_rules (request_of worker) A.Source.feed (body_gives A.Source.feed) self result }
+        ensures lands { (worker : Pool A.Layer) → Lands bytes_rules (request_of worker) A.Source.feed (body_gives A.Source.feed) self (ending_of A.Source.feed result) }
     {
         let Flight { stage } = self;
         match stage {

@@ -1,45 +1,44 @@
 //! One poll of one exchange.
-ghost use Rattle.std.specs.Prelude.{◌≡◌, ◌+◌, ◌<◌, ◌^◌, slice_get};
+ghost use Rattle.std.specs.Prelude.{◌≡◌, ◌+◌, ◌<◌, ◌^◌, IfOk, slice_get};
+ghost use Rattle.web_reply.specs.Bodies.{box_plain};
+ghost use Rattle.web_reply.specs.Replies.{plain_reply};
+ghost use Rattle.web_worker.specs.Endings.{EndsAs, ending_of};
 ghost use Rattle.web_body.specs.Collecting.{body_gives};
 ghost use Rattle.web_worker.specs.Flights.{Moves, Polled};
 ghost use Rattle.web_worker.specs.Polls.{EffectAt, PollsAt};
 ghost use Rattle.web_worker.specs.Pooled.{KeepsNone, Makes, may_make};
-ghost use Rattle.web_worker.specs.Replies.{bytes_rules, reply_to, request_of};
+ghost use Rattle.web_worker.specs.Replies.{bytes_rules, request_of};
 
 use crate::exchange::Exchange;
 use crate::flight::{Flight, InFlight, Stage};
 use crate::outcome::Outcome;
 use crate::worker::Worker;
 use bytes::Bytes;
-use http::StatusCode;
 use std::alloc::Global;
 use std::mem;
-use web_body::{HttpMessageBody, PayloadError, Poll, Step};
-use web_extract::{Bare, FromRequest};
-use web_request::{App, HttpRequestPool};
+use web_body::{HttpMessageBody, Poll, Step};
+use web_extract::FromRequest;
+use web_reply::{BoxBody, HttpResponse, Responder};
+use web_request::{App, HttpRequest, HttpRequestPool, NoMemory};
 
-const TEXT: &str = "text/plain; charset=utf-8";
-
-/// The reply to the body of an exchange, or to its refusal.
-fn reply(answer: Result<Bytes, PayloadError>) -> Bare
-    ensures { result ≡ reply_to answer }
+/// The response of a value, with its body in the common form.
+fn respond<A: App, R: Responder<A>>(
+    alloc: Global,
+    value: R,
+    request: &HttpRequest<A>,
+) -> Result<HttpResponse<BoxBody<A::Source>>, NoMemory>
+    ensures { IfOk result (λ reply. R.responds value request.now.request (plain_reply (box_plain A.Source.feed) reply)) }
 {
-    match answer {
-        Ok(body) => Bare {
-            status: StatusCode::OK,
-            content_type: "application/octet-stream",
-            body,
-        },
-        Err(PayloadError::Overflow) => Bare {
-            status: StatusCode::PAYLOAD_TOO_LARGE,
-            content_type: TEXT,
-            body: Bytes::from_static(b"payload reached its limit"),
-        },
-        Err(PayloadError::Io) => Bare {
-            status: StatusCode::BAD_REQUEST,
-            content_type: TEXT,
-            body: Bytes::from_static(b"payload read failed"),
-        },
+    value.respond_to(alloc, request)?.map_into_boxed_body(alloc)
+}
+
+/// Answers with the response of a value, or with want of memory.
+fn answer<A: App, R: Responder<A>>(alloc: Global, value: R, request: &HttpRequest<A>) -> Outcome<A>
+    ensures { EndsAs (λ reply. R.responds value request.now.request reply) (ending_of A.Source.feed result) }
+{
+    match respond(alloc, value, request) {
+        Ok(reply) => Outcome::Reply(reply),
+        Err(_) => Outcome::NoMemory,
     }
 }
 
@@ -61,10 +60,11 @@ fn poll_arguments<A: App>(
         Step::Pending => Flight {
             stage: Stage::Extracting(InFlight { request, future }),
         },
-        Step::Ready(answer) => {
+        Step::Ready(body) => {
+            let outcome = answer(alloc, body, &request);
             pool.give_back(request);
             Flight {
-                stage: Stage::Answered(Outcome::Reply(reply(answer))),
+                stage: Stage::Answered(outcome),
             }
         }
         Step::NoMemory => {

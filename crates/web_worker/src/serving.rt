@@ -4,6 +4,7 @@ ghost use Rattle.std.specs.Vec.{vec_capacity};
 ghost use Rattle.web_body.specs.Collecting.{body_gives};
 ghost use Rattle.web_request.specs.Pool.{Pool};
 ghost use Rattle.web_worker.specs.declared.flight.Stage.{Stage};
+ghost use Rattle.web_worker.specs.Endings.{endings};
 ghost use Rattle.web_worker.specs.Flown.{Counted, Flown, Landed};
 ghost use Rattle.web_worker.specs.Function.{EachServed};
 ghost use Rattle.web_worker.specs.Pooled.{KeepsNone, waiting};
@@ -44,12 +45,12 @@ fn fly<A: App>(alloc: Global, worker: &mut Worker<A>, flights: &mut [Flight<A>],
 }
 
 /// Takes the outcome of each flight, and gives back the records that are still held, in their order.
-fn land<A: App>(pool: &mut HttpRequestPool<A>, outcomes: &mut Vec<Outcome>, flights: Vec<Flight<A>>)
+fn land<A: App>(pool: &mut HttpRequestPool<A>, outcomes: &mut Vec<Outcome<A>>, flights: Vec<Flight<A>>)
     requires none_kept { KeepsNone pool.old }
     requires room { length flights.items ≤ vec_capacity outcomes.old }
     requires none { outcomes.old.items ≡ [] }
     ensures pool { pool.new ≡ pool.old }
-    ensures landed { (worker : Pool A.Layer) → Landed bytes_rules (request_of worker) A.Source.feed (body_gives A.Source.feed) flights.items outcomes.new.items }
+    ensures landed { (worker : Pool A.Layer) → Landed bytes_rules (request_of worker) A.Source.feed (body_gives A.Source.feed) flights.items (endings A.Source.feed outcomes.new.items) }
 {
     for flight in flights {
         match outcomes.push(flight.into_outcome(pool)) {
@@ -68,11 +69,11 @@ pub fn serve_all<A: App>(
     worker: &mut Worker<A>,
     exchanges: Vec<Exchange<A>>,
     plan: &[usize],
-) -> Result<Vec<Outcome>, (NoMemory, Vec<Exchange<A>>)>
+) -> Result<Vec<Outcome<A>>, (NoMemory, Vec<Exchange<A>>)>
     requires { worker.old.made + length exchanges.items < 2 ^ 64 }
-    ensures outcomes { IfOk result (λ os. Served bytes_rules (request_of worker.old) A.Source.feed plan.now exchanges.items os.items) }
-    ensures served { IfOk result (λ os. EachServed A.Source.feed plan.now exchanges.items os.items) }
-    ensures records { IfOk result (λ os. MadeRecords plan.now exchanges.items os.items worker.old worker.new) }
+    ensures outcomes { IfOk result (λ os. Served bytes_rules (request_of worker.old) A.Source.feed plan.now exchanges.items (endings A.Source.feed os.items)) }
+    ensures served { IfOk result (λ os. EachServed A.Source.feed plan.now exchanges.items (endings A.Source.feed os.items)) }
+    ensures records { IfOk result (λ os. MadeRecords plan.now exchanges.items (endings A.Source.feed os.items) worker.old worker.new) }
     ensures back { IfErr result (λ e. e.1 ≡ exchanges) }
     ensures kept { OnErr result (worker.new ≡ worker.old) }
 {

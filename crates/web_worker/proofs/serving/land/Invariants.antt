@@ -3,6 +3,7 @@ use Rattle.std.specs.Vec.{vec_capacity}
 use Rattle.std.specs.Vec.Iter.{into_iter_items}
 use Rattle.web_request.specs.Pool.{Pool}
 use Rattle.web_body.specs.Collecting.{body_gives}
+use Rattle.web_worker.specs.Endings.{endings}
 use Rattle.web_worker.specs.Flown.{Landed}
 use Rattle.web_worker.specs.Replies.{bytes_rules, request_of}
 use Rattle.web_worker.proofs.serving.land.Given as goal
@@ -10,7 +11,7 @@ use Rattle.web_worker.proofs.serving.land.Given as goal
 abbrev pub invariant-loop-flight : goal.invariant-loop-flight
 invariant-loop-flight g l = record {
   pool : l.pool ≡ l.fn.pool;
-  landed : (worker : Pool g.row.A-Layer.Denot) → Landed bytes_rules (request_of worker) g.A.Source.Source.feed (body_gives g.A.Source.Source.feed) l.yielded l.outcomes.items;
+  landed : (worker : Pool g.row.A-Layer.Denot) → Landed bytes_rules (request_of worker) g.A.Source.Source.feed (body_gives g.A.Source.Source.feed) l.yielded (endings g.A.Source.Source.feed l.outcomes.items);
   rest : l.yielded ++ into_iter_items l.flight-iterator ≡ l.fn.flights.items;
   room : length l.fn.flights.items ≤ vec_capacity l.outcomes;
   count : length l.outcomes.items ≡ length l.yielded;
