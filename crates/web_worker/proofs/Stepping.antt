@@ -155,10 +155,14 @@ module _ {S L D C V E F : Type 0} (R : Rules L D C V E) (request : Asked S L D C
   one_less : (d : ℕ) (r : Reply Plain) (f : FlightView S L D C F) (h : Held L D C F) → Remains R request feed gives f d r → OnePollLater R request feed gives f (Extracting h) → GivesSome (gives h.future)
       → (e : ℕ) × (d ≡ suc e) × Remains R request feed gives (Extracting h) e r
   one_less zero r f h once later some = absurd (some (λ n x a. never n (later.1 0 once.comes n x a)))
-  one_less (suc e) r f h once later some = (e, refl, record {
-    once = λ k p a. let z = once.once (suc k) p (later.0 k p a) in (omega (arith, z.0), z.1);
-    comes = later.1 (suc e) once.comes;
-  })
+  one_less (suc e) r f h once later some = (
+    e,
+    refl,
+    record {
+      once = λ k p a. let z = once.once (suc k) p (later.0 k p a) in (omega (arith, z.0), z.1);
+      comes = later.1 (suc e) once.comes;
+    },
+  )
 
   effect_of : (d : ℕ) (r : Reply Plain) (f g : FlightView S L D C F) → Remains R request feed gives f d r → Polled R request feed gives f g → Effect R request feed gives d r g
   effect_of d r f (Waiting x) once p = p
@@ -212,3 +216,12 @@ module _ {S L D C V E F : Type 0} (R : Rules L D C V E) (request : Asked S L D C
   pub names_answered : (fs : List (FlightView S L D C F)) (k : ℕ) (f : FlightView S L D C F) (p : Pool L) → k < length fs → f ≡ slice_index_or fs k f → is_open f ≡ false
       → PollsAt R request feed gives k fs (slice_set fs k f) p p
   names_answered fs k f p lt is shut = rw (some_there fs k f lt is) (rests fs k f p shut)
+
+  pub names_open : (fs : List (FlightView S L D C F)) (k : ℕ) (f d g : FlightView S L D C F) (p q : Pool L) → k < length fs → f ≡ slice_index_or fs k d
+      → Moves R request feed gives f g → Makes f g p q → PollsAt R request feed gives k fs (slice_set fs k g) p q
+  names_open fs k f d g p q lt is moves makes = rw (there fs k f d lt is) (g, refl, moves, makes)
+    where
+      there : {X : Type 0} (xs : List X) (k : ℕ) (x d : X) → k < length xs → x ≡ slice_index_or xs k d → slice_get xs k ≡ Some x
+      there [] k x d lt e = absurd (omega arith)
+      there (y ∷ xs) zero x d lt e = ap Some (sym e)
+      there (y ∷ xs) (suc k) x d lt e = there xs k x d (omega arith) e

@@ -116,6 +116,17 @@ fn advance<A: App>(alloc: Global, pool: &mut HttpRequestPool<A>, flight: Flight<
     }
 }
 
+/// One poll of a flight in its place.
+fn advance_at<A: App>(alloc: Global, pool: &mut HttpRequestPool<A>, place: &mut Flight<A>)
+    requires none_kept { KeepsNone pool.old }
+    requires room { pool.old.made + may_make (Some place.old) < 2 ^ 64 }
+    ensures moves { Moves bytes_rules (request_of pool.old) A.Source.feed (body_gives A.Source.feed) place.old place.new }
+    ensures makes { Makes place.old place.new pool.old pool.new }
+{
+    let flight = mem::replace(place, Flight::lost());
+    drop(mem::replace(place, advance(alloc, pool, flight)));
+}
+
 /// Polls the flight of this number, where it is there.
 fn poll_at<A: App>(
     alloc: Global,
@@ -130,8 +141,7 @@ fn poll_at<A: App>(
     if k < flights.len() {
         let place = &mut flights[k];
         if place.is_open() {
-            let flight = mem::replace(place, Flight::lost());
-            *place = advance(alloc, pool, flight);
+            advance_at(alloc, pool, place);
         }
     }
 }

@@ -45,7 +45,11 @@ fn fly<A: App>(alloc: Global, worker: &mut Worker<A>, flights: &mut [Flight<A>],
 }
 
 /// Takes the outcome of each flight, and gives back the records that are still held, in their order.
-fn land<A: App>(pool: &mut HttpRequestPool<A>, outcomes: &mut Vec<Outcome<A>>, flights: Vec<Flight<A>>)
+fn land<A: App>(
+    pool: &mut HttpRequestPool<A>,
+    outcomes: &mut Vec<Outcome<A>>,
+    flights: Vec<Flight<A>>,
+)
     requires none_kept { KeepsNone pool.old }
     requires room { length flights.items ≤ vec_capacity outcomes.old }
     requires none { outcomes.old.items ≡ [] }

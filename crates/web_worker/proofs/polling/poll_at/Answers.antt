@@ -1,8 +1,8 @@
-use Rattle.std.proofs.Common.{◌≡◌, ◌∙◌, false, slice_set, subst, sym}
+use Rattle.std.proofs.Common.{◌≡◌, ◌∙◌, false, refl, slice_index_or, slice_set, subst, sym}
 use Rattle.web_body.specs.Collecting.{body_gives}
 use Rattle.web_worker.specs.Polls.{PollsAt, is_open}
 use Rattle.web_worker.specs.Replies.{bytes_rules, request_of}
-use Rattle.web_worker.proofs.Stepping.{names_answered, names_none}
+use Rattle.web_worker.proofs.Stepping.{names_answered, names_none, names_open}
 use Rattle.web_worker.proofs.polling.poll_at.Goals as goal
 
 pub returns-else-is_open : goal.returns-else-is_open
@@ -18,4 +18,11 @@ returns-else-is_open g c =
 pub returns-else-k-flights : goal.returns-else-k-flights
 returns-else-k-flights g c = record {
   polls = names_none bytes_rules (request_of c.args.pool.now) g.A.Source.Source.feed (body_gives g.A.Source.Source.feed) c.args.flights.now c.args.k c.args.pool.now c.if-k-flights.false;
+}
+
+pub returns-then-is_open : goal.returns-then-is_open
+returns-then-is_open g c = record {
+  polls = names_open bytes_rules (request_of c.args.pool.now) g.A.Source.Source.feed (body_gives g.A.Source.Source.feed)
+      c.args.flights.now c.args.k (slice_index_or c.args.flights.now c.args.k c.index-flights-k.result) c.index-flights-k.result c.advance_at.new.place c.args.pool.now c.advance_at.new.pool
+      c.if-k-flights.true refl c.advance_at.ensures.moves c.advance_at.ensures.makes;
 }

@@ -1,7 +1,10 @@
-use Rattle.std.proofs.Common.{◌≡◌, ◌++◌, ◌∙◌, List, take, drop, length, arith, subst, sym}
+use Rattle.std.proofs.Common.{◌≡◌, ◌++◌, ◌∙◌, ap, List, take, drop, length, arith, subst, sym}
+use Rattle.std.proofs.lemmas.List.{length-map}
 use Rattle.std.proofs.Math.Seq.{take-append_seam}
 use Rattle.web_body.specs.Collecting.{body_gives}
 use Rattle.web_request.specs.Pool.{Pool}
+use Rattle.web_worker.specs.declared.flight.Stage.TheVariants.{Waiting}
+use Rattle.web_worker.specs.Endings.{endings}
 use Rattle.web_worker.specs.Flown.{Landed}
 use Rattle.web_worker.specs.Pooled.{waiting}
 use Rattle.web_worker.specs.Replies.{bytes_rules, request_of}
@@ -17,24 +20,34 @@ fly-requires g c =
     let small = c.requires in
     omega (arith, all, small)
 
+pub land-requires-clause-room : goal.land-requires-clause-room
+land-requires-clause-room g c =
+    let n : length c.fly.new.flights ≡ c.board.new.flights.len = c.fly.auto.flights ∙ c.as_mut_slice.ensures.len in
+    let all : take c.board.new.flights.len (c.fly.new.flights ++ drop (length c.fly.new.flights) c.board.new.flights.items) ≡ c.fly.new.flights =
+    rw (← n) (take-append_seam c.fly.new.flights (drop (length c.fly.new.flights) c.board.new.flights.items)) in
+    let boarded : length c.board.new.flights.items ≡ length c.args.exchanges.items = ap length c.board.ensures ∙ length-map c.args.exchanges.items (λ x. Waiting x) in
+    let whole = c.board.new.flights.ok.0 in
+    let room = c.in-Ok-with_capacity.ensures.capacity in
+    rw all (omega (arith, n, boarded, whole, room))
+
 pub returns-clause-outcomes : goal.returns-clause-outcomes
 returns-clause-outcomes g c =
     let n : length c.fly.new.flights ≡ c.board.new.flights.len = c.fly.auto.flights ∙ c.as_mut_slice.ensures.len in
     let all : take c.board.new.flights.len (c.fly.new.flights ++ drop (length c.fly.new.flights) c.board.new.flights.items) ≡ c.fly.new.flights =
     rw (← n) (take-append_seam c.fly.new.flights (drop (length c.fly.new.flights) c.board.new.flights.items)) in
-    let landed = subst (λ (fs : List _). Landed bytes_rules (request_of c.args.worker.now) g.A.Source.Source.feed (body_gives g.A.Source.Source.feed) fs c.land.new.outcomes.items) all (c.land.ensures.landed c.args.worker.now) in
-    served bytes_rules (request_of c.args.worker.now) g.A.Source.Source.feed (body_gives g.A.Source.Source.feed) c.args.plan.now c.args.exchanges.items c.as_mut_slice.result.now c.fly.new.flights c.land.new.outcomes.items
+    let landed = subst (λ (fs : List _). Landed bytes_rules (request_of c.args.worker.now) g.A.Source.Source.feed (body_gives g.A.Source.Source.feed) fs (endings g.A.Source.Source.feed c.land.new.outcomes.items)) all (c.land.ensures.landed c.args.worker.now) in
+    served bytes_rules (request_of c.args.worker.now) g.A.Source.Source.feed (body_gives g.A.Source.Source.feed) c.args.plan.now c.args.exchanges.items c.as_mut_slice.result.now c.fly.new.flights (endings g.A.Source.Source.feed c.land.new.outcomes.items)
     (c.as_mut_slice.ensures.value ∙ c.board.ensures) c.fly.ensures.flown landed
 
 pub returns-clause-served : goal.returns-clause-served
-returns-clause-served g c = each_served (request_of c.args.worker.now) g.A.Source.Source.feed c.args.plan.now c.args.exchanges.items c.land.new.outcomes.items (returns-clause-outcomes g c)
+returns-clause-served g c = each_served (request_of c.args.worker.now) g.A.Source.Source.feed c.args.plan.now c.args.exchanges.items (endings g.A.Source.Source.feed c.land.new.outcomes.items) (returns-clause-outcomes g c)
 
 pub returns-clause-records : goal.returns-clause-records
 returns-clause-records g c =
     let n : length c.fly.new.flights ≡ c.board.new.flights.len = c.fly.auto.flights ∙ c.as_mut_slice.ensures.len in
     let all : take c.board.new.flights.len (c.fly.new.flights ++ drop (length c.fly.new.flights) c.board.new.flights.items) ≡ c.fly.new.flights =
     rw (← n) (take-append_seam c.fly.new.flights (drop (length c.fly.new.flights) c.board.new.flights.items)) in
-    let landed = subst (λ (fs : List _). Landed bytes_rules (request_of c.args.worker.now) g.A.Source.Source.feed (body_gives g.A.Source.Source.feed) fs c.land.new.outcomes.items) all (c.land.ensures.landed c.args.worker.now) in
-    subst (λ (q : Pool _). MadeRecords c.args.plan.now c.args.exchanges.items c.land.new.outcomes.items c.args.worker.now q) (sym (c.land.ensures.pool ∙ c.worker.view_is))
-    (made_records bytes_rules (request_of c.args.worker.now) g.A.Source.Source.feed (body_gives g.A.Source.Source.feed) c.args.plan.now c.args.exchanges.items c.as_mut_slice.result.now c.fly.new.flights c.land.new.outcomes.items
+    let landed = subst (λ (fs : List _). Landed bytes_rules (request_of c.args.worker.now) g.A.Source.Source.feed (body_gives g.A.Source.Source.feed) fs (endings g.A.Source.Source.feed c.land.new.outcomes.items)) all (c.land.ensures.landed c.args.worker.now) in
+    subst (λ (q : Pool _). MadeRecords c.args.plan.now c.args.exchanges.items (endings g.A.Source.Source.feed c.land.new.outcomes.items) c.args.worker.now q) (sym (c.land.ensures.pool ∙ c.worker.view_is))
+    (made_records bytes_rules (request_of c.args.worker.now) g.A.Source.Source.feed (body_gives g.A.Source.Source.feed) c.args.plan.now c.args.exchanges.items c.as_mut_slice.result.now c.fly.new.flights (endings g.A.Source.Source.feed c.land.new.outcomes.items)
     c.args.worker.now c.fly.new.worker (c.as_mut_slice.ensures.value ∙ c.board.ensures) c.fly.ensures.flown landed c.fly.ensures.counted)
