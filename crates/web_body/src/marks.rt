@@ -1,5 +1,5 @@
 //! Bodies in memory, cut into pieces as a script says.
-ghost use Rattle.std.specs.Prelude.{◌≡◌, ◌<◌, ◌^◌, ◌++◌, [], true, length};
+ghost use Rattle.std.specs.Prelude.{◌≡◌, ◌<◌, ◌^◌, ◌++◌, [], Some, true, length};
 ghost use Rattle.std.specs.Option.{IfNone, option_to_list};
 ghost use Rattle.web_request.specs.Body.{is_body, joined};
 ghost use Rattle.web_body.specs.Bodies.{is_empty_piece, without_empty, marks_feed};
@@ -48,6 +48,14 @@ impl Marks {
             stalls: 0,
             given: 0,
         }
+    }
+
+    /// The marks that are left, in two parts of which the second follows the first. Where they are cut is not said, and
+    /// empty pieces may be among them.
+    pub fn left(&self) -> (&[Mark], &[Mark])
+        ensures { self.now.marks ≡ Some (without_empty (result.0.now ++ result.1.now)) }
+    {
+        self.left.as_slices()
     }
 }
 
