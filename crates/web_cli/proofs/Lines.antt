@@ -2,6 +2,6 @@
 use Rattle.std.proofs.Common.{◌≡◌, ℕ, List, ◌++◌, Ok, Err, append_assoc}
 use Rattle.std.specs.Prelude.{Result, OnOk}
 
-pub three_parts : {E : Type 0} (r : Result (Unit {0}) E) (o a b c x y z : List ℕ) → x ≡ o ++ a → y ≡ x ++ b → OnOk r (z ≡ y ++ c) → OnOk r (z ≡ o ++ (a ++ b ++ c))
-three_parts (Ok u) o a b c x y z p q h = rw (h, q, p) (simp append_assoc)
-three_parts (Err e) o a b c x y z p q h = tt
+pub two_parts : {E : Type 0} (r : Result (Unit {0}) E) (o a b x y : List ℕ) → x ≡ o ++ a → OnOk r (y ≡ x ++ b) → OnOk r (y ≡ o ++ (a ++ b))
+two_parts (Ok u) o a b x y p h = rw (h, p) (append_assoc o a b)
+two_parts (Err e) o a b x y p h = tt

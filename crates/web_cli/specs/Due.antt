@@ -1,7 +1,7 @@
 -- The text that is due for a script.
 use Rattle.std.specs.Prelude.{◌≡◌, ℕ, Bool, true, false, List, [], ◌++◌, length, codes, map, nat_lt, if◌then◌else◌}
 use Rattle.std.specs.List.{enumerate_from}
-use Rattle.web_worker.specs.declared.outcome.Outcome.{Outcome}
+use Rattle.web_worker.specs.Endings.{Ending}
 use Rattle.web_worker.specs.Function.{delay_of, reply_of}
 use Rattle.web_worker.specs.Served.{polls, outcome_of, named}
 use Rattle.web_cli.specs.Asked.{Asked}
@@ -14,10 +14,10 @@ use Rattle.web_cli.specs.declared.due.Due.{Due}
 use Rattle.web_cli.specs.declared.due.Due.TheVariants as due
 
 -- what becomes of the exchange of this number: its reply where the plan names it more often than its body stalls
-abbrev pub outcome_in : List ℕ → ℕ × Asked → Outcome
+abbrev pub outcome_in : List ℕ → ℕ × Asked → Ending
 outcome_in plan (k, asked) = outcome_of (delay_of asked.marks) (reply_of asked.marks) (polls plan k)
 
-abbrev pub outcomes : Said → List Outcome
+abbrev pub outcomes : Said → List Ending
 outcomes s = map (outcome_in s.plan) (enumerate_from 0 s.exchanges)
 
 -- The outcome of each exchange; no record is kept, and one was made for each exchange that the plan names.

@@ -1,14 +1,17 @@
 pub mod Answers
 pub mod Asked
+pub mod BodyLines
 pub mod Demo
 pub mod Due
 pub mod Ends
 pub mod Entries
 pub mod Exchanges
 pub mod Faults
+pub mod HeaderLines
 pub mod Kept
 pub mod Kinds
 pub mod Line
+pub mod Lines
 pub mod Outcome
 pub mod Outside
 pub mod Printing

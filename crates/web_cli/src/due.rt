@@ -2,10 +2,11 @@
 ghost use Rattle.std.specs.Prelude.{◌≡◌, ◌<◌, ◌^◌, length, IfOk};
 ghost use Rattle.std.specs.List.{All, AllPass, list_any};
 ghost use Rattle.web_request.specs.Body.{is_body, joined};
+ghost use Rattle.web_worker.specs.Endings.{ending_of};
 ghost use Rattle.web_worker.specs.Served.{lacks_memory};
 ghost use Rattle.web_cli.specs.Due.{IsDue, replies_to};
 
-use crate::demo::{exchanges, worker};
+use crate::demo::{Demo, exchanges, worker};
 use crate::printing::printed;
 use crate::script::{Script, Verdict, read_script};
 use bytes::Bytes;
@@ -22,8 +23,8 @@ pub enum Due {
     Refused,
 }
 
-fn is_lost(outcomes: &[Outcome]) -> bool
-    ensures { result ≡ list_any lacks_memory outcomes.now }
+fn is_lost(outcomes: &[Outcome<Demo>]) -> bool
+    ensures { result ≡ list_any (λ o. lacks_memory (ending_of (λ feed. feed) o)) outcomes.now }
 {
     outcomes
         .iter()

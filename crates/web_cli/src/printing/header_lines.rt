@@ -1,0 +1,72 @@
+//! The lines of the headers.
+ghost use Rattle.std.specs.Prelude.{◌≡◌, ◌++◌, IfOk, OnOk, flat_map, map};
+ghost use Rattle.http_header.specs.HeaderMap.{keys};
+ghost use Rattle.web_cli.specs.HeaderLines.{header_line, header_lines, lines_of, sorted};
+
+use super::lines::put;
+use http_header::{HeaderMap, HeaderName, HeaderValue};
+use std::alloc::Global;
+use web_texts::NoMemory;
+
+/// The names of a map in the order of their bytes. A map has each name once.
+fn sorted_names(
+    alloc: Global,
+    headers: &HeaderMap<HeaderValue>,
+) -> Result<Vec<&HeaderName>, NoMemory>
+    ensures { IfOk result (λ names. map (λ n. n.now) names.items ≡ sorted (keys headers.now)) }
+{
+    let mut names = Vec::new(alloc);
+    for name in headers.keys() {
+        names.push(name)?;
+    }
+    names.sort_unstable_by(|a, b| a.as_str().cmp(b.as_str()));
+    Ok(names)
+}
+
+fn put_value(out: &mut Vec<u8>, name: &HeaderName, value: &HeaderValue) -> Result<(), NoMemory>
+    ensures { OnOk result (out.new.items ≡ out.old.items ++ header_line name.now value.now) }
+{
+    put(out, name.as_bytes())?;
+    put(out, b": ")?;
+    put(out, value.as_bytes())?;
+    put(out, b"\n")
+}
+
+/// The lines of one name's values.
+fn put_values(
+    out: &mut Vec<u8>,
+    headers: &HeaderMap<HeaderValue>,
+    name: &HeaderName,
+) -> Result<(), NoMemory>
+    ensures { OnOk result (out.new.items ≡ out.old.items ++ lines_of headers.now name.now) }
+{
+    for value in headers.get_all(name) {
+        put_value(out, name, value)?;
+    }
+    Ok(())
+}
+
+fn put_names(
+    out: &mut Vec<u8>,
+    headers: &HeaderMap<HeaderValue>,
+    names: Vec<&HeaderName>,
+) -> Result<(), NoMemory>
+    ensures { OnOk result (out.new.items ≡ out.old.items ++ flat_map (lines_of headers.now) (map (λ n. n.now) names.entry.items)) }
+{
+    for name in names {
+        put_values(out, headers, name)?;
+    }
+    Ok(())
+}
+
+/// The lines of all headers, in the order of their names' bytes.
+pub(crate) fn put_headers(
+    alloc: Global,
+    out: &mut Vec<u8>,
+    headers: &HeaderMap<HeaderValue>,
+) -> Result<(), NoMemory>
+    ensures { OnOk result (out.new.items ≡ out.old.items ++ header_lines headers.now) }
+{
+    let names = sorted_names(alloc, headers)?;
+    put_names(out, headers, names)
+}
