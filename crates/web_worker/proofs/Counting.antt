@@ -7,11 +7,11 @@ use Rattle.web_request.specs.Feed.{Feed}
 use Rattle.web_request.specs.Pool.{Pool, given_back}
 use Rattle.web_request.specs.Request.{Request}
 use Rattle.web_worker.specs.Endings.{Ending, Ending.Replied, Ending.Unfinished, Ending.NoMemory}
-use Rattle.web_worker.specs.declared.flight.Stage.TheVariants.{Waiting, Extracting, Answered}
+use Rattle.web_worker.specs.declared.flight.Stage.TheVariants.{Waiting, Extracting, Handling, Answered}
 use Rattle.web_worker.specs.Exchanges.{Asked, FlightView}
 use Rattle.web_worker.specs.Answers.{Rules}
 use Rattle.web_worker.specs.Flights.{Moves}
-use Rattle.web_worker.specs.Polls.{PollsAt}
+use Rattle.web_worker.specs.Polls.{PollsAt, Stays, Steps}
 use Rattle.web_worker.specs.Pooled.{KeepsNone, having_made, is_waiting, is_lost, Makes, may_make, waiting}
 use Rattle.web_worker.specs.Served.{polls, EachFrom, named_from, named, lacks_memory, MadeRecords}
 use Rattle.web_worker.specs.Flown.{FlightOf, Flown, Lands, Landed, Counted}
@@ -28,10 +28,11 @@ dropped p n none =
     rw off refl
 
 -- and a poll leaves it one that keeps none
-pub still_none : {S L D C F : Type 0} (f g : FlightView S L D C F) (p q : Pool L) → KeepsNone p → Makes f g p q → KeepsNone q
+pub still_none : {S L D C U W : Type 0} (f g : FlightView S L D C U W) (p q : Pool L) → KeepsNone p → Makes f g p q → KeepsNone q
 still_none (Waiting x) g p q none (inl e) = rw e (record { capacity = none.capacity; serials = none.serials })
 still_none (Waiting x) g p q none (inr e) = rw e.0 none
 still_none (Extracting h) g p q none e = rw e none
+still_none (Handling h) g p q none e = rw e none
 still_none (Answered o) g p q none e = rw e none
 
 or-true : (b : Bool) → (b || true) ≡ true
@@ -53,43 +54,43 @@ lost_tail a b c keeps (inl l) = rw l refl
 lost_tail a b c keeps (inr l) = rw (keeps l) (or-true a)
 
 -- a change at one place
-module _ {S L D C F : Type 0} where
-  waiting_set : (fs : List (FlightView S L D C F)) (k : ℕ) (f g : FlightView S L D C F) → slice_get fs k ≡ Some f
+module _ {S L D C U W : Type 0} where
+  waiting_set : (fs : List (FlightView S L D C U W)) (k : ℕ) (f g : FlightView S L D C U W) → slice_get fs k ≡ Some f
       → waiting (slice_set fs k g) + cond (is_waiting f) 1 0 ≡ waiting fs + cond (is_waiting g) 1 0
   waiting_set [] k f g e = absurd cc
   waiting_set (h ∷ fs) zero f g e = let q : h ≡ f = cc in rw q (omega arith)
   waiting_set (h ∷ fs) (suc k) f g e = let q = waiting_set fs k f g e in omega (arith, q)
 
-  lost_here : (fs : List (FlightView S L D C F)) (k : ℕ) (f g : FlightView S L D C F) → slice_get fs k ≡ Some f → is_lost g ≡ true → list_any is_lost (slice_set fs k g) ≡ true
+  lost_here : (fs : List (FlightView S L D C U W)) (k : ℕ) (f g : FlightView S L D C U W) → slice_get fs k ≡ Some f → is_lost g ≡ true → list_any is_lost (slice_set fs k g) ≡ true
   lost_here [] k f g e l = absurd cc
   lost_here (h ∷ fs) zero f g e l = rw l refl
   lost_here (h ∷ fs) (suc k) f g e l = rw (lost_here fs k f g e l) (or-true (is_lost h))
 
-  lost_head : (h : FlightView S L D C F) (fs : List (FlightView S L D C F)) (f g : FlightView S L D C F) → h ≡ f → (is_lost f ≡ true → is_lost g ≡ true)
+  lost_head : (h : FlightView S L D C U W) (fs : List (FlightView S L D C U W)) (f g : FlightView S L D C U W) → h ≡ f → (is_lost f ≡ true → is_lost g ≡ true)
       → (is_lost h ≡ true) ⊎ (list_any is_lost fs ≡ true) → (is_lost g || list_any is_lost fs) ≡ true
   lost_head h fs f g e keeps (inl l) = let m : is_lost g ≡ true = keeps (ap is_lost (sym e) ∙ l) in rw m refl
   lost_head h fs f g e keeps (inr l) = rw l (or-true (is_lost g))
 
-  lost_stays : (fs : List (FlightView S L D C F)) (k : ℕ) (f g : FlightView S L D C F) → slice_get fs k ≡ Some f → (is_lost f ≡ true → is_lost g ≡ true)
+  lost_stays : (fs : List (FlightView S L D C U W)) (k : ℕ) (f g : FlightView S L D C U W) → slice_get fs k ≡ Some f → (is_lost f ≡ true → is_lost g ≡ true)
       → list_any is_lost fs ≡ true → list_any is_lost (slice_set fs k g) ≡ true
   lost_stays [] k f g e keeps l = absurd cc
   lost_stays (h ∷ fs) zero f g e keeps l = lost_head h fs f g (cc) keeps (either (is_lost h) (list_any is_lost fs) l)
   lost_stays (h ∷ fs) (suc k) f g e keeps l = lost_tail (is_lost h) (list_any is_lost fs) (list_any is_lost (slice_set fs k g)) (lost_stays fs k f g e keeps) (either (is_lost h) (list_any is_lost fs) l)
 
   -- a flight whose next poll may make a record waits
-  pub room : (fs : List (FlightView S L D C F)) (k : ℕ) → may_make (slice_get fs k) ≤ waiting fs
+  pub room : (fs : List (FlightView S L D C U W)) (k : ℕ) → may_make (slice_get fs k) ≤ waiting fs
   room [] k = omega arith
   room (h ∷ fs) zero = omega arith
   room (h ∷ fs) (suc k) = let q = room fs k in omega arith
 
-  pub waiting_start : (fs : List (FlightView S L D C F)) (xs : List (Asked S L D C)) → fs ≡ map (λ x. Waiting x) xs → waiting fs ≡ length xs
+  pub waiting_start : (fs : List (FlightView S L D C U W)) (xs : List (Asked S L D C)) → fs ≡ map (λ x. Waiting x) xs → waiting fs ≡ length xs
   waiting_start fs xs e = rw e (waiting_map xs)
     where
-      waiting_map : (xs : List (Asked S L D C)) → waiting {F = F} (map (λ x. Waiting x) xs) ≡ length xs
+      waiting_map : (xs : List (Asked S L D C)) → waiting {U = U} {W = W} (map (λ x. Waiting x) xs) ≡ length xs
       waiting_map [] = refl
       waiting_map (x ∷ xs) = let h = waiting_map xs in omega (arith, h)
 
-  pub counted_start : (fs : List (FlightView S L D C F)) (p : Pool L) → Counted fs fs p p
+  pub counted_start : (fs : List (FlightView S L D C U W)) (p : Pool L) → Counted fs fs p p
   counted_start fs p = record { made = inl refl; least = omega arith; most = omega arith; rest = refl }
 
 -- what a poll of a flight adds to the number made, where w and v say whether it waited before and after
@@ -114,11 +115,13 @@ stays w b p q e =
     let m : q.made ≡ p.made = ap (λ (z : Pool _). z.made) e in
     record { made = inl (omega arith); least = omega arith; most = omega arith; rest = e ∙ ap (λ (n : ℕ). having_made n p) (sym m) }
 
-module _ {S L D C V E F : Type 0} (R : Rules L D C V E) (request : Asked S L D C → Request L D C) (feed : S → Feed) (gives : F → ℕ → Result V E → Type 0) where
-  adds_one : (f g : FlightView S L D C F) (p q : Pool L) → Moves R request feed gives f g → Makes f g p q → AddsOne (cond (is_waiting f) 1 0) (cond (is_waiting g) 1 0) (is_lost g) p q
+module _ {S L D C V E Y U W : Type 0} (R : Rules L D C V E Y) (request : Asked S L D C → Request L D C) (feed : S → Feed) (u : U → ℕ → Result V E → Type 0) (w : W → ℕ → Y → Type 0) where
+  adds_one : (f g : FlightView S L D C U W) (p q : Pool L) → Moves R request feed u w f g → Makes f g p q → AddsOne (cond (is_waiting f) 1 0) (cond (is_waiting g) 1 0) (is_lost g) p q
   adds_one (Waiting x) (Waiting y) p q m k = absurd m
   adds_one (Waiting x) (Extracting h) p q m (inl e) = taken_one false p q e
   adds_one (Waiting x) (Extracting h) p q m (inr e) = let n = e.1 in absurd (cc)
+  adds_one (Waiting x) (Handling h) p q m (inl e) = taken_one false p q e
+  adds_one (Waiting x) (Handling h) p q m (inr e) = let n = e.1 in absurd (cc)
   adds_one (Waiting x) (Answered (Replied r)) p q m (inl e) = taken_one false p q e
   adds_one (Waiting x) (Answered (Replied r)) p q m (inr e) = let n = e.1 in absurd (cc)
   adds_one (Waiting x) (Answered Unfinished) p q m k = absurd m
@@ -126,15 +129,21 @@ module _ {S L D C V E F : Type 0} (R : Rules L D C V E) (request : Asked S L D C
   adds_one (Waiting x) (Answered NoMemory) p q m (inr e) = not_taken p q e.0
   adds_one (Extracting h) (Waiting y) p q m k = absurd m
   adds_one (Extracting h) (Extracting j) p q m k = stays 0 false p q k
-  adds_one (Extracting h) (Answered o) p q m k = stays 0 (is_lost {S = S} {L = L} {D = D} {C = C} {F = F} (Answered o)) p q k
-  adds_one (Answered o) g p q m k = subst (λ (z : FlightView S L D C F). AddsOne 0 (cond (is_waiting z) 1 0) (is_lost z) p q) (sym m) (stays 0 (is_lost {S = S} {L = L} {D = D} {C = C} {F = F} (Answered o)) p q k)
+  adds_one (Extracting h) (Handling j) p q m k = stays 0 false p q k
+  adds_one (Handling h) (Waiting y) p q m k = absurd m
+  adds_one (Handling h) (Extracting j) p q m k = stays 0 false p q k
+  adds_one (Handling h) (Handling j) p q m k = stays 0 false p q k
+  adds_one (Handling h) (Answered o) p q m k = stays 0 (is_lost {S = S} {L = L} {D = D} {C = C} {U = U} {W = W} (Answered o)) p q k
+  adds_one (Extracting h) (Answered o) p q m k = stays 0 (is_lost {S = S} {L = L} {D = D} {C = C} {U = U} {W = W} (Answered o)) p q k
+  adds_one (Answered o) g p q m k = subst (λ (z : FlightView S L D C U W). AddsOne 0 (cond (is_waiting z) 1 0) (is_lost z) p q) (sym m) (stays 0 (is_lost {S = S} {L = L} {D = D} {C = C} {U = U} {W = W} (Answered o)) p q k)
 
-  keeps_lost : (f g : FlightView S L D C F) → Moves R request feed gives f g → is_lost f ≡ true → is_lost g ≡ true
+  keeps_lost : (f g : FlightView S L D C U W) → Moves R request feed u w f g → is_lost f ≡ true → is_lost g ≡ true
   keeps_lost (Waiting x) g m l = absurd (cc)
   keeps_lost (Extracting h) g m l = absurd (cc)
+  keeps_lost (Handling h) g m l = absurd (cc)
   keeps_lost (Answered o) g m l = rw m l
 
-  counted_set : (old mid : List (FlightView S L D C F)) (k : ℕ) (f g : FlightView S L D C F) (p m q : Pool L) → slice_get mid k ≡ Some f
+  counted_set : (old mid : List (FlightView S L D C U W)) (k : ℕ) (f g : FlightView S L D C U W) (p m q : Pool L) → slice_get mid k ≡ Some f
       → AddsOne (cond (is_waiting f) 1 0) (cond (is_waiting g) 1 0) (is_lost g) m q → (is_lost f ≡ true → is_lost g ≡ true)
       → Counted old mid p m → Counted old (slice_set mid k g) p q
   counted_set old mid k f g p m q e one keeps c =
@@ -152,53 +161,57 @@ module _ {S L D C V E F : Type 0} (R : Rules L D C V E) (request : Asked S L D C
       made_of (inl a) (inr l) = inr (lost_stays mid k f g e keeps l)
       made_of (inl a) (inl b) = inl (let w = waiting_set mid k f g e in omega (arith, a, b, w))
 
-  counted_at : (k : ℕ) (old mid new : List (FlightView S L D C F)) (p m q : Pool L) (o : Option (FlightView S L D C F)) → slice_get mid k ≡ o
-      → MatchOption o ((new ≡ mid) × (q ≡ m)) (λ f. (g : FlightView S L D C F) × (new ≡ slice_set mid k g) × Moves R request feed gives f g × Makes f g m q)
+  counted_at : (k : ℕ) (old mid new : List (FlightView S L D C U W)) (p m q : Pool L) (told told_new : Option (List V)) (o : Option (FlightView S L D C U W)) → slice_get mid k ≡ o
+      → MatchOption o (Stays R request feed u w mid new m q told told_new) (λ f. (g : FlightView S L D C U W) × (new ≡ slice_set mid k g) × Steps R request feed u w f g m q told told_new)
       → Counted old mid p m → Counted old new p q
-  counted_at k old mid new p m q None e h c = rw (h.0, h.1) c
-  counted_at k old mid new p m q (Some f) e h c =
-      rw h.1 (counted_set old mid k f h.0 p m q e (adds_one f h.0 m q h.2 h.3) (keeps_lost f h.0 h.2) c)
+  counted_at k old mid new p m q told told_new None e h c = rw (h.flights, h.pool) c
+  counted_at k old mid new p m q told told_new (Some f) e h c =
+      rw h.1 (counted_set old mid k f h.0 p m q e (adds_one f h.0 m q h.2.moves h.2.makes) (keeps_lost f h.0 h.2.moves) c)
 
-  pub counted_next : (k : ℕ) (old mid new : List (FlightView S L D C F)) (p m q : Pool L) → Counted old mid p m → PollsAt R request feed gives k mid new m q → Counted old new p q
-  counted_next k old mid new p m q c h = counted_at k old mid new p m q (slice_get mid k) refl h c
+  pub counted_next : (k : ℕ) (old mid new : List (FlightView S L D C U W)) (p m q : Pool L) (told told_new : Option (List V)) → Counted old mid p m
+      → PollsAt R request feed u w k mid new m q told told_new → Counted old new p q
+  counted_next k old mid new p m q told told_new c h = counted_at k old mid new p m q told told_new (slice_get mid k) refl h c
 
-  still_at : (k : ℕ) (old new : List (FlightView S L D C F)) (p q : Pool L) (o : Option (FlightView S L D C F)) → KeepsNone p
-      → MatchOption o ((new ≡ old) × (q ≡ p)) (λ f. (g : FlightView S L D C F) × (new ≡ slice_set old k g) × Moves R request feed gives f g × Makes f g p q) → KeepsNone q
-  still_at k old new p q None none h = rw h.1 none
-  still_at k old new p q (Some f) none h = still_none f h.0 p q none h.3
+  still_at : (k : ℕ) (old new : List (FlightView S L D C U W)) (p q : Pool L) (told told_new : Option (List V)) (o : Option (FlightView S L D C U W)) → KeepsNone p
+      → MatchOption o (Stays R request feed u w old new p q told told_new) (λ f. (g : FlightView S L D C U W) × (new ≡ slice_set old k g) × Steps R request feed u w f g p q told told_new) → KeepsNone q
+  still_at k old new p q told told_new None none h = rw h.pool none
+  still_at k old new p q told told_new (Some f) none h = still_none f h.0 p q none h.2.makes
 
-  pub keeps_none : (k : ℕ) (old new : List (FlightView S L D C F)) (p q : Pool L) → KeepsNone p → PollsAt R request feed gives k old new p q → KeepsNone q
-  keeps_none k old new p q none h = still_at k old new p q (slice_get old k) none h
+  pub keeps_none : (k : ℕ) (old new : List (FlightView S L D C U W)) (p q : Pool L) (told told_new : Option (List V)) → KeepsNone p
+      → PollsAt R request feed u w k old new p q told told_new → KeepsNone q
+  keeps_none k old new p q told told_new none h = still_at k old new p q told told_new (slice_get old k) none h
 
   -- each exchange that the plan names has left the ground
-  named_one : (n : ℕ) (x : Asked S L D C) (f : FlightView S L D C F) → FlightOf R request feed gives n x f → cond {A = ℕ} (is_waiting f) 1 0 + cond {A = ℕ} (nat_lt 0 n) 1 0 ≡ 1
+  named_one : (n : ℕ) (x : Asked S L D C) (f : FlightView S L D C U W) → FlightOf R request feed u w n x f → cond {A = ℕ} (is_waiting f) 1 0 + cond {A = ℕ} (nat_lt 0 n) 1 0 ≡ 1
   named_one n x (Waiting y) h = rw (named_no n h.1) refl
   named_one n x (Extracting k) h = rw (named_yes n h.0) refl
+  named_one n x (Handling k) h = rw (named_yes n h.0) refl
   named_one n x (Answered (Replied r)) h = let l : 0 < n = omega (arith, h.1) in rw (named_yes n l) refl
   named_one n x (Answered Unfinished) h = absurd h
   named_one n x (Answered NoMemory) h = rw (named_yes n h) refl
 
-  named_all : (p : List ℕ) (i : ℕ) (xs : List (Asked S L D C)) (fs : List (FlightView S L D C F)) → EachFrom (λ k x f. FlightOf R request feed gives (polls p k) x f) i xs fs → waiting fs + named_from p i xs ≡ length xs
+  named_all : (p : List ℕ) (i : ℕ) (xs : List (Asked S L D C)) (fs : List (FlightView S L D C U W)) → EachFrom (λ k x f. FlightOf R request feed u w (polls p k) x f) i xs fs → waiting fs + named_from p i xs ≡ length xs
   named_all p i [] [] h = refl
   named_all p i (x ∷ xs) (f ∷ fs) h = let a = named_one (polls p i) x f h.0 in let b = named_all p (suc i) xs fs h.1 in omega (arith, a, b)
   named_all p i [] (f ∷ fs) h = absurd h
   named_all p i (x ∷ xs) [] h = absurd h
 
-  lost_one : (f : FlightView S L D C F) (o : Ending) → Lands R request feed gives f o → lacks_memory o ≡ is_lost f
+  lost_one : (f : FlightView S L D C U W) (o : Ending) → Lands R request feed u w f o → lacks_memory o ≡ is_lost f
   lost_one (Waiting x) o l = rw l refl
   lost_one (Extracting h) o l = rw l.0 refl
+  lost_one (Handling h) o l = rw l.0 refl
   lost_one (Answered (Replied r)) o l = rw l refl
   lost_one (Answered Unfinished) o l = rw l refl
   lost_one (Answered NoMemory) o l = rw l refl
 
-  lost_all : (i : ℕ) (fs : List (FlightView S L D C F)) (os : List Ending) → EachFrom (λ k f o. Lands R request feed gives f o) i fs os → list_any lacks_memory os ≡ list_any is_lost fs
+  lost_all : (i : ℕ) (fs : List (FlightView S L D C U W)) (os : List Ending) → EachFrom (λ k f o. Lands R request feed u w f o) i fs os → list_any lacks_memory os ≡ list_any is_lost fs
   lost_all i [] [] h = refl
   lost_all i (f ∷ fs) (o ∷ os) h = rw (lost_one f o h.0, lost_all (suc i) fs os h.1) refl
   lost_all i [] (o ∷ os) h = absurd h
   lost_all i (f ∷ fs) [] h = absurd h
 
-  pub made_records : (plan : List ℕ) (xs : List (Asked S L D C)) (start fs : List (FlightView S L D C F)) (os : List Ending) (p q : Pool L) → start ≡ map (λ x. Waiting x) xs
-      → Flown R request feed gives plan start fs → Landed R request feed gives fs os → Counted start fs p q → MadeRecords plan xs os p q
+  pub made_records : (plan : List ℕ) (xs : List (Asked S L D C)) (start fs : List (FlightView S L D C U W)) (os : List Ending) (p q : Pool L) → start ≡ map (λ x. Waiting x) xs
+      → Flown R request feed u w plan start fs → Landed R request feed u w fs os → Counted start fs p q → MadeRecords plan xs os p q
   made_records plan xs start fs os p q e flown landed c =
       let all = named_all plan 0 xs fs (flown xs e) in
       let first = waiting_start start xs e in

@@ -1,4 +1,9 @@
+pub mod Called
+pub mod Calling
 pub mod Counting
 pub mod Eaches
+pub mod Flying
 pub mod Outcomes
+pub mod Places
+pub mod Same
 pub mod Stepping

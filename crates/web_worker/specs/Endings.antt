@@ -6,7 +6,7 @@ use Rattle.web_reply.specs.Replies.{Reply, plain_reply}
 use Rattle.web_worker.specs.declared.outcome.Outcome.{Outcome}
 use Rattle.web_worker.specs.declared.outcome.Outcome.TheVariants as outcome
 use Rattle.web_worker.specs.declared.flight.Stage.{Stage}
-use Rattle.web_worker.specs.declared.flight.Stage.TheVariants.{Waiting, Extracting, Answered}
+use Rattle.web_worker.specs.declared.flight.Stage.TheVariants.{Waiting, Extracting, Handling, Answered}
 
 pub data Ending : Type 0 where
   Replied : Reply Plain → Ending
@@ -31,7 +31,8 @@ EndsAs P Ending.Unfinished = ⊥
 EndsAs P Ending.NoMemory = ⊤
 
 -- a stage whose outcome is seen as a plain value
-abbrev pub stage_view : {X E A L D C S : Type 0} → (S → Feed) → Stage X E (Outcome A L D C S) → Stage X E Ending
+abbrev pub stage_view : {X U W A L D C S : Type 0} → (S → Feed) → Stage X U W (Outcome A L D C S) → Stage X U W Ending
 stage_view feed (Waiting x) = Waiting x
 stage_view feed (Extracting h) = Extracting h
+stage_view feed (Handling h) = Handling h
 stage_view feed (Answered o) = Answered (ending_of feed o)

@@ -1,28 +1,28 @@
 -- Where the promises allow one answer, the outcome is a function of the exchange and of its number of polls.
-use Rattle.std.specs.Prelude.{◌≡◌, ℕ, List, MatchOption, ◌⊎◌, ⊤}
-use Rattle.web_request.specs.declared.source.Mark.{Mark}
+use Rattle.std.specs.Prelude.{◌≡◌, ℕ, ◌<◌, List, ◌⊎◌}
+use Rattle.std.specs.List.{All}
 use Rattle.web_request.specs.Feed.{Feed}
-use Rattle.web_request.specs.Reading.{reading}
-use Rattle.web_body.specs.Payload.{payload_feed}
-use Rattle.web_body.specs.Collecting.{answer_of}
+use Rattle.web_request.specs.Request.{Request}
 use Rattle.web_reply.specs.Bodies.{Plain}
 use Rattle.web_reply.specs.Replies.{Reply}
 use Rattle.web_worker.specs.Endings.{Ending, Ending.NoMemory}
 use Rattle.web_worker.specs.Exchanges.{Asked}
-use Rattle.web_worker.specs.Replies.{reply_to}
+use Rattle.web_worker.specs.Answers.{Rules}
+use Rattle.web_worker.specs.Flights.{ExchangeGives, ExchangeBefore}
 use Rattle.web_worker.specs.Served.{polls, EachFrom, outcome_of}
 
--- the delay and the reply of an exchange with this body, read under the limit of the argument
-abbrev pub delay_of : List Mark → ℕ
-delay_of m = (reading 262144 m).delay
+-- memory was wanting, or this is what n polls make of an exchange with this delay and this reply
+abbrev pub IsOutcome : ℕ → Reply Plain → ℕ → Ending → Type 0
+IsOutcome d r n o = (o ≡ NoMemory) ⊎ (o ≡ outcome_of d r n)
 
-abbrev pub reply_of : List Mark → Reply Plain
-reply_of m = reply_to (answer_of ((reading 262144 m).content))
+module _ {S L D C V E Y : Type 0} (R : Rules L D C V E Y) (request : Asked S L D C → Request L D C) (feed : S → Feed) where
+  -- the exchange has this one delay and this one reply
+  pub record AnswersOnce (x : Asked S L D C) (d : ℕ) (r : Reply Plain) : Type 0 where
+    pub once : (k : ℕ) (p : Reply Plain) → ExchangeGives R request feed x k p → (k ≡ d) × (p ≡ r)
+    pub comes : (n : ℕ) → d < n → ExchangeBefore R request feed x n
 
--- memory was wanting, or this is the outcome of an exchange with this body after n polls
-abbrev pub IsOutcome : ℕ → List Mark → Ending → Type 0
-IsOutcome n m o = (o ≡ NoMemory) ⊎ (o ≡ outcome_of (delay_of m) (reply_of m) n)
-
--- each outcome is that of its own exchange and its own number of polls, where the marks of its body are told
-abbrev pub EachServed : {S L D C : Type 0} → (S → Feed) → List ℕ → List (Asked S L D C) → List Ending → Type 0
-EachServed feed plan xs os = EachFrom (λ k x o. MatchOption (payload_feed feed x.body).marks ⊤ (λ m. IsOutcome (polls plan k) m o)) 0 xs os
+  -- Where each exchange has one delay and one reply, its outcome is the function of these and of its own number of polls.
+  abbrev pub ServedByFunctions : List ℕ → List (Asked S L D C) → List Ending → Type 0
+  ServedByFunctions plan xs os = (delay_of : Asked S L D C → ℕ) (reply_of : Asked S L D C → Reply Plain)
+      → All (λ x. AnswersOnce x (delay_of x) (reply_of x)) xs
+      → EachFrom (λ k x o. IsOutcome (delay_of x) (reply_of x) (polls plan k) o) 0 xs os

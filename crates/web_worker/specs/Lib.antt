@@ -1,10 +1,12 @@
 pub mod Answers
+pub mod Called
 pub mod Endings
 pub mod Exchanges
 pub mod Flights
 pub mod Flown
 pub mod Function
+pub mod Handling
 pub mod Polls
 pub mod Pooled
-pub mod Replies
 pub mod Served
+pub mod Told

@@ -2,7 +2,7 @@
 use Rattle.std.specs.Prelude.{◌≡◌, ℕ, ◌+◌, Bool, true, false, cond, List, [], ◌∷◌, Option, None, Some, ◌⊎◌}
 use Rattle.web_request.specs.Pool.{Pool}
 use Rattle.web_worker.specs.Endings.{Ending.Replied, Ending.Unfinished, Ending.NoMemory}
-use Rattle.web_worker.specs.declared.flight.Stage.TheVariants.{Waiting, Extracting, Answered}
+use Rattle.web_worker.specs.declared.flight.Stage.TheVariants.{Waiting, Extracting, Handling, Answered}
 use Rattle.web_worker.specs.Exchanges.{FlightView}
 
 -- no record is kept, now or later
@@ -14,31 +14,34 @@ pub record KeepsNone {L : Type 0} (p : Pool L) : Type 0 where
 abbrev pub having_made : {L : Type 0} → ℕ → Pool L → Pool L
 having_made n p = record p { made = n }
 
-module _ {S L D C F : Type 0} where
-  abbrev pub is_waiting : FlightView S L D C F → Bool
+module _ {S L D C U W : Type 0} where
+  abbrev pub is_waiting : FlightView S L D C U W → Bool
   is_waiting (Waiting x) = true
   is_waiting (Extracting h) = false
+  is_waiting (Handling h) = false
   is_waiting (Answered o) = false
 
-  abbrev pub is_lost : FlightView S L D C F → Bool
+  abbrev pub is_lost : FlightView S L D C U W → Bool
   is_lost (Waiting x) = false
   is_lost (Extracting h) = false
+  is_lost (Handling h) = false
   is_lost (Answered (Replied r)) = false
   is_lost (Answered Unfinished) = false
   is_lost (Answered NoMemory) = true
 
   -- a flight that waits takes a new record at its first poll, unless there is no memory for it
-  abbrev pub Makes : FlightView S L D C F → FlightView S L D C F → Pool L → Pool L → Type 0
+  abbrev pub Makes : FlightView S L D C U W → FlightView S L D C U W → Pool L → Pool L → Type 0
   Makes (Waiting x) g p q = (q ≡ having_made (p.made + 1) p) ⊎ ((q ≡ p) × (g ≡ Answered NoMemory))
   Makes (Extracting h) g p q = q ≡ p
+  Makes (Handling h) g p q = q ≡ p
   Makes (Answered o) g p q = q ≡ p
 
   -- how many of the flights wait
-  abbrev pub waiting : List (FlightView S L D C F) → ℕ
+  abbrev pub waiting : List (FlightView S L D C U W) → ℕ
   waiting [] = 0
   waiting (f ∷ fs) = cond (is_waiting f) 1 0 + waiting fs
 
   -- how many records the next poll of this flight may make
-  abbrev pub may_make : Option (FlightView S L D C F) → ℕ
+  abbrev pub may_make : Option (FlightView S L D C U W) → ℕ
   may_make None = 0
   may_make (Some f) = cond (is_waiting f) 1 0

@@ -49,7 +49,7 @@ pub record MadeRecords {L X : Type 0} (plan : List ℕ) (xs : List X) (os : List
   pub most : new.made ≤ old.made + named plan xs
   pub rest : new ≡ having_made new.made old
 
-module _ {S L D C V E : Type 0} (R : Rules L D C V E) (request : Asked S L D C → Request L D C) (feed : S → Feed) where
+module _ {S L D C V E Y : Type 0} (R : Rules L D C V E Y) (request : Asked S L D C → Request L D C) (feed : S → Feed) where
   -- what n polls may make of the exchange
   abbrev pub Allowed : ℕ → Asked S L D C → Ending → Type 0
   Allowed n x (Replied r) = (d : ℕ) × (d < n) × ExchangeGives R request feed x d r

@@ -1,8 +1,11 @@
 //! How far an exchange has come.
 use crate::exchange::Exchange;
+use crate::handler::Handler;
 use crate::outcome::Outcome;
 use std::marker::Model;
-use web_body::{HttpMessageBody, Poll};
+use web_body::Poll;
+use web_extract::FromRequest;
+use web_reply::Responder;
 use web_request::{App, HttpRequest, HttpRequestPool};
 
 /// A request in its record, with a future that is not finished.
@@ -25,42 +28,48 @@ impl<A: App, F: Poll> Model for InFlight<A, F> {
 
 /// How far an exchange has come.
 #[derive(Drop)]
-pub enum Stage<X, E, O> {
+pub enum Stage<X, U, W, O> {
     /// No entry of the plan named it yet.
     Waiting(X),
     /// Its arguments are being made.
-    Extracting(E),
+    Extracting(U),
+    /// Its handler was called.
+    Handling(W),
     Answered(O),
 }
 
 /// An exchange under way. Contracts see it as its stage.
 #[derive(Drop)]
-pub struct Flight<A: App> {
-    pub(crate) stage: Stage<Exchange<A>, InFlight<A, HttpMessageBody<A::Source>>, Outcome<A>>,
+pub struct Flight<A: App, Args: FromRequest<A>, H: Handler<Args>> {
+    pub(crate) stage: Stage<
+        Exchange<A>,
+        InFlight<A, Args::Future>,
+        InFlight<A, H::Future>,
+        Outcome<A>,
+    >,
 }
 
-impl<A: App> Model for Flight<A> {
-    ghost use Rattle.web_body.specs.Collecting.{Collecting};
+impl<A: App, Args: FromRequest<A>, H: Handler<Args>> Model for Flight<A, Args, H> {
     ghost use Rattle.web_worker.specs.Endings.{stage_view};
     ghost use Rattle.web_worker.specs.Exchanges.{FlightView};
 
-    ghost Value = { FlightView A.Source A.Layer A.Local A.Conn (Collecting A.Source) };
+    ghost Value = { FlightView A.Source A.Layer A.Local A.Conn Args.Future H.Future };
 
     ghost view = { λ f. stage_view A.Source.feed f.stage };
 }
 
-impl<A: App> Flight<A> {
+impl<A: App, Args: FromRequest<A>, H: Handler<Args>> Flight<A, Args, H> {
     ghost use Rattle.std.specs.Prelude.{◌≡◌};
     ghost use Rattle.web_request.specs.Pool.{Pool};
-    ghost use Rattle.web_body.specs.Collecting.{body_gives};
+    ghost use Rattle.web_worker.specs.Answers.{rules_of};
     ghost use Rattle.web_worker.specs.Endings.{Ending.NoMemory as lost, ending_of};
+    ghost use Rattle.web_worker.specs.Exchanges.{request_of};
     ghost use Rattle.web_worker.specs.Flown.{Lands};
     ghost use Rattle.web_worker.specs.Polls.{is_open};
     ghost use Rattle.web_worker.specs.Pooled.{KeepsNone};
-    ghost use Rattle.web_worker.specs.Replies.{bytes_rules, request_of};
 
     /// A flight that waits for its first poll.
-    pub fn new(exchange: Exchange<A>) -> Flight<A>
+    pub fn new(exchange: Exchange<A>) -> Flight<A, Args, H>
         ensures { result ≡ Stage.Waiting exchange }
     {
         Flight {
@@ -73,13 +82,13 @@ impl<A: App> Flight<A> {
         ensures { result ≡ is_open self.now }
     {
         match &self.stage {
-            Stage::Waiting(_) | Stage::Extracting(_) => true,
+            Stage::Waiting(_) | Stage::Extracting(_) | Stage::Handling(_) => true,
             Stage::Answered(_) => false,
         }
     }
 
     /// A flight that found no memory.
-    pub(crate) fn lost() -> Flight<A>
+    pub(crate) fn lost() -> Flight<A, Args, H>
         ensures { result ≡ Stage.Answered lost }
     {
         Flight {
@@ -89,14 +98,22 @@ impl<A: App> Flight<A> {
 
     /// What the flight came to, where the plan is at its end. A record that it still holds is given back.
     pub(crate) fn into_outcome(self, pool: &mut HttpRequestPool<A>) -> Outcome<A>
+    where
+        H::Output: Responder<A>,
         requires { KeepsNone pool.old }
         ensures pool { pool.new ≡ pool.old }
-        ensures lands { (worker : Pool A.Layer) → Lands bytes_rules (request_of worker) A.Source.feed (body_gives A.Source.feed) self (ending_of A.Source.feed result) }
+        ensures lands { (handler : H) (worker : Pool A.Layer) → Lands (rules_of Args.means Args.Error.converts (H.answers handler) H.Output.responds)
+            (request_of worker) A.Source.feed Args.Future.gives H.Future.gives self (ending_of A.Source.feed result) }
     {
         let Flight { stage } = self;
         match stage {
             Stage::Waiting(_) => Outcome::Unfinished,
             Stage::Extracting(held) => {
+                let InFlight { request, future: _ } = held;
+                pool.give_back(request);
+                Outcome::Unfinished
+            }
+            Stage::Handling(held) => {
                 let InFlight { request, future: _ } = held;
                 pool.give_back(request);
                 Outcome::Unfinished

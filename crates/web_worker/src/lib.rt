@@ -1,8 +1,10 @@
 //! One worker that polls many exchanges in the order of a plan.
 #![tactic(auto)]
 
+mod answering;
 mod exchange;
 mod flight;
+mod handler;
 mod outcome;
 mod polling;
 mod serving;
@@ -10,6 +12,7 @@ mod worker;
 
 pub use exchange::Exchange;
 pub use flight::Flight;
+pub use handler::{FnHandler, Handler};
 pub use outcome::Outcome;
 pub use polling::poll_one;
 pub use serving::serve_all;

@@ -1,56 +1,38 @@
 //! One poll of one exchange.
-ghost use Rattle.std.specs.Prelude.{◌≡◌, ◌+◌, ◌<◌, ◌^◌, IfOk, slice_get};
-ghost use Rattle.web_reply.specs.Bodies.{box_plain};
-ghost use Rattle.web_reply.specs.Replies.{plain_reply};
-ghost use Rattle.web_worker.specs.Endings.{EndsAs, ending_of};
-ghost use Rattle.web_body.specs.Collecting.{body_gives};
+ghost use Rattle.std.specs.Prelude.{◌≡◌, ◌+◌, ◌<◌, ◌^◌, Some, slice_get};
+ghost use Rattle.web_worker.specs.Answers.{rules_of};
+ghost use Rattle.web_worker.specs.Exchanges.{request_of};
 ghost use Rattle.web_worker.specs.Flights.{Moves, Polled};
-ghost use Rattle.web_worker.specs.Polls.{EffectAt, PollsAt};
+ghost use Rattle.web_worker.specs.Handling.{Within};
+ghost use Rattle.web_worker.specs.Polls.{EffectAt, IsIdle, PollsAt, Steps};
 ghost use Rattle.web_worker.specs.Pooled.{KeepsNone, Makes, may_make};
-ghost use Rattle.web_worker.specs.Replies.{bytes_rules, request_of};
+ghost use Rattle.web_worker.specs.Told.{Calls, IsPast};
 
+use crate::answering::{answer, refuse};
 use crate::exchange::Exchange;
 use crate::flight::{Flight, InFlight, Stage};
-use crate::outcome::Outcome;
+use crate::handler::Handler;
 use crate::worker::Worker;
-use bytes::Bytes;
 use std::alloc::Global;
 use std::mem;
-use web_body::{HttpMessageBody, Poll, Step};
+use web_body::{Poll, Step};
 use web_extract::FromRequest;
-use web_reply::{BoxBody, HttpResponse, Responder};
-use web_request::{App, HttpRequest, HttpRequestPool, NoMemory};
+use web_reply::Responder;
+use web_request::{App, HttpRequestPool};
 
-/// The response of a value, with its body in the common form.
-fn respond<A: App, R: Responder<A>>(
-    alloc: Global,
-    value: R,
-    request: &HttpRequest<A>,
-) -> Result<HttpResponse<BoxBody<A::Source>>, NoMemory>
-    ensures { IfOk result (λ reply. R.responds value request.now.request (plain_reply (box_plain A.Source.feed) reply)) }
-{
-    value.respond_to(alloc, request)?.map_into_boxed_body(alloc)
-}
-
-/// Answers with the response of a value, or with want of memory.
-fn answer<A: App, R: Responder<A>>(alloc: Global, value: R, request: &HttpRequest<A>) -> Outcome<A>
-    ensures { EndsAs (λ reply. R.responds value request.now.request reply) (ending_of A.Source.feed result) }
-{
-    match respond(alloc, value, request) {
-        Ok(reply) => Outcome::Reply(reply),
-        Err(_) => Outcome::NoMemory,
-    }
-}
-
-/// Polls the arguments, and answers where they are there. The record is given back then.
-fn poll_arguments<A: App>(
+/// Polls the handler, and answers where its value is there. The record is given back then.
+fn poll_handler<A: App, Args: FromRequest<A>, H: Handler<Args>>(
     alloc: Global,
     pool: &mut HttpRequestPool<A>,
-    held: InFlight<A, HttpMessageBody<A::Source>>,
-) -> Flight<A>
+    held: InFlight<A, H::Future>,
+) -> Flight<A, Args, H>
+where
+    H::Output: Responder<A>,
     requires { KeepsNone pool.old }
     ensures pool { pool.new ≡ pool.old }
-    ensures polled { Polled bytes_rules (request_of pool.old) A.Source.feed (body_gives A.Source.feed) (Stage.Extracting held) result }
+    ensures past { IsPast result }
+    ensures polled { (handler : H) → Polled (rules_of Args.means Args.Error.converts (H.answers handler) H.Output.responds)
+        (request_of pool.old) A.Source.feed Args.Future.gives H.Future.gives (Stage.Handling held) result }
 {
     let InFlight {
         request,
@@ -58,10 +40,10 @@ fn poll_arguments<A: App>(
     } = held;
     match future.poll(alloc) {
         Step::Pending => Flight {
-            stage: Stage::Extracting(InFlight { request, future }),
+            stage: Stage::Handling(InFlight { request, future }),
         },
-        Step::Ready(body) => {
-            let outcome = answer(alloc, body, &request);
+        Step::Ready(value) => {
+            let outcome = answer(alloc, value, &request);
             pool.give_back(request);
             Flight {
                 stage: Stage::Answered(outcome),
@@ -74,21 +56,79 @@ fn poll_arguments<A: App>(
     }
 }
 
-/// Takes a record for an exchange, and polls its arguments for the first time.
-fn take_off<A: App>(
+/// Polls the arguments, and calls and polls the handler where they are there. The record is given back with an answer.
+fn poll_arguments<A: App, Args: FromRequest<A>, H: Handler<Args>>(
     alloc: Global,
     pool: &mut HttpRequestPool<A>,
+    handler: &mut H,
+    held: InFlight<A, Args::Future>,
+) -> Flight<A, Args, H>
+where
+    H::Output: Responder<A>,
+    requires none_kept { KeepsNone pool.old }
+    requires ready { H.ready handler.old }
+    ensures pool { pool.new ≡ pool.old }
+    ensures ready { H.ready handler.new }
+    ensures kept { (x : Args) → Within (H.answers handler.new x) (H.answers handler.old x) }
+    ensures same { (x : Args) → Within (H.answers handler.old x) (H.answers handler.new x) }
+    ensures told { Calls (rules_of Args.means Args.Error.converts (H.answers handler.old) H.Output.responds)
+        (request_of pool.old) A.Source.feed Args.Future.gives (Stage.Extracting held) result (H.calls handler.old) (H.calls handler.new) }
+    ensures polled { Polled (rules_of Args.means Args.Error.converts (H.answers handler.old) H.Output.responds)
+        (request_of pool.old) A.Source.feed Args.Future.gives H.Future.gives (Stage.Extracting held) result }
+{
+    let InFlight {
+        request,
+        mut future,
+    } = held;
+    match future.poll(alloc) {
+        Step::Pending => Flight {
+            stage: Stage::Extracting(InFlight { request, future }),
+        },
+        Step::Ready(Ok(args)) => match handler.call(alloc, args) {
+            Ok(future) => poll_handler(alloc, pool, InFlight { request, future }),
+            Err(_) => {
+                pool.give_back(request);
+                Flight::lost()
+            }
+        },
+        Step::Ready(Err(refusal)) => {
+            pool.give_back(request);
+            Flight {
+                stage: Stage::Answered(refuse(alloc, refusal)),
+            }
+        }
+        Step::NoMemory => {
+            pool.give_back(request);
+            Flight::lost()
+        }
+    }
+}
+
+/// Takes a record for an exchange, and polls its arguments for the first time.
+fn take_off<A: App, Args: FromRequest<A>, H: Handler<Args>>(
+    alloc: Global,
+    pool: &mut HttpRequestPool<A>,
+    handler: &mut H,
     exchange: Exchange<A>,
-) -> Flight<A>
+) -> Flight<A, Args, H>
+where
+    H::Output: Responder<A>,
     requires none_kept { KeepsNone pool.old }
     requires room { pool.old.made + 1 < 2 ^ 64 }
+    requires ready { H.ready handler.old }
     ensures makes { Makes (Stage.Waiting exchange) result pool.old pool.new }
-    ensures polled { Polled bytes_rules (request_of pool.old) A.Source.feed (body_gives A.Source.feed) (Stage.Waiting exchange) result }
+    ensures ready { H.ready handler.new }
+    ensures kept { (x : Args) → Within (H.answers handler.new x) (H.answers handler.old x) }
+    ensures same { (x : Args) → Within (H.answers handler.old x) (H.answers handler.new x) }
+    ensures told { Calls (rules_of Args.means Args.Error.converts (H.answers handler.old) H.Output.responds)
+        (request_of pool.old) A.Source.feed Args.Future.gives (Stage.Waiting exchange) result (H.calls handler.old) (H.calls handler.new) }
+    ensures polled { Polled (rules_of Args.means Args.Error.converts (H.answers handler.old) H.Output.responds)
+        (request_of pool.old) A.Source.feed Args.Future.gives H.Future.gives (Stage.Waiting exchange) result }
 {
     let (parts, mut payload) = exchange.into_parts();
     match pool.start(alloc, parts) {
-        Ok(request) => match Bytes::from_request(alloc, &request, &mut payload) {
-            Ok(future) => poll_arguments(alloc, pool, InFlight { request, future }),
+        Ok(request) => match Args::from_request(alloc, &request, &mut payload) {
+            Ok(future) => poll_arguments(alloc, pool, handler, InFlight { request, future }),
             Err(_) => {
                 pool.give_back(request);
                 Flight::lost()
@@ -99,17 +139,31 @@ fn take_off<A: App>(
 }
 
 /// One poll of a flight.
-#[inline(never)]
-fn advance<A: App>(alloc: Global, pool: &mut HttpRequestPool<A>, flight: Flight<A>) -> Flight<A>
+fn advance<A: App, Args: FromRequest<A>, H: Handler<Args>>(
+    alloc: Global,
+    pool: &mut HttpRequestPool<A>,
+    handler: &mut H,
+    flight: Flight<A, Args, H>,
+) -> Flight<A, Args, H>
+where
+    H::Output: Responder<A>,
     requires none_kept { KeepsNone pool.old }
     requires room { pool.old.made + may_make (Some flight) < 2 ^ 64 }
-    ensures moves { Moves bytes_rules (request_of pool.old) A.Source.feed (body_gives A.Source.feed) flight result }
+    requires ready { H.ready handler.old }
+    ensures ready { H.ready handler.new }
+    ensures kept { (x : Args) → Within (H.answers handler.new x) (H.answers handler.old x) }
+    ensures same { (x : Args) → Within (H.answers handler.old x) (H.answers handler.new x) }
     ensures makes { Makes flight result pool.old pool.new }
+    ensures told { Calls (rules_of Args.means Args.Error.converts (H.answers handler.old) H.Output.responds)
+        (request_of pool.old) A.Source.feed Args.Future.gives flight result (H.calls handler.old) (H.calls handler.new) }
+    ensures moves { Moves (rules_of Args.means Args.Error.converts (H.answers handler.old) H.Output.responds)
+        (request_of pool.old) A.Source.feed Args.Future.gives H.Future.gives flight result }
 {
     let Flight { stage } = flight;
     match stage {
-        Stage::Waiting(exchange) => take_off(alloc, pool, exchange),
-        Stage::Extracting(held) => poll_arguments(alloc, pool, held),
+        Stage::Waiting(exchange) => take_off(alloc, pool, handler, exchange),
+        Stage::Extracting(held) => poll_arguments(alloc, pool, handler, held),
+        Stage::Handling(held) => poll_handler(alloc, pool, held),
         Stage::Answered(outcome) => Flight {
             stage: Stage::Answered(outcome),
         },
@@ -117,31 +171,52 @@ fn advance<A: App>(alloc: Global, pool: &mut HttpRequestPool<A>, flight: Flight<
 }
 
 /// One poll of a flight in its place.
-fn advance_at<A: App>(alloc: Global, pool: &mut HttpRequestPool<A>, place: &mut Flight<A>)
+#[inline(never)]
+fn advance_at<A: App, Args: FromRequest<A>, H: Handler<Args>>(
+    alloc: Global,
+    pool: &mut HttpRequestPool<A>,
+    handler: &mut H,
+    place: &mut Flight<A, Args, H>,
+)
+where
+    H::Output: Responder<A>,
     requires none_kept { KeepsNone pool.old }
     requires room { pool.old.made + may_make (Some place.old) < 2 ^ 64 }
-    ensures moves { Moves bytes_rules (request_of pool.old) A.Source.feed (body_gives A.Source.feed) place.old place.new }
-    ensures makes { Makes place.old place.new pool.old pool.new }
+    requires ready { H.ready handler.old }
+    ensures ready { H.ready handler.new }
+    ensures kept { (x : Args) → Within (H.answers handler.new x) (H.answers handler.old x) }
+    ensures same { (x : Args) → Within (H.answers handler.old x) (H.answers handler.new x) }
+    ensures steps { Steps (rules_of Args.means Args.Error.converts (H.answers handler.old) H.Output.responds)
+        (request_of pool.old) A.Source.feed Args.Future.gives H.Future.gives place.old place.new pool.old pool.new (H.calls handler.old) (H.calls handler.new) }
 {
     let flight = mem::replace(place, Flight::lost());
-    drop(mem::replace(place, advance(alloc, pool, flight)));
+    drop(mem::replace(place, advance(alloc, pool, handler, flight)));
 }
 
 /// Polls the flight of this number, where it is there.
-fn poll_at<A: App>(
+fn poll_at<A: App, Args: FromRequest<A>, H: Handler<Args>>(
     alloc: Global,
     pool: &mut HttpRequestPool<A>,
-    flights: &mut [Flight<A>],
+    handler: &mut H,
+    flights: &mut [Flight<A, Args, H>],
     k: usize,
 )
+where
+    H::Output: Responder<A>,
     requires none_kept { KeepsNone pool.old }
     requires room { pool.old.made + may_make (slice_get flights.old k) < 2 ^ 64 }
-    ensures polls { PollsAt bytes_rules (request_of pool.old) A.Source.feed (body_gives A.Source.feed) k flights.old flights.new pool.old pool.new }
+    requires ready { H.ready handler.old }
+    ensures ready { H.ready handler.new }
+    ensures kept { (x : Args) → Within (H.answers handler.new x) (H.answers handler.old x) }
+    ensures same { (x : Args) → Within (H.answers handler.old x) (H.answers handler.new x) }
+    ensures idle { IsIdle (slice_get flights.old k) → handler.new ≡ handler.old }
+    ensures polls { PollsAt (rules_of Args.means Args.Error.converts (H.answers handler.old) H.Output.responds)
+        (request_of pool.old) A.Source.feed Args.Future.gives H.Future.gives k flights.old flights.new pool.old pool.new (H.calls handler.old) (H.calls handler.new) }
 {
     if k < flights.len() {
         let place = &mut flights[k];
         if place.is_open() {
-            advance_at(alloc, pool, place);
+            advance_at(alloc, pool, handler, place);
         }
     }
 }
@@ -149,12 +224,29 @@ fn poll_at<A: App>(
 /// Polls the flight of this number once. A number that names no flight, or an answered one, changes nothing and takes no
 /// memory.
 ///
-/// The first poll of a flight takes a record and makes its arguments. Where the arguments are there, the flight is
-/// answered in the same poll. Where memory is wanting, it is answered with `Outcome::NoMemory`.
-pub fn poll_one<A: App>(alloc: Global, worker: &mut Worker<A>, flights: &mut [Flight<A>], k: usize)
-    requires { worker.old.made + may_make (slice_get flights.old k) < 2 ^ 64 }
-    ensures polls { PollsAt bytes_rules (request_of worker.old) A.Source.feed (body_gives A.Source.feed) k flights.old flights.new worker.old worker.new }
-    ensures effect { EffectAt bytes_rules (request_of worker.old) A.Source.feed (body_gives A.Source.feed) k flights.old flights.new }
+/// The first poll of a flight takes a record and makes its arguments. Where the arguments are there, the handler is called
+/// with them and polled in the same turn; where they are refused, the flight is answered with the reply to the error. Where
+/// the handler's value is there, the flight is answered with its response, and the record is given back. Where memory is
+/// wanting, it is answered with `Outcome::NoMemory`.
+pub fn poll_one<A: App, Args: FromRequest<A>, H: Handler<Args>>(
+    alloc: Global,
+    worker: &mut Worker<A>,
+    handler: &mut H,
+    flights: &mut [Flight<A, Args, H>],
+    k: usize,
+)
+where
+    H::Output: Responder<A>,
+    requires room { worker.old.made + may_make (slice_get flights.old k) < 2 ^ 64 }
+    requires ready { H.ready handler.old }
+    ensures ready { H.ready handler.new }
+    ensures kept { (x : Args) → Within (H.answers handler.new x) (H.answers handler.old x) }
+    ensures same { (x : Args) → Within (H.answers handler.old x) (H.answers handler.new x) }
+    ensures idle { IsIdle (slice_get flights.old k) → handler.new ≡ handler.old }
+    ensures polls { PollsAt (rules_of Args.means Args.Error.converts (H.answers handler.old) H.Output.responds)
+        (request_of worker.old) A.Source.feed Args.Future.gives H.Future.gives k flights.old flights.new worker.old worker.new (H.calls handler.old) (H.calls handler.new) }
+    ensures effect { EffectAt (rules_of Args.means Args.Error.converts (H.answers handler.old) H.Output.responds)
+        (request_of worker.old) A.Source.feed Args.Future.gives H.Future.gives k flights.old flights.new }
 {
-    poll_at(alloc, &mut worker.pool, flights, k);
+    poll_at(alloc, &mut worker.pool, handler, flights, k);
 }

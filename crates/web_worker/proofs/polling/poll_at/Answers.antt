@@ -1,28 +1,23 @@
-use Rattle.std.proofs.Common.{◌≡◌, ◌∙◌, false, refl, slice_index_or, slice_set, subst, sym}
-use Rattle.web_body.specs.Collecting.{body_gives}
-use Rattle.web_worker.specs.Polls.{PollsAt, is_open}
-use Rattle.web_worker.specs.Replies.{bytes_rules, request_of}
-use Rattle.web_worker.proofs.Stepping.{names_answered, names_none, names_open}
+use Rattle.std.proofs.Common.{◌∙◌, sym}
+use Rattle.web_worker.specs.Answers.{rules_of}
+use Rattle.web_worker.specs.Exchanges.{request_of}
+use Rattle.web_worker.proofs.Places.{names_answered, names_none, names_open}
 use Rattle.web_worker.proofs.polling.poll_at.Goals as goal
 
-pub returns-else-is_open : goal.returns-else-is_open
-returns-else-is_open g c =
-    let shut = subst (λ (f : _). is_open f ≡ false) (sym c.index-flights-k.is) (sym c.is_open.ensures ∙ c.if-is_open.false) in
-    record {
-      polls = subst (λ (f : _). PollsAt bytes_rules (request_of c.args.pool.now) g.A.Source.Source.feed (body_gives g.A.Source.Source.feed) c.args.k c.args.flights.now (slice_set c.args.flights.now c.args.k f) c.args.pool.now c.args.pool.now)
-          c.index-flights-k.is
-          (names_answered bytes_rules (request_of c.args.pool.now) g.A.Source.Source.feed (body_gives g.A.Source.Source.feed)
-          c.args.flights.now c.args.k c.index-flights-k.result c.args.pool.now c.if-k-flights.true c.index-flights-k.is shut);
-    }
+pub returns-else-is_open-clause-polls : goal.returns-else-is_open-clause-polls
+returns-else-is_open-clause-polls g c =
+    names_answered (rules_of g.Args.FromRequest.means g.Args.Error.Into.converts (g.H.Handler.answers c.args.handler.now) g.H.Output.Responder.responds) (request_of c.args.pool.now) g.A.Source.Source.feed g.Args.Future.Poll.gives g.H.Future.Poll.gives
+    c.args.flights.now c.args.k c.index-flights-k.result c.args.pool.now (g.H.Handler.calls c.args.handler.now) c.if-k-flights.true
+    (sym c.is_open.ensures ∙ c.if-is_open.false)
 
-pub returns-else-k-flights : goal.returns-else-k-flights
-returns-else-k-flights g c = record {
-  polls = names_none bytes_rules (request_of c.args.pool.now) g.A.Source.Source.feed (body_gives g.A.Source.Source.feed) c.args.flights.now c.args.k c.args.pool.now c.if-k-flights.false;
-}
+pub returns-else-k-flights-clause-polls : goal.returns-else-k-flights-clause-polls
+returns-else-k-flights-clause-polls g c =
+    names_none (rules_of g.Args.FromRequest.means g.Args.Error.Into.converts (g.H.Handler.answers c.args.handler.now) g.H.Output.Responder.responds) (request_of c.args.pool.now) g.A.Source.Source.feed g.Args.Future.Poll.gives g.H.Future.Poll.gives
+    c.args.flights.now c.args.k c.args.pool.now (g.H.Handler.calls c.args.handler.now) c.if-k-flights.false
 
-pub returns-then-is_open : goal.returns-then-is_open
-returns-then-is_open g c = record {
-  polls = names_open bytes_rules (request_of c.args.pool.now) g.A.Source.Source.feed (body_gives g.A.Source.Source.feed)
-      c.args.flights.now c.args.k (slice_index_or c.args.flights.now c.args.k c.index-flights-k.result) c.index-flights-k.result c.advance_at.new.place c.args.pool.now c.advance_at.new.pool
-      c.if-k-flights.true refl c.advance_at.ensures.moves c.advance_at.ensures.makes;
-}
+pub returns-then-is_open-clause-polls : goal.returns-then-is_open-clause-polls
+returns-then-is_open-clause-polls g c =
+    names_open (rules_of g.Args.FromRequest.means g.Args.Error.Into.converts (g.H.Handler.answers c.args.handler.now) g.H.Output.Responder.responds) (request_of c.args.pool.now) g.A.Source.Source.feed g.Args.Future.Poll.gives g.H.Future.Poll.gives
+    c.args.flights.now c.args.k c.index-flights-k.result c.advance_at.new.place c.args.pool.now c.advance_at.new.pool
+    (g.H.Handler.calls c.args.handler.now) (g.H.Handler.calls c.advance_at.new.handler)
+    c.if-k-flights.true c.advance_at.ensures.steps
