@@ -1,5 +1,6 @@
 pub mod Called
 pub mod Calling
+pub mod Calls
 pub mod Counting
 pub mod Eaches
 pub mod Flying

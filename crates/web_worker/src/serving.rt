@@ -4,7 +4,7 @@ ghost use Rattle.std.specs.Vec.{vec_capacity};
 ghost use Rattle.web_request.specs.Pool.{Pool};
 ghost use Rattle.web_worker.specs.declared.flight.Stage.{Stage};
 ghost use Rattle.web_worker.specs.Answers.{rules_of};
-ghost use Rattle.web_worker.specs.Called.{CallsOf, GrewBy, Lacks, Ran};
+ghost use Rattle.web_worker.specs.Called.{CalledByFunctions, CallsOf, GrewBy, Lacks, Ran};
 ghost use Rattle.web_worker.specs.Endings.{endings};
 ghost use Rattle.web_worker.specs.Exchanges.{request_of};
 ghost use Rattle.web_worker.specs.Flown.{Counted, Flown, Landed};
@@ -115,6 +115,8 @@ where
     ensures calls { IfOk result (λ os. GrewBy (H.calls handler.old) (H.calls handler.new)
         (λ vs. CallsOf (rules_of Args.means Args.Error.converts (H.answers handler.old) H.Output.responds)
         (request_of worker.old) A.Source.feed (Lacks (endings A.Source.feed os.items)) exchanges.items [] plan.now vs)) }
+    ensures called { IfOk result (λ os. CalledByFunctions (rules_of Args.means Args.Error.converts (H.answers handler.old) H.Output.responds)
+        (request_of worker.old) A.Source.feed plan.now exchanges.items (endings A.Source.feed os.items) (H.calls handler.old) (H.calls handler.new)) }
     ensures records { IfOk result (λ os. MadeRecords plan.now exchanges.items (endings A.Source.feed os.items) worker.old worker.new) }
     ensures back { IfErr result (λ e. e.1 ≡ exchanges) }
     ensures untouched { OnErr result (worker.new ≡ worker.old) }

@@ -10,6 +10,7 @@ use Rattle.web_worker.specs.Flown.{Landed}
 use Rattle.web_worker.specs.Pooled.{waiting}
 use Rattle.web_worker.specs.Served.{MadeRecords}
 use Rattle.web_worker.proofs.Called.{calls_served}
+use Rattle.web_worker.proofs.Calls.{called_by_functions}
 use Rattle.web_worker.proofs.Counting.{made_records, waiting_start}
 use Rattle.web_worker.proofs.Flying.{served}
 use Rattle.web_worker.proofs.Outcomes.{by_functions}
@@ -54,6 +55,11 @@ returns-clause-calls g c =
     calls_served (rules_of g.Args.FromRequest.means g.Args.Error.Into.converts (g.H.Handler.answers c.args.handler.now) g.H.Output.Responder.responds) (request_of c.args.worker.now) g.A.Source.Source.feed g.Args.Future.Poll.gives g.H.Future.Poll.gives
     c.args.plan.now c.args.exchanges.items c.as_mut_slice.result.now c.fly.new.flights (endings g.A.Source.Source.feed c.land.new.outcomes.items)
     (g.H.Handler.calls c.args.handler.now) (g.H.Handler.calls c.fly.new.handler) (c.as_mut_slice.ensures.value ∙ c.board.ensures) c.fly.ensures.ran landed
+
+pub returns-clause-called : goal.returns-clause-called
+returns-clause-called g c =
+    called_by_functions (rules_of g.Args.FromRequest.means g.Args.Error.Into.converts (g.H.Handler.answers c.args.handler.now) g.H.Output.Responder.responds) (request_of c.args.worker.now) g.A.Source.Source.feed c.args.plan.now c.args.exchanges.items (endings g.A.Source.Source.feed c.land.new.outcomes.items)
+    (g.H.Handler.calls c.args.handler.now) (g.H.Handler.calls c.fly.new.handler) (returns-clause-calls g c)
 
 pub returns-clause-records : goal.returns-clause-records
 returns-clause-records g c =
