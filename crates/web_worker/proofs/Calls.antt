@@ -1,5 +1,5 @@
 -- From what the promises allow to the one list of calls.
-use Rattle.std.proofs.Common.{◌≡◌, ◌==◌, ℕ, zero, suc, Bool, true, false, List, [], ◌∷◌, ◌++◌, refl, sym, ◌∙◌, ap, arith, subst, inl, inr, ◌⊎◌}
+use Rattle.std.proofs.Common.{◌≡◌, ◌==◌, ℕ, zero, suc, Bool, true, false, List, [], ◌∷◌, ◌++◌, refl, sym, ◌∙◌, ap, arith, subst, inl, inr}
 use Rattle.std.specs.Prelude.{Option, None, Some, Result, Ok, Err, ⊤, MatchOption, if◌then◌else◌, slice_get}
 use Rattle.std.specs.List.{All, list_any}
 use Rattle.std.specs.Option.{option_map, option_map_or}
@@ -14,7 +14,7 @@ use Rattle.web_worker.specs.Endings.{Ending, Ending.NoMemory}
 use Rattle.web_worker.specs.Exchanges.{Asked}
 use Rattle.web_worker.specs.Answers.{Rules}
 use Rattle.web_worker.specs.Served.{polls, lacks_memory}
-use Rattle.web_worker.specs.Called.{IsValueAt, with_call, call_at, calls_from, calls_of, ArgsOnce, ArgsComeAt, CalledByFunctions, CallsOf, EntryCall, ExchangeArgs, GrewBy, Lacks}
+use Rattle.web_worker.specs.Called.{IsValueAt, with_call, call_at, calls_from, calls_of, ArgsOnce, ArgsComeAt, CalledByFunctions, CallsOf, EntryCall, GrewBy, Lacks}
 
 none_lacks : (os : List Ending) → list_any lacks_memory os ≡ false → (k : ℕ) → Lacks os k → ⊥
 none_lacks [] e k l = absurd (cc)
@@ -91,4 +91,4 @@ module _ {S L D C V E Y : Type 0} (R : Rules L D C V E Y) (request : Asked S L D
       → GrewBy told told_new (λ vs. CallsOf R request feed (Lacks os) xs [] plan vs) → CalledByFunctions R request feed plan xs os told told_new
   called_by_functions plan xs os told told_new h args all none =
       grew told told_new (λ vs. CallsOf R request feed (Lacks os) xs [] plan vs) (calls_of args xs plan)
-          (λ vs c. calls_are args (Lacks os) (none_lacks os none) xs all [] plan vs c) h
+      (λ vs c. calls_are args (Lacks os) (none_lacks os none) xs all [] plan vs c) h

@@ -26,11 +26,11 @@ module _ {L D C V E Y : Type 0} (means : Request L D C → List Mark → List Ma
   comes_as polls n (Err e) h = h
   comes_as polls n (Ok v) h = (h.0, λ k y g. h.1 k y (i v k y g))
 
-  waits_as : (o : Option (List Mark)) (q : Request L D C) (d : ℕ) (r : Reply Plain) → MatchOption o ⊤ (λ m. Replies (rules_of means c a s) q m d r) → MatchOption o ⊤ (λ m. Replies (rules_of means c b s) q m d r)
+  pub waits_as : (o : Option (List Mark)) (q : Request L D C) (d : ℕ) (r : Reply Plain) → MatchOption o ⊤ (λ m. Replies (rules_of means c a s) q m d r) → MatchOption o ⊤ (λ m. Replies (rules_of means c b s) q m d r)
   waits_as None q d r h = tt
   waits_as (Some m) q d r h = (h.0, h.1, h.2, h.3, after_as q h.1 h.2 d r h.4)
 
-  waits_before_as : (o : Option (List Mark)) (q : Request L D C) (n : ℕ) → MatchOption o ⊥ (λ m. RepliesBefore (rules_of means c b s) q m n) → MatchOption o ⊥ (λ m. RepliesBefore (rules_of means c a s) q m n)
+  pub waits_before_as : (o : Option (List Mark)) (q : Request L D C) (n : ℕ) → MatchOption o ⊥ (λ m. RepliesBefore (rules_of means c b s) q m n) → MatchOption o ⊥ (λ m. RepliesBefore (rules_of means c a s) q m n)
   waits_before_as None q n h = h
   waits_before_as (Some m) q n h = λ rest k x g. comes_as n k x (h rest k x g)
 

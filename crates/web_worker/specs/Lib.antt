@@ -6,6 +6,7 @@ pub mod Flights
 pub mod Flown
 pub mod Function
 pub mod Handling
+pub mod Isolation
 pub mod Polls
 pub mod Pooled
 pub mod Served
