@@ -1,8 +1,9 @@
 -- What is seen of the head of a request.
-use Rattle.std.specs.Prelude.{ℕ, List, Option}
+use Rattle.std.specs.Prelude.{◌==◌, ◌||◌, ℕ, List, [], Option, if◌then◌else◌, is_some, length, not}
 use Rattle.http.specs.declared.version.Version.{Version}
 use Rattle.http_header.specs.FieldValue.{FieldValue}
 use Rattle.http_header.specs.HeaderMap.{Entries}
+use Rattle.http_uri.specs.Grammar.{path_of}
 use Rattle.http_uri.specs.Uri.{uri_authority, uri_data, uri_scheme}
 use Rattle.web_request.specs.declared.address.SocketAddr.{SocketAddr}
 use Rattle.web_request.specs.declared.head.RequestHead.{RequestHead}
@@ -27,3 +28,7 @@ head_view h = record {
   headers = h.headers;
   peer = h.peer_addr;
 }
+
+-- the path of the target, without the query; a target that is an authority alone has none
+abbrev pub head_path : Head → List ℕ
+head_path h = if not (length h.target == 0) || is_some h.scheme then path_of h.target else []

@@ -1,6 +1,6 @@
 //! Requests in their records.
 ghost use Rattle.std.specs.Prelude.{◌≡◌, IfErr, IfOk, OnErr, OnOk};
-ghost use Rattle.web_request.specs.Head.{head_view};
+ghost use Rattle.web_request.specs.Head.{head_path, head_view};
 ghost use Rattle.web_request.specs.Pool.{Clean, started};
 
 use crate::app::App;
@@ -45,6 +45,21 @@ impl<A: App> HttpRequest<A> {
         ensures { head_view result.now ≡ self.now.request.head }
     {
         &self.head
+    }
+
+    /// The path of the target, without the query (RFC 3986, section 3.3). It is `/` where the target has none, and empty
+    /// where the target is an authority alone.
+    pub fn path(&self) -> &str
+        ensures { result.now ≡ head_path self.now.request.head }
+    {
+        self.head.uri.path()
+    }
+
+    /// The parameters that a router matched, as they were handed in. Their values are not decoded.
+    pub fn match_info(&self) -> &[Pair]
+        ensures { result.now ≡ self.now.request.params }
+    {
+        self.params.as_slice()
     }
 
     /// The number of the record that holds the request. A pool gives each record that it makes the next number, from 0.
