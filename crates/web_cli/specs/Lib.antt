@@ -17,6 +17,7 @@ pub mod Outside
 pub mod Printing
 pub mod Reading
 pub mod Script
+pub mod Segments
 pub mod Status
 pub mod Verdict
 pub mod Words

@@ -11,6 +11,7 @@ mod output;
 mod printing;
 mod reading;
 mod script;
+mod segment;
 mod serving;
 mod standard;
 mod status;
