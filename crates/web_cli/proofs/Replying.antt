@@ -1,71 +1,77 @@
--- From the outcomes of the exchanges that a script asks for to the text of its replies.
-use Rattle.std.proofs.Common.{◌≡◌, ℕ, suc, true, false, List, [], ◌∷◌, map, refl, subst, inl, inr, add-one, Global}
-use Rattle.std.specs.Prelude.{Result, Vec, IfOk, MatchOption, ⊤}
-use Rattle.std.specs.List.{AllPass, enumerate_from, list_any}
-use Rattle.std.proofs.lemmas.List.Elements.{All-head, All-tail}
+-- From the outcomes of the exchanges that a script asks for to the text of its replies, and to the list of calls.
+use Rattle.std.proofs.Common.{◌≡◌, ℕ, suc, true, false, List, [], ◌∷◌, ◌++◌, map, refl, sym, ◌∙◌, ap, subst, inl, inr, ◌⊎◌, add-one, Global}
+use Rattle.std.specs.Prelude.{Option, None, Some, Result, Ok, Err, Vec, IfOk, slice_get}
+use Rattle.std.specs.List.{All, AllPass, enumerate_from, list_any}
+use Rattle.std.specs.Option.{option_map, option_map_or}
+use Rattle.std.proofs.lemmas.List.Elements.{All-cons, All-head, All-nil, All-tail}
+use Rattle.std.proofs.lemmas.Option.{slice_get-map}
 use Rattle.web_texts.proofs.Blocks.{or_false}
 use Rattle.web_request.specs.declared.source.Mark.{Mark}
 use Rattle.web_request.specs.Body.{is_body}
 use Rattle.web_request.specs.Feed.{Feed}
-use Rattle.web_body.specs.Bodies.{marks_feed}
-use Rattle.web_body.specs.declared.payload.Payload.{Payload}
-use Rattle.web_body.specs.declared.payload.Payload.TheVariants as payload
-use Rattle.web_body.specs.Payload.{payload_feed}
-use Rattle.web_body.proofs.Pieces.{body_same}
-use Rattle.web_worker.specs.Endings.{Ending}
-use Rattle.web_worker.specs.Exchanges.{Asked as Exchanged}
-use Rattle.web_worker.specs.Function.{IsOutcome, EachServed, delay_of, reply_of}
-use Rattle.web_worker.specs.Served.{polls, EachFrom, outcome_of, named_from, named, lacks_memory}
+use Rattle.web_request.specs.Pool.{Pool}
+use Rattle.web_reply.specs.Bodies.{Plain}
+use Rattle.web_reply.specs.Replies.{Fault, Reply}
+use Rattle.web_worker.specs.Endings.{Ending, Ending.NoMemory}
+use Rattle.web_worker.specs.Exchanges.{Asked as Exchanged, request_of}
+use Rattle.web_worker.specs.Answers.{rules_of}
+use Rattle.web_worker.specs.Called.{ArgsOnce, CalledByFunctions, call_at, calls_from, calls_of}
+use Rattle.web_worker.specs.Function.{IsOutcome}
+use Rattle.web_worker.specs.Served.{polls, EachFrom, outcome_of, named_from, named, lacks_memory, Allowed, Served}
+use Rattle.web_worker.proofs.Outcomes.{outcome_is}
+use Rattle.web_cli.specs.declared.demo.DemoLayer.{DemoLayer}
+use Rattle.web_cli.specs.declared.demo.DemoLocal.{DemoLocal}
+use Rattle.web_cli.specs.declared.demo.DemoConn.{DemoConn}
 use Rattle.web_cli.specs.Asked.{Asked}
-use Rattle.web_cli.specs.Demo.{bodies_of}
-use Rattle.web_cli.specs.Due.{outcome_in, outcomes, replies_to}
+use Rattle.web_cli.specs.Demo.{DemoRequest, demo_config, exchange_asked, exchanges_asked}
+use Rattle.web_cli.specs.Due.{arguments_of, calls_to, outcome_in, outcomes, replies_to}
 use Rattle.web_cli.specs.Printing.{print}
 use Rattle.web_cli.specs.Script.{Said}
+use Rattle.web_cli.specs.Service.{Arguments, Handling, ArgumentsMeet, HandlerMeets, delay_of, reply_of}
+use Rattle.web_cli.proofs.Functions.{args_asked, once_asked}
 
-one_outcome : (n : ℕ) (m : List Mark) (o : Ending) → IsOutcome n m o → lacks_memory o ≡ false → o ≡ outcome_of (delay_of m) (reply_of m) n
-one_outcome n m o (inl e) some = let t : lacks_memory o ≡ true = rw e refl in absurd (cc)
-one_outcome n m o (inr e) some = e
+one_outcome : (d : ℕ) (r : Reply Plain) (n : ℕ) (o : Ending) → IsOutcome d r n o → lacks_memory o ≡ false → o ≡ outcome_of d r n
+one_outcome d r n o (inl e) some = let t : lacks_memory o ≡ true = rw e refl in absurd (cc)
+one_outcome d r n o (inr e) some = e
 
-told : (n : ℕ) (m : List Mark) (b : Payload Feed) (o : Ending) → is_body m ≡ true → b ≡ payload.Stream (marks_feed m) → MatchOption (payload_feed (λ (f : Feed). f) b).marks ⊤ (λ k. IsOutcome n k o) → IsOutcome n m o
-told n m b o body e h =
-    let all = subst (λ (p : Payload Feed). MatchOption (payload_feed (λ (f : Feed). f) p).marks ⊤ (λ k. IsOutcome n k o)) e h in
-    subst (λ (k : List Mark). IsOutcome n k o) (body_same m body) all
-
-module _ {L D C : Type 0} where
-  outcomes_from : (plan : List ℕ) (i : ℕ) (xs : List (Exchanged Feed L D C)) (es : List Asked) (os : List Ending)
-      → EachFrom (λ k x o. MatchOption (payload_feed (λ (f : Feed). f) x.body).marks ⊤ (λ m. IsOutcome (polls plan k) m o)) i xs os
-      → map (λ x. x.body) xs ≡ bodies_of es → AllPass (λ e. is_body e.marks) es → list_any lacks_memory os ≡ false → os ≡ map (outcome_in plan) (enumerate_from i es)
-  outcomes_from plan i [] [] [] h b all some = refl
-  outcomes_from plan i [] (e ∷ es) [] h b all some = absurd (cc)
-  outcomes_from plan i (x ∷ xs) [] (o ∷ os) h b all some = absurd (cc)
-  outcomes_from plan i (x ∷ xs) (e ∷ es) (o ∷ os) h b all some =
-      let first : x.body ≡ payload.Stream (marks_feed e.marks) = cc in
-      let rest : map (λ (y : Exchanged Feed L D C). y.body) xs ≡ bodies_of es = cc in
+module _ {V E Y : Type 0} (means : DemoRequest → List Mark → List Mark → ℕ → Result V E → Type 0) (converts : E → Fault → Type 0) (answers : V → ℕ → Y → Type 0) (responds : Y → DemoRequest → Reply Plain → Type 0)
+    (converted : (e : E) → (f : Fault) × converts e f) (a : Arguments V) (h : Handling V) (meets : ArgumentsMeet means converts a) (handles : HandlerMeets answers responds h)
+    (p : Pool DemoLayer) (root : p.root ≡ record {}) (config : p.config ≡ demo_config) where
+  outcomes_from : (plan : List ℕ) (i : ℕ) (es : List Asked) (os : List Ending)
+      → EachFrom (λ k x o. Allowed (rules_of means converts answers responds) (request_of p) (λ (f : Feed). f) (polls plan k) x o) i (exchanges_asked es) os
+      → AllPass (λ e. is_body e.marks) es → list_any lacks_memory os ≡ false → os ≡ map (outcome_in a h plan) (enumerate_from i es)
+  outcomes_from plan i [] [] s all some = refl
+  outcomes_from plan i (e ∷ es) (o ∷ os) s all some =
       let body = All-head (λ (y : Asked). is_body y.marks ≡ true) e es all in
       let more = All-tail (λ (y : Asked). is_body y.marks ≡ true) e es all in
       let each = or_false (lacks_memory o) (list_any lacks_memory os) some in
-      rw (add-one, ← outcomes_from plan (suc i) xs es os h.1 rest more each.1, one_outcome (polls plan i) e.marks o (told (polls plan i) e.marks x.body o body first h.0) each.0) refl
-  outcomes_from plan i [] es (o ∷ os) h b all some = absurd h
-  outcomes_from plan i (x ∷ xs) es [] h b all some = absurd h
+      let once = once_asked means converts answers responds converted a h meets handles p root config e body in
+      let is = outcome_is (rules_of means converts answers responds) (request_of p) (λ (f : Feed). f) (exchange_asked e) (delay_of a h e) (reply_of a h e) once (polls plan i) o s.0 in
+      rw (add-one, ← outcomes_from plan (suc i) es os s.1 more each.1, one_outcome (delay_of a h e) (reply_of a h e) (polls plan i) o is each.0) refl
+  outcomes_from plan i [] (o ∷ os) s all some = absurd s
+  outcomes_from plan i (e ∷ es) [] s all some = absurd s
 
   -- each outcome is that of its own exchange, where none lacks memory
-  pub outcomes_are : (plan : List ℕ) (xs : List (Exchanged Feed L D C)) (es : List Asked) (os : List Ending) → EachServed (λ (f : Feed). f) plan xs os
-      → map (λ x. x.body) xs ≡ bodies_of es → AllPass (λ e. is_body e.marks) es → list_any lacks_memory os ≡ false → os ≡ map (outcome_in plan) (enumerate_from 0 es)
-  outcomes_are plan xs es os h b all some = outcomes_from plan 0 xs es os h b all some
+  pub outcomes_are : (s : Said) (os : List Ending) → Served (rules_of means converts answers responds) (request_of p) (λ (f : Feed). f) s.plan (exchanges_asked s.exchanges) os
+      → AllPass (λ e. is_body e.marks) s.exchanges → list_any lacks_memory os ≡ false → os ≡ outcomes a h s
+  outcomes_are s os served all some = outcomes_from s.plan 0 s.exchanges os served all some
 
-named_from_same : {X Y Z : Type 0} (f : X → Z) (g : Y → Z) (plan : List ℕ) (i : ℕ) (xs : List X) (ys : List Y) → map f xs ≡ map g ys → named_from plan i xs ≡ named_from plan i ys
-named_from_same f g plan i [] [] e = refl
-named_from_same f g plan i [] (y ∷ ys) e = absurd (cc)
-named_from_same f g plan i (x ∷ xs) [] e = absurd (cc)
-named_from_same f g plan i (x ∷ xs) (y ∷ ys) e =
-    let rest : map f xs ≡ map g ys = cc in
-    rw (named_from_same f g plan (suc i) xs ys rest) refl
+named_from_same : {X Y : Type 0} (f : X → Y) (plan : List ℕ) (i : ℕ) (xs : List X) → named_from plan i (map f xs) ≡ named_from plan i xs
+named_from_same f plan i [] = refl
+named_from_same f plan i (x ∷ xs) = rw (named_from_same f plan (suc i) xs) refl
 
-pub named_same : {X Y Z : Type 0} (f : X → Z) (g : Y → Z) (plan : List ℕ) (xs : List X) (ys : List Y) → map f xs ≡ map g ys → named plan xs ≡ named plan ys
-named_same f g plan xs ys e = named_from_same f g plan 0 xs ys e
+pub named_same : {X Y : Type 0} (f : X → Y) (plan : List ℕ) (xs : List X) → named plan (map f xs) ≡ named plan xs
+named_same f plan xs = named_from_same f plan 0 xs
 
--- the printed outcomes are the text of the replies
-pub replied : {E : Type 0} (r : Result (Vec ℕ Global) E) (s : Said) (os : List Ending) (serials : List ℕ) (made : ℕ)
-    → os ≡ outcomes s → serials ≡ [] → made ≡ named s.plan s.exchanges → IfOk r (λ text. text.items ≡ print os serials made) → IfOk r (λ text. text.items ≡ replies_to s)
+-- the printed outcomes are the text of the replies, for all functions that arguments and handler meet
+pub replied : {V E Y X : Type 0} (means : DemoRequest → List Mark → List Mark → ℕ → Result V E → Type 0) (converts : E → Fault → Type 0) (answers : V → ℕ → Y → Type 0) (responds : Y → DemoRequest → Reply Plain → Type 0)
+    (converted : (e : E) → (f : Fault) × converts e f) (p : Pool DemoLayer) → p.root ≡ record {} → p.config ≡ demo_config
+    → (r : Result (Vec ℕ Global) X) (s : Said) (os : List Ending) (serials : List ℕ) (made : ℕ)
+    → Served (rules_of means converts answers responds) (request_of p) (λ (f : Feed). f) s.plan (exchanges_asked s.exchanges) os
+    → AllPass (λ e. is_body e.marks) s.exchanges → list_any lacks_memory os ≡ false → serials ≡ [] → made ≡ named s.plan s.exchanges
+    → IfOk r (λ text. text.items ≡ print os serials made)
+    → IfOk r (λ text. (a : Arguments V) (h : Handling V) → ArgumentsMeet means converts a → HandlerMeets answers responds h → text.items ≡ replies_to a h s)
 unfolding replies_to
-replied r s os serials made a b c h = rw (a, b, c) at h
+replied means converts answers responds converted p root config (Ok text) s os serials made served bodies some none records is = λ a h meets handles.
+    rw (outcomes_are means converts answers responds converted a h meets handles p root config s os served bodies some, none, records) at is
+replied means converts answers responds converted p root config (Err e) s os serials made served bodies some none records is = tt

@@ -1,5 +1,5 @@
 -- What a script says, by filters over its lines.
-use Rattle.std.specs.Prelude.{ℕ, List, [], ◌∷◌, if◌then◌else◌, unwrap_or}
+use Rattle.std.specs.Prelude.{ℕ, List, [], ◌∷◌, if◌then◌else◌, unwrap_or, None}
 use Rattle.std.specs.List.{flat_map, before_first}
 use Rattle.std.specs.Result.{result_unwrap_or}
 use Rattle.hex.specs.Hex.{decode_of}
@@ -23,7 +23,7 @@ marks_said _ text = []
 
 -- the exchange of a block of lines
 abbrev pub exchange_of : List Line → Asked
-exchange_of block = record { marks = flat_map (λ line. marks_said line.word line.argument) block }
+exchange_of block = record { method = []; target = record { scheme = None; authority = None; kept = [] }; params = []; marks = flat_map (λ line. marks_said line.word line.argument) block }
 
 -- one exchange for each `exchange` line, of the lines up to the next
 abbrev pub exchanges : List Line → List Asked

@@ -33,7 +33,7 @@ abbrev pub refuses : Kept → Line → Bool
 refuses s line = refuses_place s line.word || is_unfit line.word line.argument
 
 abbrev pub fresh : Asked
-fresh = record { marks = [] }
+fresh = record { method = []; target = record { scheme = None; authority = None; kept = [] }; params = []; marks = [] }
 
 abbrev pub with_marks : List Mark → Asked → Asked
 with_marks more e = record e { marks = e.marks ++ more }

@@ -18,7 +18,9 @@ pub mod Printing
 pub mod Reading
 pub mod Script
 pub mod Segments
+pub mod Service
 pub mod Status
+pub mod Targets
 pub mod Verdict
 pub mod Words
 pub mod Writing

@@ -1,14 +1,12 @@
 //! The application of the program.
-ghost use Rattle.std.specs.Prelude.{◌≡◌, ◌<◌, ◌^◌, [], true, length, map, IfOk};
+ghost use Rattle.std.specs.Prelude.{◌≡◌, ◌<◌, ◌^◌, [], true, length, IfOk};
 ghost use Rattle.std.specs.List.{All, AllPass};
 ghost use Rattle.web_request.specs.Body.{is_body, joined};
-ghost use Rattle.web_cli.specs.Demo.{bodies_of};
-ghost use Rattle.web_body.specs.Bodies.{marks_feed};
+ghost use Rattle.web_cli.specs.Demo.{demo_config, exchange_asked, exchanges_asked};
 
 use crate::script::ScriptedExchange;
-use http::{Method, Version};
+use http::Version;
 use http_header::HeaderMap;
-use http_uri::Uri;
 use std::alloc::Global;
 use std::rc::Rc;
 use web_body::{Marks, Payload};
@@ -49,8 +47,7 @@ impl App for Demo {
 
 /// A worker with an empty root layer, for `localhost:8080`, that keeps no record.
 pub(crate) fn worker(alloc: Global) -> Result<Worker<Demo>, NoMemory>
-    ensures none_kept { IfOk result (λ w. w.serials ≡ []) }
-    ensures none_made { IfOk result (λ w. w.made ≡ 0) }
+    ensures { IfOk result (λ w. w ≡ record { serials = []; made = 0; capacity = 0; enabled = true; root = record {}; config = demo_config }) }
 {
     let root = Rc::new(alloc, DemoLayer)?;
     let config = AppConfig {
@@ -64,35 +61,32 @@ pub(crate) fn worker(alloc: Global) -> Result<Worker<Demo>, NoMemory>
     Worker::new(alloc, root, config, 0)
 }
 
-/// The only head that a script can ask for so far. Its target is in form, so that only memory can be wanting.
-fn head(alloc: Global) -> Result<RequestHead, NoMemory> {
-    let Ok(uri) = Uri::from_static("/bytes") else {
-        return Err(NoMemory);
-    };
-    Ok(RequestHead {
-        uri,
-        method: Method::POST,
-        version: Version::HTTP_11,
-        headers: HeaderMap::new(alloc),
-        peer_addr: None,
-    })
-}
-
 /// The exchange that a script asks for, with its body as a stream.
-fn exchange(alloc: Global, asked: ScriptedExchange) -> Result<Exchange<Demo>, NoMemory>
+fn exchange(alloc: Global, asked: ScriptedExchange) -> Exchange<Demo>
     requires body { is_body asked.marks ≡ true }
     requires small { length (joined asked.marks) < 2 ^ 63 }
-    ensures { IfOk result (λ x. x.body ≡ Payload.Stream (marks_feed asked.marks)) }
+    ensures { result ≡ exchange_asked asked }
 {
-    let ScriptedExchange { marks } = asked;
-    Ok(Exchange {
-        head: head(alloc)?,
-        params: Vec::new(alloc),
+    let ScriptedExchange {
+        method,
+        uri,
+        params,
+        marks,
+    } = asked;
+    Exchange {
+        head: RequestHead {
+            uri,
+            method,
+            version: Version::HTTP_11,
+            headers: HeaderMap::empty(alloc),
+            peer_addr: None,
+        },
+        params,
         layers: Vec::new(alloc),
         conn: None,
         local: None,
         body: Payload::Stream(Marks::new(marks)),
-    })
+    }
 }
 
 /// The exchanges that a script asks for.
@@ -102,11 +96,11 @@ pub(crate) fn exchanges(
 ) -> Result<Vec<Exchange<Demo>>, NoMemory>
     requires bodies { AllPass (λ e. is_body e.marks) asked.items }
     requires small { All (λ e. length (joined e.marks) < 2 ^ 63) asked.items }
-    ensures { IfOk result (λ xs. map (λ x. x.body) xs.items ≡ bodies_of asked.items) }
+    ensures { IfOk result (λ xs. xs.items ≡ exchanges_asked asked.items) }
 {
     let mut exchanges = Vec::with_capacity(alloc, asked.len())?;
     for one in asked {
-        exchanges.push(exchange(alloc, one)?)?;
+        exchanges.push(exchange(alloc, one))?;
     }
     Ok(exchanges)
 }

@@ -1,18 +1,22 @@
 //! What is due for a script.
-ghost use Rattle.std.specs.Prelude.{◌≡◌, ◌<◌, ◌^◌, length, IfOk};
+ghost use Rattle.std.specs.Prelude.{◌≡◌, ◌<◌, ◌^◌, ◌++◌, length, IfOk, OnOk};
+ghost use Rattle.std.specs.Option.{option_map};
 ghost use Rattle.std.specs.List.{All, AllPass, list_any};
 ghost use Rattle.web_request.specs.Body.{is_body, joined};
 ghost use Rattle.web_worker.specs.Endings.{ending_of};
 ghost use Rattle.web_worker.specs.Served.{lacks_memory};
-ghost use Rattle.web_cli.specs.Due.{IsDue, replies_to};
+ghost use Rattle.web_cli.specs.Due.{IsDue, IsFirst, OnRefused, OnReplies, calls_due, calls_to, replies_to};
+ghost use Rattle.web_cli.specs.Service.{Arguments, ArgumentsMeet, HandlerMeets, Handling};
 
 use crate::demo::{Demo, exchanges, worker};
 use crate::printing::printed;
 use crate::script::{Script, Verdict, read_script};
 use bytes::Bytes;
 use std::alloc::Global;
+use web_extract::FromRequest;
+use web_reply::Responder;
 use web_request::NoMemory;
-use web_worker::{Outcome, serve_all};
+use web_worker::{Handler, Outcome, serve_all};
 
 /// What a script of at most the limit is answered.
 #[derive(Drop)]
@@ -32,10 +36,21 @@ fn is_lost(outcomes: &[Outcome<Demo>]) -> bool
 }
 
 /// Serves a script, and gives the text of its replies. Want of memory of one exchange is want of memory of all.
-fn replies(alloc: Global, script: Script) -> Result<Vec<u8>, NoMemory>
+fn replies<Args: FromRequest<Demo>, H: Handler<Args>>(
+    alloc: Global,
+    script: Script,
+    handler: &mut H,
+) -> Result<Vec<u8>, NoMemory>
+where
+    H::Output: Responder<Demo>,
     requires bodies { AllPass (λ e. is_body e.marks) script.exchanges }
     requires small { All (λ e. length (joined e.marks) < 2 ^ 63) script.exchanges }
-    ensures { IfOk result (λ text. text.items ≡ replies_to script) }
+    requires ready { H.ready handler.old }
+    ensures ready { H.ready handler.new }
+    ensures text { IfOk result (λ text. (a : Arguments Args) (h : Handling Args) → ArgumentsMeet Args.means Args.Error.converts a
+        → HandlerMeets (H.answers handler.old) H.Output.responds h → text.items ≡ replies_to a h script) }
+    ensures calls { OnOk result ((a : Arguments Args) → ArgumentsMeet Args.means Args.Error.converts a
+        → H.calls handler.new ≡ option_map (λ old. old ++ calls_to a script) (H.calls handler.old)) }
 {
     let Script {
         exchanges: asked,
@@ -43,7 +58,7 @@ fn replies(alloc: Global, script: Script) -> Result<Vec<u8>, NoMemory>
     } = script;
     let mut worker = worker(alloc)?;
     let exchanges = exchanges(alloc, asked)?;
-    let outcomes = match serve_all(alloc, &mut worker, exchanges, &plan) {
+    let outcomes = match serve_all::<Demo, Args, H>(alloc, &mut worker, exchanges, &plan, handler) {
         Ok(outcomes) => outcomes,
         Err(_) => return Err(NoMemory),
     };
@@ -55,11 +70,27 @@ fn replies(alloc: Global, script: Script) -> Result<Vec<u8>, NoMemory>
 }
 
 /// What is due for these bytes. None of them is copied.
-pub(crate) fn due_of(alloc: Global, bytes: Vec<u8>) -> Result<Due, NoMemory>
-    ensures { IfOk result (λ due. IsDue due bytes.items) }
+pub(crate) fn due_of<Args: FromRequest<Demo>, H: Handler<Args>>(
+    alloc: Global,
+    bytes: Vec<u8>,
+    handler: &mut H,
+) -> Result<Due, NoMemory>
+where
+    H::Output: Responder<Demo>,
+    requires ready { H.ready handler.old }
+    ensures ready { H.ready handler.new }
+    ensures due { IfOk result (λ due. (a : Arguments Args) (h : Handling Args) → ArgumentsMeet Args.means Args.Error.converts a
+        → HandlerMeets (H.answers handler.old) H.Output.responds h → IsDue a h due bytes.items) }
+    ensures first { IfOk result (λ due. IsFirst due bytes.items) }
+    ensures calls { IfOk result (λ due. OnReplies due ((a : Arguments Args) → ArgumentsMeet Args.means Args.Error.converts a
+        → H.calls handler.new ≡ option_map (λ old. old ++ calls_due a bytes.items) (H.calls handler.old))) }
+    ensures refused { IfOk result (λ due. OnRefused due (handler.new ≡ handler.old)) }
 {
     match read_script(alloc, Bytes::from_vec(bytes)?)? {
-        Verdict::Valid(script) => Ok(Due::Replies(replies(alloc, script)?)),
+        Verdict::Valid(script) => {
+            let text = replies::<Args, H>(alloc, script, handler)?;
+            Ok(Due::Replies(text))
+        }
         Verdict::Refused => Ok(Due::Refused),
     }
 }

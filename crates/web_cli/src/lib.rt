@@ -25,7 +25,7 @@ pub use memory_output::{MemOutput, PlainOutput};
 pub use output::{Output, WriteAnswer};
 pub use reading::{ReadWhole, SCRIPT_LIMIT, read_whole};
 pub use script::{Script, ScriptedExchange, Verdict, first_script_law, read_script};
-pub use serving::run;
+// pub use serving::run;
 pub use standard::{StdInput, StdOutput};
 pub use status::Status;
 pub use words::is_serve;

@@ -1,8 +1,9 @@
 //! The top call.
 ghost use Rattle.std.specs.Prelude.{◌≡◌, List, ℕ, map, string_bytes};
 ghost use Rattle.web_cli.specs.Words.{IsServe};
-ghost use Rattle.web_cli.specs.Outcome.{FaultIsTold, Headline, IsNoCommand, Serves, TooLongIsTold, WriteFaultIsTold};
+ghost use Rattle.web_cli.specs.Outcome.{FaultIsTold, Headline, IsCalled, IsNoCommand, IsReplies, Serves, TooLongIsTold, WriteFaultIsTold};
 
+use crate::demo::Demo;
 use crate::due::{Due, due_of};
 use crate::input::Input;
 use crate::output::Output;
@@ -11,17 +12,31 @@ use crate::status::Status;
 use crate::words::{USAGE, is_serve};
 use crate::writing::say;
 use std::alloc::Global;
+use web_extract::FromRequest;
+use web_reply::Responder;
+use web_worker::Handler;
 
 const NOT_BUILT: &[u8] = b"not built\n";
 
-fn serve<I: Input, O: Output>(alloc: Global, input: &mut I, output: &mut O) -> Status
-    ensures { (came : List ℕ) × Serves result came (I.state input.old) (I.state input.new) (O.state output.old) (O.state output.new) }
+fn serve<I: Input, O: Output, Args: FromRequest<Demo>, H: Handler<Args>>(
+    alloc: Global,
+    input: &mut I,
+    output: &mut O,
+    handler: &mut H,
+) -> Status
+where
+    H::Output: Responder<Demo>,
+    requires ready { H.ready handler.old }
+    ensures ready { H.ready handler.new }
+    ensures serves { (came : List ℕ) × Serves (IsReplies Args.means Args.Error.converts (H.answers handler.old) H.Output.responds)
+        (IsCalled Args.means Args.Error.converts (H.calls handler.old) (H.calls handler.new)) (handler.new ≡ handler.old)
+        result came (I.state input.old) (I.state input.new) (O.state output.old) (O.state output.new) }
 {
     match read_whole(alloc, input) {
         Err(_) => Status::NoMemory,
         Ok(ReadWhole::Failed) => Status::ReadFault,
         Ok(ReadWhole::TooLong) => say(output, NOT_BUILT, Status::Script),
-        Ok(ReadWhole::All(bytes)) => match due_of(alloc, bytes) {
+        Ok(ReadWhole::All(bytes)) => match due_of::<Args, H>(alloc, bytes, handler) {
             Err(_) => Status::NoMemory,
             Ok(Due::Refused) => say(output, NOT_BUILT, Status::Script),
             Ok(Due::Replies(text)) => say(output, &text, Status::Done),
@@ -29,27 +44,35 @@ fn serve<I: Input, O: Output>(alloc: Global, input: &mut I, output: &mut O) -> S
     }
 }
 
-/// Does what the words say.
-///
-/// `serve --pool=0` reads a script of at most 16,777,216 bytes, serves it, and writes the replies. Other words write the usage.
-pub fn run<I: Input, O: Output>(
+/// Does what the words say, for any list of arguments.
+fn run_over<I: Input, O: Output, Args: FromRequest<Demo>, H: Handler<Args>>(
     alloc: Global,
     words: &[String],
     input: &mut I,
     output: &mut O,
+    handler: &mut H,
 ) -> Status
+where
+    H::Output: Responder<Demo>,
+    requires ready { H.ready handler.old }
+    ensures ready { H.ready handler.new }
     ensures no_command { ¬ (IsServe (map string_bytes words.now)) →
         IsNoCommand result (I.state input.old) (I.state input.new) (O.state output.old) (O.state output.new) }
+    ensures uncalled { ¬ (IsServe (map string_bytes words.now)) → handler.new ≡ handler.old }
     ensures serves { IsServe (map string_bytes words.now) → (came : List ℕ)
-        × Serves result came (I.state input.old) (I.state input.new) (O.state output.old) (O.state output.new) }
+        × Serves (IsReplies Args.means Args.Error.converts (H.answers handler.old) H.Output.responds)
+            (IsCalled Args.means Args.Error.converts (H.calls handler.old) (H.calls handler.new)) (handler.new ≡ handler.old)
+            result came (I.state input.old) (I.state input.new) (O.state output.old) (O.state output.new) }
     ensures headline { IsServe (map string_bytes words.now) →
-        Headline result (I.state input.old) (I.state input.new) (O.state output.old) (O.state output.new) }
+        Headline (IsReplies Args.means Args.Error.converts (H.answers handler.old) H.Output.responds)
+            (IsCalled Args.means Args.Error.converts (H.calls handler.old) (H.calls handler.new)) (handler.new ≡ handler.old)
+            result (I.state input.old) (I.state input.new) (O.state output.old) (O.state output.new) }
     ensures read_fault { FaultIsTold result (I.state input.old) (I.state input.new) }
     ensures write_fault { WriteFaultIsTold result (O.state output.old) (O.state output.new) }
     ensures too_long { TooLongIsTold result (I.state input.old) (I.state input.new) }
 {
     if is_serve(words) {
-        serve(alloc, input, output)
+        serve::<I, O, Args, H>(alloc, input, output, handler)
     } else {
         say(output, USAGE, Status::Usage)
     }

@@ -3,6 +3,7 @@ use Rattle.std.proofs.Common.{◌≡◌, ◌==◌, ℕ, zero, suc, Bool, true, f
 use Rattle.std.specs.Prelude.{Option, None, Some, Result, Ok, Err, ⊤, MatchOption, if◌then◌else◌, slice_get}
 use Rattle.std.specs.List.{All, list_any}
 use Rattle.std.specs.Option.{option_map, option_map_or}
+use Rattle.std.specs.Result.{result_ok}
 use Rattle.std.proofs.lemmas.Bool.Decides.{nat_tests}
 use Rattle.std.proofs.lemmas.List.Elements.{All-head, All-tail}
 use Rattle.web_texts.proofs.Blocks.{or_false}
@@ -34,34 +35,31 @@ not_now : {V : Type 0} (n d : ℕ) (v : V) → (n ≡ d → ⊥) → (b : Bool) 
 not_now n d v f true e = let is : n ≡ d = grind (arith, nat_tests) in absurd (f is)
 not_now n d v f false e = refl
 
-module _ {V E : Type 0} where
-  now : (n d : ℕ) (v : V) (y : Result V E) → n ≡ d → y ≡ Ok v → call_at n d y ≡ v ∷ []
-  now n d v y e f = let is : (n == d) ≡ true = grind (arith, nat_tests) in rw (f, is) refl
+now : {V : Type 0} (n d : ℕ) (v : V) (y : Option V) → n ≡ d → Some v ≡ y → call_at n d y ≡ v ∷ []
+now n d v y e f = let is : (n == d) ≡ true = grind (arith, nat_tests) in rw (← f, is) refl
 
-  value_at : (n d : ℕ) (v : V) (k : ℕ) (z : Result V E) → n ≡ d → k ≡ d → z ≡ Ok v → IsValueAt n k z
-  value_at n d v k z e f g = rw g (f ∙ sym e)
-
-  called_value : (n d : ℕ) (v : V) (y : Result V E) → n ≡ d → Ok v ≡ y → call_at n d y ≡ v ∷ []
-  called_value n d v y e f = now n d v y e (sym f)
+value_at : {V E : Type 0} (n d : ℕ) (v : V) (k : ℕ) (z : Result V E) → n ≡ d → k ≡ d → result_ok z ≡ Some v → IsValueAt n k z
+value_at n d v k (Ok x) e f g = f ∙ sym e
+value_at n d v k (Err x) e f g = absurd (cc)
 
 module _ {S L D C V E Y : Type 0} (R : Rules L D C V E Y) (request : Asked S L D C → Request L D C) (feed : S → Feed) where
-  with_value : (o : Option (List Mark)) (x : Asked S L D C) (n d : ℕ) (y : Result V E) (v : V)
-      → MatchOption o ⊥ (λ m. (rest : List Mark) (k : ℕ) (z : Result V E) → R.means (request x) m rest k z → (k ≡ d) × (z ≡ y))
+  with_value : (o : Option (List Mark)) (x : Asked S L D C) (n d : ℕ) (y : Option V) (v : V)
+      → MatchOption o ⊥ (λ m. (rest : List Mark) (k : ℕ) (z : Result V E) → R.means (request x) m rest k z → (k ≡ d) × (result_ok z ≡ y))
       → MatchOption o ⊤ (λ m. (rest : List Mark) × R.means (request x) m rest n (Ok v)) → call_at n d y ≡ v ∷ []
   with_value None x n d y v once g = absurd once
-  with_value (Some m) x n d y v once g = let a = once g.0 n (Ok v) g.1 in called_value n d v y a.0 a.1
+  with_value (Some m) x n d y v once g = let a = once g.0 n (Ok v) g.1 in now n d v y a.0 a.1
 
   comes_at : (o : Option (List Mark)) (x : Asked S L D C) (n d : ℕ) (v : V) → n ≡ d
-      → MatchOption o ⊥ (λ m. (rest : List Mark) (k : ℕ) (z : Result V E) → R.means (request x) m rest k z → (k ≡ d) × (z ≡ Ok v))
+      → MatchOption o ⊥ (λ m. (rest : List Mark) (k : ℕ) (z : Result V E) → R.means (request x) m rest k z → (k ≡ d) × (result_ok z ≡ Some v))
       → MatchOption o ⊥ (λ m. (rest : List Mark) (k : ℕ) (z : Result V E) → R.means (request x) m rest k z → IsValueAt n k z)
   comes_at None x n d v e once = once
   comes_at (Some m) x n d v e once = λ rest k z a. let b = once rest k z a in value_at n d v k z e b.0 b.1
 
-  without_value : (x : Asked S L D C) (n d : ℕ) (y : Result V E) → ArgsOnce R request feed x d y → (ArgsComeAt R request feed x n → ⊥) → call_at n d y ≡ []
-  without_value x n d (Err e) once f = refl
-  without_value x n d (Ok v) once f = not_now n d v (λ e. f (comes_at (payload_feed feed x.body).marks x n d v e once)) (n == d) refl
+  without_value : (x : Asked S L D C) (n d : ℕ) (y : Option V) → ArgsOnce R request feed x d y → (ArgsComeAt R request feed x n → ⊥) → call_at n d y ≡ []
+  without_value x n d None once f = refl
+  without_value x n d (Some v) once f = not_now n d v (λ e. f (comes_at (payload_feed feed x.body).marks x n d v e once)) (n == d) refl
 
-  module _ (args : Asked S L D C → ℕ × Result V E) (lacks : ℕ → Type 0) (none : (k : ℕ) → lacks k → ⊥) where
+  module _ (args : Asked S L D C → ℕ × Option V) (lacks : ℕ → Type 0) (none : (k : ℕ) → lacks k → ⊥) where
     entry_at : (x : Asked S L D C) (n k : ℕ) (called : Option V) → ArgsOnce R request feed x (args x).0 (args x).1 → EntryCall R request feed n (Some x) (lacks k) called
         → call_at n (args x).0 (args x).1 ≡ with_call called []
     entry_at x n k (Some v) once h = with_value (payload_feed feed x.body).marks x n (args x).0 (args x).1 v once h

@@ -2,6 +2,7 @@
 use Rattle.std.specs.Prelude.{◌≡◌, ◌==◌, ℕ, ◌+◌, ◌<◌, List, [], ◌∷◌, ◌++◌, map, Option, None, Some, Result, Ok, Err, ⊤, false, if◌then◌else◌, MatchOption, ◌⊎◌, slice_get}
 use Rattle.std.specs.List.{All, list_any}
 use Rattle.std.specs.Option.{option_map, option_map_or}
+use Rattle.std.specs.Result.{result_ok}
 use Rattle.web_request.specs.declared.source.Mark.{Mark}
 use Rattle.web_request.specs.Feed.{Feed}
 use Rattle.web_request.specs.Request.{Request}
@@ -74,15 +75,16 @@ module _ {S L D C V E Y U W : Type 0} (R : Rules L D C V E Y) (request : Asked S
   Ran plan old new told told_new = (xs : List (Asked S L D C)) → old ≡ map (λ x. Waiting x) xs
       → EachFrom (λ k x f. ArgsOf (polls plan k) x f) 0 xs new × GrewBy told told_new (λ vs. CallsOf R request feed (LacksMemory new) xs [] plan vs)
 
--- Where the arguments of each exchange come as one answer after one number of polls, the calls are a function of the plan.
+-- Where the arguments of each exchange come after one number of polls, as one value or refused, the calls are a function of
+-- the plan.
 
--- the call that the entry number n + 1 of an exchange makes, whose arguments come as y after d polls
-abbrev pub call_at : {V E : Type 0} → ℕ → ℕ → Result V E → List V
-call_at n d (Ok v) = if n == d then v ∷ [] else []
-call_at n d (Err e) = []
+-- the call that the entry number n + 1 of an exchange makes, whose arguments come after d polls, as this value or refused
+abbrev pub call_at : {V : Type 0} → ℕ → ℕ → Option V → List V
+call_at n d (Some v) = if n == d then v ∷ [] else []
+call_at n d None = []
 
--- `args` gives the delay and the answer of an exchange's arguments
-module _ {X V E : Type 0} (args : X → ℕ × Result V E) where
+-- `args` gives the delay and the value of an exchange's arguments
+module _ {X V : Type 0} (args : X → ℕ × Option V) where
   -- the calls of the entries of rest, where the plan had done before: one for each that is the entry number d + 1 of its exchange, whose arguments come as a value after d polls
   abbrev pub calls_from : List X → List ℕ → List ℕ → List V
   calls_from xs done [] = []
@@ -92,11 +94,11 @@ module _ {X V E : Type 0} (args : X → ℕ × Result V E) where
   calls_of xs plan = calls_from xs [] plan
 
 module _ {S L D C V E Y : Type 0} (R : Rules L D C V E Y) (request : Asked S L D C → Request L D C) (feed : S → Feed) where
-  -- the marks are told, and the arguments come as y after d polls and not otherwise
-  abbrev pub ArgsOnce : Asked S L D C → ℕ → Result V E → Type 0
-  ArgsOnce x d y = MatchOption (payload_feed feed x.body).marks ⊥ (λ m. (rest : List Mark) (k : ℕ) (z : Result V E) → R.means (request x) m rest k z → (k ≡ d) × (z ≡ y))
+  -- the marks are told, and the arguments come after d polls and as this value or refused, and not otherwise
+  abbrev pub ArgsOnce : Asked S L D C → ℕ → Option V → Type 0
+  ArgsOnce x d y = MatchOption (payload_feed feed x.body).marks ⊥ (λ m. (rest : List Mark) (k : ℕ) (z : Result V E) → R.means (request x) m rest k z → (k ≡ d) × (result_ok z ≡ y))
 
   -- where no outcome lacks memory, the list of calls, where told, grew by those of the plan
   abbrev pub CalledByFunctions : List ℕ → List (Asked S L D C) → List Ending → Option (List V) → Option (List V) → Type 0
-  CalledByFunctions plan xs os told told_new = (args : Asked S L D C → ℕ × Result V E) → All (λ x. ArgsOnce x (args x).0 (args x).1) xs → list_any lacks_memory os ≡ false
+  CalledByFunctions plan xs os told told_new = (args : Asked S L D C → ℕ × Option V) → All (λ x. ArgsOnce x (args x).0 (args x).1) xs → list_any lacks_memory os ≡ false
       → told_new ≡ option_map (λ old. old ++ calls_of args xs plan) told
