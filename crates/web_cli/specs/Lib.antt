@@ -19,6 +19,7 @@ pub mod Reading
 pub mod Script
 pub mod Segments
 pub mod Status
+pub mod Targets
 pub mod Verdict
 pub mod Words
 pub mod Writing
