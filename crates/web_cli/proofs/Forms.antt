@@ -28,14 +28,14 @@ given_decides : {P Q : Type 0} (x y : Bool) → Decides x P → Decides y Q → 
 given_decides true y d k = (λ e p. k.0 e, λ f. k.1 (f (d.0 refl)))
 given_decides false y d k = (λ e p. absurd (not_from_Decides false d refl p), λ f. refl)
 
-all_decides : (p : ℕ → Bool) (xs : List ℕ) → Decides (list_all p xs) (AllPass p xs)
+pub all_decides : (p : ℕ → Bool) (xs : List ℕ) → Decides (list_all p xs) (AllPass p xs)
 all_decides p xs = (AllPass-from_list_all p xs, list_all-from_AllPass p xs)
 
 query_decides : (o : Option (List ℕ)) → Decides (list_all is_query_byte (unwrap_or o [])) (IfSome o (AllPass is_query_byte))
 query_decides None = (λ e. tt, λ e. refl)
 query_decides (Some q) = all_decides is_query_byte q
 
-utf8_decides : (text : List ℕ) → Decides (is_utf8 text) (IsUtf8 text)
+pub utf8_decides : (text : List ℕ) → Decides (is_utf8 text) (IsUtf8 text)
 utf8_decides text = (IsUtf8-from_is_utf8 text, is_utf8-from_IsUtf8 text)
 
 path_and_query : (text : List ℕ) → Decides (is_path_and_query text) (IsPathAndQuery text)

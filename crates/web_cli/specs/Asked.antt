@@ -1,6 +1,11 @@
 -- What a script asks of one exchange.
-use Rattle.std.specs.Prelude.{List}
+use Rattle.std.specs.Prelude.{ℕ, List}
+use Rattle.web_texts.specs.declared.text.Pair.{Pair}
 use Rattle.web_request.specs.declared.source.Mark.{Mark}
+use Rattle.web_cli.specs.Targets.{Target}
 
 pub record Asked : Type 0 where
+  pub method : List ℕ
+  pub target : Target
+  pub params : List Pair
   pub marks : List Mark

@@ -4,7 +4,8 @@ use Rattle.std.specs.List.{list_all}
 use Rattle.std.specs.Str.{bytes_eq, is_utf8}
 use Rattle.http_uri.specs.ByteClasses.{is_scheme_byte, is_authority_byte, is_path_byte, is_query_byte, is_delimiter, count_of, split_once_front, split_once_back, at_sign, colon, left_bracket, percent_sign, question_mark, right_bracket, slash}
 use Rattle.http_uri.specs.Grammar.{IsUriText, last_piece, normal_scheme, without_fragment, path_of, scheme_len, authority_len}
-use Rattle.http_uri.specs.Uri.{SpellsNone}
+use Rattle.http_uri.specs.declared.uri.Uri.{Uri}
+use Rattle.http_uri.specs.Uri.{SpellsNone, uri_scheme, uri_authority, uri_data}
 
 -- the parts of a target
 pub record Target : Type 0 where
@@ -12,6 +13,9 @@ pub record Target : Type 0 where
   pub authority : Option (List ℕ)
   -- the path, with the query where there is one
   pub kept : List ℕ
+
+abbrev pub parts_of : Uri → Target
+parts_of u = record { scheme = uri_scheme u; authority = uri_authority u; kept = uri_data u }
 
 -- the text spells these parts, or none
 abbrev pub IsReading : List ℕ → Option Target → Type 0

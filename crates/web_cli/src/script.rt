@@ -8,6 +8,7 @@ mod entries;
 mod exchange;
 mod law;
 mod line;
+mod param;
 mod reader;
 
 use bytes::Bytes;
