@@ -1,6 +1,6 @@
 -- The tests of a target decide its grammar.
-use Rattle.std.proofs.Common.{◌≡◌, ◌≢◌, ◌≤◌, ◌<◌, ◌⊎◌, ℕ, zero, suc, ◌+◌, ◌-◌, ◌==◌, Bool, true, false, not, ◌&&◌, ◌||◌, List, [], ◌∷◌, ◌++◌, length, take, drop, get_or, Option, Some, None, cond, refl, ap, sym, ◌∙◌, subst, inl, inr, append_assoc, arith}
-use Rattle.std.specs.Prelude.{nat_lt, nat_le, unwrap_or, codes, slice_index, IfSome, IsUtf8, IsTrue}
+use Rattle.std.proofs.Common.{◌≡◌, ◌≢◌, ◌≤◌, ◌<◌, ◌⊎◌, ℕ, zero, suc, ◌-◌, ◌==◌, Bool, true, false, not, ◌&&◌, ◌||◌, List, [], ◌∷◌, ◌++◌, length, take, drop, get_or, Option, Some, None, cond, refl, ap, sym, ◌∙◌, subst, inl, inr, append_assoc, arith}
+use Rattle.std.specs.Prelude.{nat_le, unwrap_or, slice_index, IfSome, IsUtf8, IsTrue}
 use Rattle.std.specs.Bool.{Decides}
 use Rattle.std.specs.List.{list_all}
 use Rattle.std.specs.Str.{bytes_eq, is_utf8}
@@ -11,9 +11,8 @@ use Rattle.std.proofs.lemmas.List.Sums.{AllPass-from_list_all, list_all-from_All
 use Rattle.std.proofs.lemmas.Str.{IsUtf8-from_is_utf8, is_utf8-from_IsUtf8}
 use Rattle.http_uri.specs.ByteClasses.{is_path_byte, is_query_byte, is_authority_byte, is_scheme_byte, is_delimiter, split_once_front, split_once_back, count_of}
 use Rattle.http_uri.specs.Grammar.{AllPass, IsPathAndQuery, IsPathInput, IsAuthority, MayFollow, IsOriginForm, IsAbsoluteForm, IsScheme, IsTail, HasScheme, last_piece, without_fragment, normal_scheme, scheme_len, authority_len}
-use Rattle.http_uri.specs.Uri.{SpellsNone}
 use Rattle.http_uri.proofs.UriLemmas.{cut_name, cut_rest, cut_authority, cut_tail, cut_scheme, absolute_from_cuts, none_of}
-use Rattle.web_cli.specs.Targets.{Target, IsReading, is_path_and_query, is_path_input, may_follow, each_follows, is_authority, is_origin, is_absolute, behind_scheme, authority_in, tail_in, absolute_of, form_of, target_of}
+use Rattle.web_cli.specs.Targets.{IsReading, is_path_and_query, is_path_input, may_follow, each_follows, is_authority, is_origin, is_absolute, behind_scheme, authority_in, tail_in, absolute_of, form_of, target_of}
 
 le_decides : (a b : ℕ) → Decides (nat_le a b) (a ≤ b)
 le_decides a b = elim (leb_tells a b) [
@@ -145,9 +144,16 @@ to_cuts text s a k h =
     let rest = cut_rest text s a k h in
     let named : IsScheme (take (scheme_len text) text) = subst IsScheme (sym (cut_name text s a k h)) h.is_scheme in
     let a_is : authority_in text ≡ a = ap (λ r. take (authority_len r) r) rest ∙ cut_authority text s a k h in
-    let t_is : tail_in text ≡ h.tail = ap (λ r. drop (authority_len r) r) rest ∙ cut_tail text s a k h in
-    (cut_scheme text s a k h, (named, (subst IsAuthority (sym a_is) h.is_authority,
-    subst (λ t. (t ≡ []) ⊎ (IsTrue (is_delimiter (slice_index t 0)) × IsPathInput t)) (sym t_is) (cut_tail_is h.tail k h.is_tail))))
+    let t_is : tail_in text ≡ h.tail = ap (λ r. drop (authority_len r) r) rest ∙ cut_tail text s a k h in (
+      cut_scheme text s a k h,
+      (
+        named,
+        (
+          subst IsAuthority (sym a_is) h.is_authority,
+          subst (λ t. (t ≡ []) ⊎ (IsTrue (is_delimiter (slice_index t 0)) × IsPathInput t)) (sym t_is) (cut_tail_is h.tail k h.is_tail),
+        ),
+      ),
+    )
 
 alone : (text : List ℕ) → Decides (is_authority text && not (bytes_eq text (42 ∷ []))) (IsAuthority text × (text ≢ 42 ∷ []))
 alone text = Decides-and _ _ (authority text) (Decides-not _ (bytes_eq-Decides text (42 ∷ [])))

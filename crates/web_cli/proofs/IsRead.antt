@@ -66,8 +66,12 @@ grown x e = with_params (params_said x.word x.argument) (with_marks (marks_said 
 
 grown_is : (head : List ℕ) (rest : List Line) (x : Line) → exchange_of head (rest ++ x ∷ []) ≡ grown x (exchange_of head rest)
 grown_is head rest x =
-    rw (flat_map-append (λ (l : Line). marks_said l.word l.argument) rest (x ∷ []), append-nil (marks_said x.word x.argument),
-    flat_map-append (λ (l : Line). params_said l.word l.argument) rest (x ∷ []), append-nil (params_said x.word x.argument)) refl
+    rw (
+      flat_map-append (λ (l : Line). marks_said l.word l.argument) rest (x ∷ []),
+      append-nil (marks_said x.word x.argument),
+      flat_map-append (λ (l : Line). params_said l.word l.argument) rest (x ∷ []),
+      append-nil (params_said x.word x.argument),
+    ) refl
 
 -- the exchanges of all lines, where the last begins at `first`
 

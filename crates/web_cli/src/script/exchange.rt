@@ -95,10 +95,7 @@ fn read_target(alloc: Global, text: &[u8]) -> Result<Option<Uri>, NoMemory>
 }
 
 /// The exchange that the argument of an `exchange` line asks for, with no body yet: a method, one space and a target.
-pub fn read_request(
-    alloc: Global,
-    text: &[u8],
-) -> Result<Option<ScriptedExchange>, NoMemory>
+pub fn read_request(alloc: Global, text: &[u8]) -> Result<Option<ScriptedExchange>, NoMemory>
     ensures { IfOk result (λ read. MatchOption read (is_request text.now ≡ false) (λ asked. (is_request text.now ≡ true) × (asked ≡ fresh text.now))) }
 {
     let Some((method, target)) = split_first(text, b' ') else {
