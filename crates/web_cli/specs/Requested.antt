@@ -28,6 +28,7 @@ unbuilt =
     codes "text" ∷ codes "json" ∷ codes "form" ∷ codes "option" ∷ codes "result" ∷ codes "either" ∷ codes "path" ∷ codes "query" ∷ codes "data"
     ∷ codes "raw" ∷ codes "header" ∷ codes "who" ∷ codes "cookies" ∷ codes "lines" ∷ []
 
+-- the segment is one of them
 abbrev pub is_unbuilt : List ℕ → Bool
 is_unbuilt segment = list_any (bytes_eq segment) unbuilt
 
@@ -36,10 +37,11 @@ abbrev pub is_built : Option Target → Bool
 is_built None = false
 is_built (Some t) = not (is_unbuilt (first_segment (target_path t)))
 
--- METHOD, one space and TARGET
+-- METHOD, one space and TARGET, which is read and built
 unfoldable pub is_request : List ℕ → Bool
 is_request text = has_space text && (not (has_space (behind text)) && (is_method (front text) && is_built (target_of (behind text))))
 
+-- the parts of TARGET, where it is read
 abbrev pub target_said : List ℕ → Target
 target_said text = unwrap_or (target_of (behind text)) (record { scheme = None; authority = None; kept = [] })
 
@@ -47,5 +49,6 @@ target_said text = unwrap_or (target_of (behind text)) (record { scheme = None; 
 unfoldable pub is_param : List ℕ → Bool
 is_param text = has_space text && (not (length (front text) == 0) && (is_utf8 (front text) && is_utf8 (behind text)))
 
+-- NAME and VALUE
 abbrev pub param_said : List ℕ → Pair
 param_said text = record { name = front text; value = behind text }

@@ -18,6 +18,7 @@ use web_texts::{NoMemory, Pair, split_first};
 #[derive(Drop)]
 pub struct ScriptedExchange {
     pub method: Method,
+    /// The target, as `http_uri` reads it.
     pub uri: Uri,
     /// In the order of their lines.
     pub params: Vec<Pair>,
