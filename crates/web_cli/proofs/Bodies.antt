@@ -10,8 +10,9 @@ use Rattle.hex.specs.Hex.{decode_of}
 use Rattle.web_request.specs.declared.source.Mark.{Mark}
 use Rattle.web_request.specs.declared.source.Mark.TheVariants as mark
 use Rattle.web_request.specs.Body.{is_body, ends_in_fault, whole}
+use Rattle.web_texts.specs.declared.text.Pair.{Pair}
 use Rattle.web_cli.specs.Asked.{Asked}
-use Rattle.web_cli.specs.Kept.{Kept, nothing_read, refuses, added, close, with_marks}
+use Rattle.web_cli.specs.Kept.{Kept, nothing_read, refuses, added, close, with_marks, with_params}
 use Rattle.web_cli.specs.declared.script.line.Word.{Word}
 use Rattle.web_cli.specs.declared.script.line.Word.TheVariants as word
 use Rattle.web_texts.proofs.Blocks.{or_false}
@@ -61,6 +62,10 @@ marks_sound (Some e) f g n unfailed more sound =
     let ends : ends_in_fault e.marks ≡ false = sound.1 ∙ unfailed in
     (is_body_more e.marks n sound.0 ends more.0, ends_more e.marks n ends ∙ more.1)
 
+params_sound : (o : Option Asked) (f : Bool) (p : List Pair) → IsOpenSound o f → IsOpenSound (option_map (with_params p) o) f
+params_sound None f p sound = tt
+params_sound (Some e) f p sound = sound
+
 -- the line of a mark is refused where the exchange has a fault
 has_none : (s : Kept) (unfit : Bool) → ((s.has_plan || not (is_some s.open_one) || s.has_fault) || unfit) ≡ false → s.has_fault ≡ false
 has_none s unfit fine =
@@ -76,6 +81,7 @@ bodies_read s sound = close_sound s s.open_one sound.whole sound.open_one
 
 pub sound_more : (s : Kept) (v : Word) (text : List ℕ) → refuses s (line v text) ≡ false → IsSound s → IsSound (added s v text)
 sound_more s word.Exchange text fine sound = record { whole = bodies_read s sound; open_one = (refl, refl) }
+sound_more s word.Param text fine sound = record { whole = sound.whole; open_one = params_sound s.open_one s.has_fault _ sound.open_one }
 sound_more s word.Text text fine sound = record {
   whole = sound.whole;
   open_one = marks_sound s.open_one s.has_fault s.has_fault _ (has_none s _ fine) ((whole_is text).0, (whole_is text).1 ∙ sym (has_none s _ fine)) sound.open_one;

@@ -6,12 +6,14 @@ use Rattle.std.specs.List.{before_first}
 use Rattle.std.proofs.lemmas.List.{append-nil}
 use Rattle.std.proofs.lemmas.Grind.{flat_map-append}
 use Rattle.std.proofs.lemmas.List.Folds.{list_any-append}
+use Rattle.web_texts.specs.declared.text.Pair.{Pair}
+use Rattle.web_request.specs.declared.source.Mark.{Mark}
 use Rattle.web_cli.specs.Line.{Line}
 use Rattle.web_cli.specs.Asked.{Asked}
 use Rattle.web_cli.specs.Kinds.{has, is_mark}
 use Rattle.web_cli.specs.Faults.{came, block, is_faulty, is_unfit}
-use Rattle.web_cli.specs.Exchanges.{marks_said, plan_said, plan, exchange_of, exchanges}
-use Rattle.web_cli.specs.Kept.{Kept, refuses, added, close, with_marks}
+use Rattle.web_cli.specs.Exchanges.{marks_said, params_said, plan_said, plan, exchange_of, exchanges}
+use Rattle.web_cli.specs.Kept.{Kept, refuses, added, close, with_marks, with_params}
 use Rattle.web_cli.specs.declared.script.line.Word.{Word}
 use Rattle.web_cli.specs.declared.script.line.Word.TheVariants as word
 use Rattle.web_texts.proofs.Blocks.{or_false, after_last_at, before_first_at, before_first_none}
@@ -25,7 +27,7 @@ pub record IsOpen (first : Line) (front rest before : List Line) (whole : List A
   pub begins : has word.Exchange first ≡ true
   pub none_later : came word.Exchange rest ≡ false
   pub whole_is : whole ≡ exchanges front
-  pub open_is : open_one ≡ exchange_of rest
+  pub open_is : open_one ≡ exchange_of first.argument rest
   pub fault_is : has_fault ≡ came word.Fault rest
 
 abbrev pub Keeps : List Line → List Asked → Option Asked → Bool → Type 0
@@ -58,9 +60,18 @@ plan_more : (before : List Line) (x : Line) → plan (before ++ x ∷ []) ≡ pl
 plan_more before x =
     flat_map-append (λ (l : Line). plan_said l.word l.argument) before (x ∷ []) ∙ ap (λ l. plan before ++ l) (append-nil (plan_said x.word x.argument))
 
-marks_more : (rest : List Line) (x : Line) → exchange_of (rest ++ x ∷ []) ≡ with_marks (marks_said x.word x.argument) (exchange_of rest)
-marks_more rest x =
-    rw (flat_map-append (λ (l : Line). marks_said l.word l.argument) rest (x ∷ []), append-nil (marks_said x.word x.argument)) refl
+-- what a line adds to the exchange that it stands in
+abbrev pub grown : Line → Asked → Asked
+grown x e = with_params (params_said x.word x.argument) (with_marks (marks_said x.word x.argument) e)
+
+grown_is : (head : List ℕ) (rest : List Line) (x : Line) → exchange_of head (rest ++ x ∷ []) ≡ grown x (exchange_of head rest)
+grown_is head rest x =
+    rw (
+      flat_map-append (λ (l : Line). marks_said l.word l.argument) rest (x ∷ []),
+      append-nil (marks_said x.word x.argument),
+      flat_map-append (λ (l : Line). params_said l.word l.argument) rest (x ∷ []),
+      append-nil (params_said x.word x.argument),
+    ) refl
 
 -- the exchanges of all lines, where the last begins at `first`
 
@@ -71,13 +82,13 @@ exchanges_none (x ∷ lines) none =
     rw parts.0 (exchanges_none lines parts.1)
 
 exchanges_at : (front : List Line) (first : Line) (rest : List Line) → has word.Exchange first ≡ true → came word.Exchange rest ≡ false
-    → exchanges (front ++ first ∷ rest) ≡ exchanges front ++ exchange_of rest ∷ []
+    → exchanges (front ++ first ∷ rest) ≡ exchanges front ++ exchange_of first.argument rest ∷ []
 exchanges_at [] first rest begins none =
     rw (begins, before_first_none (has word.Exchange) rest none, exchanges_none rest none) refl
 exchanges_at (x ∷ front) first rest begins none =
     rw (before_first_at (has word.Exchange) front first rest begins, exchanges_at front first rest begins none)
-    (elim (has word.Exchange x) as (λ b. cond b (exchange_of (before_first (has word.Exchange) front) ∷ (exchanges front ++ exchange_of rest ∷ [])) (exchanges front ++ exchange_of rest ∷ [])
-    ≡ cond b (exchange_of (before_first (has word.Exchange) front) ∷ exchanges front) (exchanges front) ++ exchange_of rest ∷ [])
+    (elim (has word.Exchange x) as (λ b. cond b (exchange_of x.argument (before_first (has word.Exchange) front) ∷ (exchanges front ++ exchange_of first.argument rest ∷ [])) (exchanges front ++ exchange_of first.argument rest ∷ [])
+    ≡ cond b (exchange_of x.argument (before_first (has word.Exchange) front) ∷ exchanges front) (exchanges front) ++ exchange_of first.argument rest ∷ [])
     [ true ↦ refl | false ↦ refl ])
 
 exchanges_kept : (before : List Line) (whole : List Asked) (o : Option Asked) (f : Bool) → Keeps before whole o f → exchanges before ≡ close whole o
@@ -92,7 +103,7 @@ exchanges_read lines s read = exchanges_kept lines s.whole s.open_one s.has_faul
 -- a line that begins no exchange
 extend : (before : List Line) (whole : List Asked) (o : Option Asked) (f g : Bool) (x : Line) → has word.Exchange x ≡ false
     → ((rest : List Line) → f ≡ came word.Fault rest → g ≡ came word.Fault (rest ++ x ∷ []))
-    → Keeps before whole o f → Keeps (before ++ x ∷ []) whole (option_map (with_marks (marks_said x.word x.argument)) o) g
+    → Keeps before whole o f → Keeps (before ++ x ∷ []) whole (option_map (grown x) o) g
 extend before whole None f g x other faults k = (came_other word.Exchange before x other ∙ k.0, k.1)
 extend before whole (Some e) f g x other faults (first, front, rest, at) = (
   first,
@@ -103,14 +114,26 @@ extend before whole (Some e) f g x other faults (first, front, rest, at) = (
     begins = at.begins;
     none_later = came_other word.Exchange rest x other ∙ at.none_later;
     whole_is = at.whole_is;
-    open_is = ap (with_marks (marks_said x.word x.argument)) at.open_is ∙ sym (marks_more rest x);
+    open_is = ap (grown x) at.open_is ∙ sym (grown_is first.argument rest x);
     fault_is = faults rest at.fault_is;
   },
 )
 
-no_marks : (before : List Line) (whole : List Asked) (o : Option Asked) (f : Bool) → Keeps before whole (option_map (with_marks []) o) f → Keeps before whole o f
-no_marks before whole None f k = k
-no_marks before whole (Some e) f k = rw append-nil at k
+-- a line that adds neither parameters nor marks, or one of them
+no_params : (before : List Line) (whole : List Asked) (o : Option Asked) (f : Bool) (m : List Mark)
+    → Keeps before whole (option_map (λ e. with_params [] (with_marks m e)) o) f → Keeps before whole (option_map (with_marks m) o) f
+no_params before whole None f m k = k
+no_params before whole (Some e) f m k = rw (append-nil e.params) at k
+
+no_marks : (before : List Line) (whole : List Asked) (o : Option Asked) (f : Bool) (p : List Pair)
+    → Keeps before whole (option_map (λ e. with_params p (with_marks [] e)) o) f → Keeps before whole (option_map (with_params p) o) f
+no_marks before whole None f p k = k
+no_marks before whole (Some e) f p k = rw (append-nil e.marks) at k
+
+nothing_more : (before : List Line) (whole : List Asked) (o : Option Asked) (f : Bool)
+    → Keeps before whole (option_map (λ e. with_params [] (with_marks [] e)) o) f → Keeps before whole o f
+nothing_more before whole None f k = k
+nothing_more before whole (Some e) f k = rw (append-nil e.marks, append-nil e.params) at k
 
 -- a line that leaves the fault's flag as it was
 quiet : (x : Line) (f : Bool) → has word.Fault x ≡ false → (rest : List Line) → f ≡ came word.Fault rest → f ≡ came word.Fault (rest ++ x ∷ [])
@@ -144,30 +167,38 @@ read_more before s word.Exchange text read =
     )
 read_more before s word.Text text read =
     unplanned before s word.Text text s.whole _ s.has_fault refl refl read
-    (extend before s.whole s.open_one s.has_fault s.has_fault (line word.Text text) refl (quiet (line word.Text text) s.has_fault refl) read.exchange)
+    (no_params (before ++ line word.Text text ∷ []) s.whole s.open_one s.has_fault (marks_said word.Text text)
+    (extend before s.whole s.open_one s.has_fault s.has_fault (line word.Text text) refl (quiet (line word.Text text) s.has_fault refl) read.exchange))
 read_more before s word.Piece text read =
     unplanned before s word.Piece text s.whole _ s.has_fault refl refl read
-    (extend before s.whole s.open_one s.has_fault s.has_fault (line word.Piece text) refl (quiet (line word.Piece text) s.has_fault refl) read.exchange)
+    (no_params (before ++ line word.Piece text ∷ []) s.whole s.open_one s.has_fault (marks_said word.Piece text)
+    (extend before s.whole s.open_one s.has_fault s.has_fault (line word.Piece text) refl (quiet (line word.Piece text) s.has_fault refl) read.exchange))
 read_more before s word.Stall text read =
     unplanned before s word.Stall text s.whole _ s.has_fault refl refl read
-    (extend before s.whole s.open_one s.has_fault s.has_fault (line word.Stall text) refl (quiet (line word.Stall text) s.has_fault refl) read.exchange)
+    (no_params (before ++ line word.Stall text ∷ []) s.whole s.open_one s.has_fault (marks_said word.Stall text)
+    (extend before s.whole s.open_one s.has_fault s.has_fault (line word.Stall text) refl (quiet (line word.Stall text) s.has_fault refl) read.exchange))
 read_more before s word.Fault text read =
     unplanned before s word.Fault text s.whole _ true refl refl read
+    (no_params (before ++ line word.Fault text ∷ []) s.whole s.open_one true (marks_said word.Fault text)
     (extend before s.whole s.open_one s.has_fault true (line word.Fault text) refl
-    (λ rest is. sym (came_this word.Fault rest (line word.Fault text) refl)) read.exchange)
+    (λ rest is. sym (came_this word.Fault rest (line word.Fault text) refl)) read.exchange))
+read_more before s word.Param text read =
+    unplanned before s word.Param text s.whole _ s.has_fault refl refl read
+    (no_marks (before ++ line word.Param text ∷ []) s.whole s.open_one s.has_fault (params_said word.Param text)
+    (extend before s.whole s.open_one s.has_fault s.has_fault (line word.Param text) refl (quiet (line word.Param text) s.has_fault refl) read.exchange))
 read_more before s word.Plan text read = record {
   plan = ap (λ l. l ++ plan_said word.Plan text) read.plan ∙ sym (plan_more before (line word.Plan text));
   has_plan = sym (came_this word.Plan before (line word.Plan text) refl);
-  exchange = no_marks (before ++ line word.Plan text ∷ []) s.whole s.open_one s.has_fault
+  exchange = nothing_more (before ++ line word.Plan text ∷ []) s.whole s.open_one s.has_fault
       (extend before s.whole s.open_one s.has_fault s.has_fault (line word.Plan text) refl (quiet (line word.Plan text) s.has_fault refl) read.exchange);
 }
 read_more before s word.Skipped text read =
     unplanned before s word.Skipped text s.whole s.open_one s.has_fault refl refl read
-    (no_marks (before ++ line word.Skipped text ∷ []) s.whole s.open_one s.has_fault
+    (nothing_more (before ++ line word.Skipped text ∷ []) s.whole s.open_one s.has_fault
     (extend before s.whole s.open_one s.has_fault s.has_fault (line word.Skipped text) refl (quiet (line word.Skipped text) s.has_fault refl) read.exchange))
 read_more before s word.Unknown text read =
     unplanned before s word.Unknown text s.whole s.open_one s.has_fault refl refl read
-    (no_marks (before ++ line word.Unknown text ∷ []) s.whole s.open_one s.has_fault
+    (nothing_more (before ++ line word.Unknown text ∷ []) s.whole s.open_one s.has_fault
     (extend before s.whole s.open_one s.has_fault s.has_fault (line word.Unknown text) refl (quiet (line word.Unknown text) s.has_fault refl) read.exchange))
 
 -- The test of a line by what is kept is the test by the lines before it.
@@ -175,7 +206,7 @@ read_more before s word.Unknown text read =
 -- the tests of a line: whether a plan came, whether an exchange is begun, and whether it has a fault
 tests : Bool → Bool → Bool → Line → Bool
 tests planned begun failed l =
-    not (has word.Skipped l) && (has word.Unknown l || ((planned && not (has word.Plan l)) || (is_mark l && (not begun || failed))) || is_unfit l.word l.argument)
+    not (has word.Skipped l) && (has word.Unknown l || ((planned && not (has word.Plan l)) || (has word.Param l && not begun) || (is_mark l && (not begun || failed))) || is_unfit l.word l.argument)
 
 tests_kept : (before : List Line) (whole : List Asked) (o : Option Asked) (p f : Bool) (l : Line) → Keeps before whole o f
     → tests p (is_some o) f l ≡ tests p (came word.Exchange before) (came word.Fault (block before)) l
@@ -194,6 +225,9 @@ tests_are true b f s word.Plan text a c d = refl
 tests_are false b f s word.Plan text a c d = refl
 tests_are true b f s word.Exchange text a c d = rw a refl
 tests_are false b f s word.Exchange text a c d = rw a refl
+tests_are true b f s word.Param text a c d = rw a refl
+tests_are false true f s word.Param text a c d = rw (a, c) refl
+tests_are false false f s word.Param text a c d = rw (a, c) refl
 tests_are true b f s word.Text text a c d = rw a refl
 tests_are false true f s word.Text text a c d = rw (a, c, d) refl
 tests_are false false f s word.Text text a c d = rw (a, c) refl

@@ -38,14 +38,14 @@ length-joined (mark.Piece b ∷ m) n = rw (length-append b (joined (m ++ n)), le
 length-joined (mark.Stall ∷ m) n = length-joined m n
 length-joined (mark.Fault ∷ m) n = length-joined m n
 
-size_is : (lines : List Line) → length (joined (exchange_of lines).marks) ≡ size lines
-size_is [] = refl
-size_is (x ∷ lines) = length-joined (marks_said x.word x.argument) (exchange_of lines).marks ∙ ap (λ n. size_of x + n) (size_is lines)
+size_is : (head : List ℕ) (lines : List Line) → length (joined (exchange_of head lines).marks) ≡ size lines
+size_is head [] = refl
+size_is head (x ∷ lines) = length-joined (marks_said x.word x.argument) (exchange_of head lines).marks ∙ ap (λ n. size_of x + n) (size_is head lines)
 
 step : (b : Bool) (x : Line) (rest : List Line) → total (exchanges rest) + size (before_first (has word.Exchange) rest) ≤ size rest
-    → total (cond b (exchange_of (before_first (has word.Exchange) rest) ∷ exchanges rest) (exchanges rest)) + size (cond b [] (x ∷ before_first (has word.Exchange) rest)) ≤ size_of x + size rest
+    → total (cond b (exchange_of x.argument (before_first (has word.Exchange) rest) ∷ exchanges rest) (exchanges rest)) + size (cond b [] (x ∷ before_first (has word.Exchange) rest)) ≤ size_of x + size rest
 step true x rest e =
-    let first = size_is (before_first (has word.Exchange) rest) in
+    let first = size_is x.argument (before_first (has word.Exchange) rest) in
     rw length-append (omega (arith, e, first))
 step false x rest e = omega (arith, e)
 
@@ -71,6 +71,7 @@ said_le word.Stall text = omega arith
 said_le word.Fault text = omega arith
 said_le word.Plan text = omega arith
 said_le word.Exchange text = omega arith
+said_le word.Param text = omega arith
 said_le word.Skipped text = omega arith
 said_le word.Unknown text = omega arith
 

@@ -1,12 +1,12 @@
 -- Which lines of a script are faulty.
-use Rattle.std.specs.Prelude.{ℕ, ◌==◌, Bool, false, not, ◌&&◌, ◌||◌, List, length, codes, is_some}
+use Rattle.std.specs.Prelude.{ℕ, ◌==◌, Bool, false, not, ◌&&◌, ◌||◌, List, length, is_some}
 use Rattle.std.specs.List.{list_any, after_last}
 use Rattle.std.specs.Result.{is_ok}
-use Rattle.std.specs.Str.{bytes_eq}
 use Rattle.hex.specs.Hex.{decode_of}
 use Rattle.web_cli.specs.Line.{Line}
 use Rattle.web_cli.specs.Kinds.{has, is_mark}
 use Rattle.web_cli.specs.Entries.{entries_said}
+use Rattle.web_cli.specs.Requested.{is_request, is_param}
 use Rattle.web_cli.specs.declared.script.line.Word.{Word}
 use Rattle.web_cli.specs.declared.script.line.Word.TheVariants as word
 
@@ -18,15 +18,17 @@ came w before = list_any (has w) before
 abbrev pub block : List Line → List Line
 block before = after_last (has word.Exchange) before
 
--- A line behind a plan is one of the plan. A mark stands in an exchange, and not behind a fault of that exchange.
+-- A line behind a plan is one of the plan. A parameter or a mark stands in an exchange, and a mark not behind a fault of that exchange.
 abbrev pub is_misplaced : List Line → Line → Bool
 is_misplaced before line =
     (came word.Plan before && not (has word.Plan line))
+    || (has word.Param line && not (came word.Exchange before))
     || (is_mark line && (not (came word.Exchange before) || came word.Fault (block before)))
 
 -- an argument that does not fit its word
 abbrev pub is_unfit : Word → List ℕ → Bool
-is_unfit word.Exchange text = not (bytes_eq text (codes "POST /bytes"))
+is_unfit word.Exchange text = not (is_request text)
+is_unfit word.Param text = not (is_param text)
 is_unfit word.Piece text = not (is_ok (decode_of text))
 is_unfit word.Stall text = not (length text == 0)
 is_unfit word.Fault text = not (length text == 0)

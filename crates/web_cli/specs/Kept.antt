@@ -2,11 +2,12 @@
 use Rattle.std.specs.Prelude.{◌≡◌, ℕ, Bool, true, false, not, ◌||◌, List, [], ◌∷◌, ◌++◌, Option, None, Some, is_some}
 use Rattle.std.specs.Bool.{OnTrue}
 use Rattle.std.specs.Option.{option_map}
+use Rattle.web_texts.specs.declared.text.Pair.{Pair}
 use Rattle.web_request.specs.declared.source.Mark.{Mark}
 use Rattle.web_cli.specs.Line.{Line}
 use Rattle.web_cli.specs.Asked.{Asked}
 use Rattle.web_cli.specs.Faults.{is_unfit}
-use Rattle.web_cli.specs.Exchanges.{marks_said, plan_said}
+use Rattle.web_cli.specs.Exchanges.{marks_said, params_said, exchange_of, plan_said}
 use Rattle.web_cli.specs.declared.script.line.Word.{Word}
 use Rattle.web_cli.specs.declared.script.line.Word.TheVariants as word
 
@@ -27,13 +28,18 @@ refuses_place s word.Skipped = false
 refuses_place s word.Plan = false
 refuses_place s word.Unknown = true
 refuses_place s word.Exchange = s.has_plan
+refuses_place s word.Param = s.has_plan || not (is_some s.open_one)
 refuses_place s w = s.has_plan || not (is_some s.open_one) || s.has_fault
 
 abbrev pub refuses : Kept → Line → Bool
 refuses s line = refuses_place s line.word || is_unfit line.word line.argument
 
-abbrev pub fresh : Asked
-fresh = record { method = []; target = record { scheme = None; authority = None; kept = [] }; params = []; marks = [] }
+-- an exchange with no parameter and no mark yet
+abbrev pub fresh : List ℕ → Asked
+fresh text = exchange_of text []
+
+abbrev pub with_params : List Pair → Asked → Asked
+with_params more e = record e { params = e.params ++ more }
 
 abbrev pub with_marks : List Mark → Asked → Asked
 with_marks more e = record e { marks = e.marks ++ more }
@@ -43,7 +49,8 @@ close whole None = whole
 close whole (Some open_one) = whole ++ open_one ∷ []
 
 abbrev pub added : Kept → Word → List ℕ → Kept
-added s word.Exchange text = record s { whole = close s.whole s.open_one; open_one = Some fresh; has_fault = false }
+added s word.Exchange text = record s { whole = close s.whole s.open_one; open_one = Some (fresh text); has_fault = false }
+added s word.Param text = record s { open_one = option_map (with_params (params_said word.Param text)) s.open_one }
 added s word.Text text = record s { open_one = option_map (with_marks (marks_said word.Text text)) s.open_one }
 added s word.Piece text = record s { open_one = option_map (with_marks (marks_said word.Piece text)) s.open_one }
 added s word.Stall text = record s { open_one = option_map (with_marks (marks_said word.Stall text)) s.open_one }

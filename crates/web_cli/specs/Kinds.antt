@@ -8,6 +8,7 @@ abbrev pub same_word : Word → Word → Bool
 same_word word.Text word.Text = true
 same_word word.Plan word.Plan = true
 same_word word.Exchange word.Exchange = true
+same_word word.Param word.Param = true
 same_word word.Piece word.Piece = true
 same_word word.Stall word.Stall = true
 same_word word.Fault word.Fault = true

@@ -16,6 +16,7 @@ pub mod Outcome
 pub mod Outside
 pub mod Printing
 pub mod Reading
+pub mod Requested
 pub mod Script
 pub mod Segments
 pub mod Service

@@ -17,6 +17,7 @@ word_of name =
     if bytes_eq name (codes "text") then word.Text
     else if bytes_eq name (codes "plan") then word.Plan
     else if bytes_eq name (codes "exchange") then word.Exchange
+    else if bytes_eq name (codes "param") then word.Param
     else if bytes_eq name (codes "piece") then word.Piece
     else if bytes_eq name (codes "stall") then word.Stall
     else if bytes_eq name (codes "fault") then word.Fault

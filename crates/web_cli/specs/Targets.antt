@@ -14,6 +14,7 @@ pub record Target : Type 0 where
   -- the path, with the query where there is one
   pub kept : List ℕ
 
+-- the parts that a URI holds
 abbrev pub parts_of : Uri → Target
 parts_of u = record { scheme = uri_scheme u; authority = uri_authority u; kept = uri_data u }
 
@@ -74,6 +75,7 @@ authority_in text = take (authority_len (behind_scheme text)) (behind_scheme tex
 abbrev pub tail_in : List ℕ → List ℕ
 tail_in text = drop (authority_len (behind_scheme text)) (behind_scheme text)
 
+-- `scheme://authority`, and a path, a query or a fragment
 unfoldable pub is_absolute : List ℕ → Bool
 is_absolute text =
     (nat_lt 3 (length text) && bytes_eq (take 3 (drop (scheme_len text) text)) (codes "://"))
@@ -81,6 +83,7 @@ is_absolute text =
     && (is_authority (authority_in text)
     && (bytes_eq (tail_in text) [] || (is_delimiter (slice_index (tail_in text) 0) && is_path_input (tail_in text)))))
 
+-- its parts; a path that is not there reads as `/`
 abbrev pub absolute_of : List ℕ → Target
 absolute_of text = record {
   scheme = Some (normal_scheme (take (scheme_len text) text));

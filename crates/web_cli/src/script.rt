@@ -8,11 +8,12 @@ mod entries;
 mod exchange;
 mod law;
 mod line;
+mod param;
 mod reader;
 
 use bytes::Bytes;
 pub use exchange::ScriptedExchange;
-pub use law::first_script_law;
+pub use law::{first_script_law, target_law};
 use memchr::memchr;
 use reader::Reader;
 pub use reader::Script;

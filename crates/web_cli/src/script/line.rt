@@ -12,6 +12,7 @@ pub enum Word {
     Text,
     Plan,
     Exchange,
+    Param,
     Piece,
     Stall,
     Fault,
@@ -35,6 +36,8 @@ fn word_named(name: &[u8]) -> Word
         Word::Plan
     } else if is_same(name, b"exchange") {
         Word::Exchange
+    } else if is_same(name, b"param") {
+        Word::Param
     } else if is_same(name, b"piece") {
         Word::Piece
     } else if is_same(name, b"stall") {

@@ -1,6 +1,5 @@
 //! Reads a script line by line, with an open exchange.
-ghost use Rattle.std.specs.Prelude.{◌≡◌, ◌≢◌, ◌≤◌, ◌-◌, ◌==◌, ◌∷◌, [], Some, false, not, length, take, drop, codes, OnOk, IfOk};
-ghost use Rattle.std.specs.Str.{bytes_eq};
+ghost use Rattle.std.specs.Prelude.{◌≡◌, ◌≢◌, ◌≤◌, ◌-◌, ◌==◌, ◌∷◌, [], Some, false, not, length, take, drop, OnOk, IfOk};
 ghost use Rattle.std.specs.Bool.{OnTrue};
 ghost use Rattle.std.specs.Option.{option_map};
 ghost use Rattle.std.specs.Result.{is_ok, result_unwrap_or};
@@ -9,8 +8,9 @@ ghost use Rattle.web_cli.specs.declared.script.line.Word.TheVariants.{Text};
 ghost use Rattle.std.specs.Str.Lines.{strip_carriage_return};
 
 use crate::script::entries::read_entries;
-use crate::script::exchange::ScriptedExchange;
+use crate::script::exchange::{ScriptedExchange, read_request};
 use crate::script::line::{Word, split_line, without_return};
+use crate::script::param::read_param;
 use bytes::Bytes;
 use hex::FromHexError;
 use std::alloc::{AllocError, Global};
@@ -52,13 +52,6 @@ impl Model for Reader {
     ghost view = { λ r. record { whole = r.whole.items; open_one = r.open_one; has_fault = r.has_fault; has_plan = r.has_plan; plan = r.plan.items } };
 }
 
-/// The only head that is built so far.
-fn is_built(head: &[u8]) -> bool
-    ensures { result ≡ bytes_eq head.now (codes "POST /bytes") }
-{
-    head == b"POST /bytes".as_slice()
-}
-
 /// The argument of the script's first line, as a part of the script.
 fn part_of(script: &Bytes, line: &[u8], argument: &[u8]) -> Result<Bytes, AllocError>
     requires front { line.now ≡ take (length line.now) script.now }
@@ -69,9 +62,10 @@ fn part_of(script: &Bytes, line: &[u8], argument: &[u8]) -> Result<Bytes, AllocE
 }
 
 impl Reader {
-    ghost use Rattle.web_cli.specs.Kept.{nothing_read, refuses_place, added, with_marks, fresh, close, Reads};
+    ghost use Rattle.web_cli.specs.Kept.{nothing_read, refuses_place, added, with_marks, with_params, fresh, close, Reads};
     ghost use Rattle.web_cli.specs.Faults.{is_unfit};
     ghost use Rattle.web_cli.specs.Line.{line_of};
+    ghost use Rattle.web_cli.specs.Requested.{is_request, is_param, param_said};
     ghost use Rattle.web_request.specs.Body.{whole as one_piece};
 
     pub fn new(alloc: Global) -> Self
@@ -94,6 +88,7 @@ impl Reader {
             Word::Skipped | Word::Plan => false,
             Word::Unknown => true,
             Word::Exchange => self.has_plan,
+            Word::Param => self.has_plan || self.open_one.is_none(),
             Word::Text | Word::Piece | Word::Stall | Word::Fault => {
                 self.has_plan || self.open_one.is_none() || self.has_fault
             }
@@ -132,14 +127,32 @@ impl Reader {
         }
     }
 
-    fn begin(&mut self, alloc: Global) -> Result<(), NoMemory>
-        ensures { OnOk result (self.new ≡ record self.old { whole = close self.old.whole self.old.open_one; open_one = Some fresh; has_fault = false }) }
+    fn add_param(&mut self, alloc: Global, text: &[u8]) -> Result<bool, NoMemory>
+        ensures { IfOk result (λ good. (good ≡ is_param text.now)
+            × OnTrue good (self.new ≡ record self.old { open_one = option_map (with_params (param_said text.now ∷ [])) self.old.open_one })) }
     {
-        if let Some(before) = self.open_one.replace(ScriptedExchange::new(alloc)) {
+        let Some(param) = read_param(alloc, text)? else {
+            return Ok(false);
+        };
+        if let Some(open_one) = &mut self.open_one {
+            open_one.add_param(param)?;
+        }
+        Ok(true)
+    }
+
+    /// Begins the exchange of a head, and closes the one before.
+    fn begin(&mut self, alloc: Global, head: &[u8]) -> Result<bool, NoMemory>
+        ensures { IfOk result (λ good. (good ≡ is_request head.now)
+            × OnTrue good (self.new ≡ record self.old { whole = close self.old.whole self.old.open_one; open_one = Some (fresh head.now); has_fault = false })) }
+    {
+        let Some(exchange) = read_request(alloc, head)? else {
+            return Ok(false);
+        };
+        if let Some(before) = self.open_one.replace(exchange) {
             self.whole.push(before)?;
         }
         self.has_fault = false;
-        Ok(())
+        Ok(true)
     }
 
     /// Takes a line of another word than `text`, if its argument fits.
@@ -148,12 +161,8 @@ impl Reader {
         ensures { IfOk result (λ good. (good ≡ not (is_unfit word argument.now)) × OnTrue good (self.new ≡ added self.old word argument.now)) }
     {
         match word {
-            Word::Exchange => {
-                if !is_built(argument) {
-                    return Ok(false);
-                }
-                self.begin(alloc)?;
-            }
+            Word::Exchange => return self.begin(alloc, argument),
+            Word::Param => return self.add_param(alloc, argument),
             Word::Piece => return self.add_digits(alloc, argument),
             Word::Stall => {
                 if !argument.is_empty() {
