@@ -3,8 +3,16 @@
 
 mod bytes_argument;
 mod from_request;
+mod never;
+mod option;
+mod place;
+mod ready;
+mod unit;
 
 pub use from_request::FromRequest;
+pub use never::Never;
+pub use option::FromRequestOptFuture;
+pub use ready::Ready;
 pub use web_body::{Payload, PayloadError, Poll, Step};
 pub use web_reply::Error;
 pub use web_request::{App, HttpRequest, NoMemory};

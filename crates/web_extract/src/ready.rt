@@ -1,0 +1,52 @@
+//! A value that is there at the first poll.
+ghost use Rattle.std.specs.Prelude.{◌≡◌, ℕ, Some};
+
+use std::alloc::Global;
+use std::marker::Model;
+use web_body::{Poll, Step};
+
+/// A value that is there at the first poll.
+#[derive(Debug, Drop)]
+pub struct Ready<T> {
+    value: Option<T>,
+}
+
+impl<T> Model for Ready<T> {
+    ghost use Rattle.std.specs.Prelude.{Option};
+
+    ghost Value = { Option T };
+
+    ghost view = { λ f. f.value };
+}
+
+impl<T> Ready<T> {
+    pub fn new(value: T) -> Ready<T>
+        ensures { result ≡ Some value }
+    {
+        Ready { value: Some(value) }
+    }
+}
+
+impl<T: Drop> Poll for Ready<T> {
+    ghost use Rattle.std.specs.Prelude.{is_none};
+    ghost use Rattle.web_extract.specs.Ready.{GivesHeld, held_some};
+
+    type Output = T;
+
+    ghost is_finished = { λ f. is_none f };
+
+    ghost gives = { λ f n x. GivesHeld f n x };
+
+    ghost some = { λ f h. held_some f h };
+
+    fn finished(&self) -> bool {
+        self.value.is_none()
+    }
+
+    fn poll(&mut self, _alloc: Global) -> Step<T> {
+        match self.value.take() {
+            Some(value) => Step::Ready(value),
+            None => unreachable!(),
+        }
+    }
+}
