@@ -1,11 +1,52 @@
 -- What the members' futures give carries over to the whole.
-use Rattle.std.proofs.Common.{◌≡◌, ℕ, List}
-use Rattle.std.specs.Prelude.{Option, None, Some, Result}
+use Rattle.std.proofs.Common.{◌≡◌, ℕ, List, suc, subst, inl, inr}
+use Rattle.std.specs.Prelude.{Option, None, Some, Result, Ok, Err}
 use Rattle.web_request.specs.declared.source.Mark.{Mark}
+use Rattle.web_reply.specs.Replies.{Fault}
 use Rattle.web_extract.specs.Extracts.{Extracts}
+use Rattle.web_extract.specs.Joined.{Precedes, One, Joins1, Joins2}
+use Rattle.web_extract.specs.Lists.{Meaning, Means1, Means2}
 use Rattle.web_extract.specs.Optional.{GivesOption}
 
-pub extracts_option : {T E : Type 0} (means : List Mark → List Mark → ℕ → Result T E → Type 0) (gives : ℕ → Result T E → Type 0) (old new : Option (List Mark))
+pub extracts_option : {T E : Type 0} (means : Meaning T E) (gives : ℕ → Result T E → Type 0) (old new : Option (List Mark))
     → Extracts means gives old new → Extracts (λ m rest n x. GivesOption {T = T} {E = E} (means m rest) n x) (GivesOption gives) old new
 extracts_option means gives None new h = tt
 extracts_option means gives (Some m) new h = (h.0, h.1, λ n x g. (g.0, h.2 n g.0 g.1, g.2))
+
+-- one relation allows no more than another
+abbrev pub Within : {T E : Type 0} → (ℕ → Result T E → Type 0) → (ℕ → Result T E → Type 0) → Type 0
+Within {T} {E} g k = (n : ℕ) (x : Result T E) → g n x → k n x
+
+precedes_within : {T E : Type 0} (g k : ℕ → Result T E → Type 0) → Within g k → (n : ℕ) → Precedes k n → Precedes g n
+precedes_within g k f n p m x h = p m x (f m x h)
+
+pub joins1_within : {A E : Type 0} (c : E → Fault → Type 0) (g k : ℕ → Result A E → Type 0) → Within g k → Within (Joins1 c g) (Joins1 c k)
+joins1_within c g k f n (Ok v) h = f n (Ok v.0) h
+joins1_within c g k f n (Err x) h = (h.0, f n (Err h.0) h.1, h.2)
+
+pub joins2_within : {A B E F : Type 0} (c1 : E → Fault → Type 0) (c2 : F → Fault → Type 0)
+    (g1 k1 : ℕ → Result A E → Type 0) (g2 k2 : ℕ → Result B F → Type 0)
+    → Within g1 k1 → Within g2 k2 → Within (Joins2 c1 c2 g1 g2) (Joins2 c1 c2 k1 k2)
+joins2_within c1 c2 g1 k1 g2 k2 f1 f2 n (Ok v) h = (h.0, h.1, f1 h.0 (Ok v.0) h.2, f2 h.1 (Ok v.1) h.3, h.4)
+joins2_within c1 c2 g1 k1 g2 k2 f1 f2 n (Err x) (inl h) = inl (h.0, f1 n (Err h.0) h.1, h.2, λ p. h.3 (precedes_within g2 k2 f2 n p))
+joins2_within c1 c2 g1 k1 g2 k2 f1 f2 n (Err x) (inr h) = inr (h.0, f2 n (Err h.0) h.1, h.2, λ p. h.3 (precedes_within g1 k1 f1 (suc n) p))
+
+-- the next place begins with the marks that the place before left
+pub next_extracts : {T E : Type 0} (means : Meaning T E) (gives : ℕ → Result T E → Type 0) (old new : Option (List Mark)) (m : List Mark)
+    → old ≡ Some m → Extracts means gives old new → Extracts means gives (Some m) new
+next_extracts means gives old new m e h = subst (λ (o : Option (List Mark)). Extracts means gives o new) e h
+
+pub extracts1 : {A E : Type 0} (c : E → Fault → Type 0) (means1 : Meaning A E) (g1 : ℕ → Result A E → Type 0) (old new : Option (List Mark))
+    → Extracts means1 g1 old new → Extracts (λ m rest n x. Means1 c means1 m rest n x) (λ n x. Joins1 c g1 n x) old new
+extracts1 c means1 g1 None new h = tt
+extracts1 c means1 g1 (Some m) new h = (h.0, h.1, joins1_within c g1 (means1 m h.0) h.2)
+
+pub extracts2 : {A B E F : Type 0} (c1 : E → Fault → Type 0) (c2 : F → Fault → Type 0)
+    (means1 : Meaning A E) (means2 : Meaning B F)
+    (g1 : ℕ → Result A E → Type 0) (g2 : ℕ → Result B F → Type 0) (old mid new : Option (List Mark))
+    → Extracts means1 g1 old mid → Extracts means2 g2 mid new
+    → Extracts (λ m rest n x. Means2 c1 c2 means1 means2 m rest n x) (λ n x. Joins2 c1 c2 g1 g2 n x) old new
+extracts2 c1 c2 means1 means2 g1 g2 None mid new h k = tt
+extracts2 c1 c2 means1 means2 g1 g2 (Some m) mid new h k =
+    let j = next_extracts means2 g2 mid new h.0 h.1 k in
+    (j.0, j.1, λ n x d. (h.0, joins2_within c1 c2 g1 (means1 m h.0) g2 (means2 h.0 j.0) h.2 j.2 n x d))

@@ -1,3 +1,4 @@
+pub mod Allowed
 pub mod Collected
 pub mod Extracts
 pub mod Joined

@@ -7,12 +7,16 @@ mod never;
 mod option;
 mod place;
 mod ready;
+mod tuple_one;
+mod tuple_two;
 mod unit;
 
 pub use from_request::FromRequest;
 pub use never::Never;
 pub use option::FromRequestOptFuture;
 pub use ready::Ready;
+pub use tuple_one::TupleFromRequest1;
+pub use tuple_two::TupleFromRequest2;
 pub use web_body::{Payload, PayloadError, Poll, Step};
 pub use web_reply::Error;
 pub use web_request::{App, HttpRequest, NoMemory};

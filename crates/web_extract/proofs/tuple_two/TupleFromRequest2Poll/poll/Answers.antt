@@ -1,0 +1,39 @@
+use Rattle.std.proofs.Common.{◌≡◌, ℕ, false, true, sym, ◌∙◌, refl, inl, inr}
+use Rattle.web_extract.specs.Allowed.{or_first, or_second}
+use Rattle.web_extract.specs.Place.{place_some}
+use Rattle.web_extract.proofs.Joining.{not_first, not_refused, moved, came, shifts, and_false}
+use Rattle.web_extract.proofs.tuple_two.TupleFromRequest2Poll.poll.Goals as goal
+
+pub returns-in-Err-Refused-clause-value : goal.returns-in-Err-Refused-clause-value
+returns-in-Err-Refused-clause-value g c =
+    let h = rw c.in-Err-Refused.field-0-is at c.in-Err-Refused.ensures.advances in
+    inl (
+      c.in-Err-Refused.e,
+      h.1,
+      rw c.in-Err-Refused.e-is at c.into.ensures,
+      not_first _ (place_some g.B.Future.Poll.is_finished g.B.Future.Poll.gives g.met.B.Future.Poll.some _ (or_second _ _ c.requires.unfinished)),
+    )
+
+pub returns-in-Err-Refused-advance-clause-value : goal.returns-in-Err-Refused-advance-clause-value
+returns-in-Err-Refused-advance-clause-value g c =
+    let h = rw c.in-Err-Refused-advance.field-0-is at c.in-Err-Refused-advance.ensures.advances in
+    inr (
+      c.in-Err-Refused-advance.e,
+      h.1,
+      c.into-in-Err-Refused-advance.ensures,
+      not_refused g.A.Future.Poll.is_finished g.A.Future.Poll.gives g.met.A.Future.Poll.some c.in-Ok.has _ _ c.in-Ok.ensures.advances.0 c.in-Ok.ensures.advances.1,
+    )
+
+pub returns-then-not-has_second-clause-shift : goal.returns-then-not-has_second-clause-shift
+returns-then-not-has_second-clause-shift g c =
+    shifts _ _ _ _ _ _ c.in-Ok.has c.in-Ok-advance.has
+    (moved g.A.Future.Poll.gives c.in-Ok.has _ _ c.in-Ok.ensures.advances.1)
+    (moved g.B.Future.Poll.gives c.in-Ok-advance.has _ _ c.in-Ok-advance.ensures.advances.1)
+    (and_false _ _ c.if-not-has_second.either)
+
+pub returns-clause-value : goal.returns-clause-value
+returns-clause-value g c =
+    ( 0, 0,
+      came g.A.Future.Poll.gives _ c.advance.new.self c.in-Done-Done.a (rw c.if-not-has_second.false.0 at c.in-Ok.ensures.advances.1) (sym c.replace-first.ensures.value ∙ c.in-Done-Done.is-0),
+      came g.B.Future.Poll.gives _ c.advance-2.new.self c.in-Done-Done.b (rw c.if-not-has_second.false.1 at c.in-Ok-advance.ensures.advances.1) (sym c.replace-second.ensures.value ∙ c.in-Done-Done.is-1),
+      refl )

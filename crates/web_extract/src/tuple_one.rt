@@ -1,0 +1,77 @@
+//! One argument.
+ghost use Rattle.std.specs.Prelude.{◌≡◌};
+ghost use Rattle.web_extract.specs.Place.{place_finished, place_gives, place_some};
+
+use crate::from_request::FromRequest;
+use crate::place::{Place, Stop};
+use std::alloc::Global;
+use std::mem;
+use web_body::{Payload, Poll, Step};
+use web_reply::Error;
+use web_request::{App, HttpRequest, NoMemory};
+
+/// The future of one argument.
+#[derive(Drop)]
+pub struct TupleFromRequest1<P: App, A: FromRequest<P>> {
+    first: Place<A::Future, A>,
+}
+
+impl<P: App, A: FromRequest<P>> Poll for TupleFromRequest1<P, A> {
+    ghost use Rattle.web_extract.specs.Joined.{Joins1};
+    ghost use Rattle.web_extract.specs.Allowed.{joins1_some};
+
+    type Output = Result<(A,), Error>;
+
+    ghost is_finished = { λ f. place_finished A.Future.is_finished f.first };
+
+    ghost gives = { λ f n x. Joins1 A.Error.converts (place_gives A.Future.gives f.first) n x };
+
+    ghost some = { λ f h. joins1_some A.Error.converts A.converted (place_gives A.Future.gives f.first)
+        (place_some A.Future.is_finished A.Future.gives A.Future.some f.first h) };
+
+    fn finished(&self) -> bool {
+        self.first.finished()
+    }
+
+    fn poll(&mut self, alloc: Global) -> Step<Result<(A,), Error>> {
+        let has_first = match self.first.advance(alloc) {
+            Ok(has) => has,
+            Err(Stop::Refused(e)) => return Step::Ready(Err(e.into())),
+            Err(Stop::NoRoom) => return Step::NoMemory,
+        };
+        if !has_first {
+            return Step::Pending;
+        }
+        match mem::replace(&mut self.first, Place::Taken) {
+            Place::Done(a) => Step::Ready(Ok((a,))),
+            _ => unreachable!(),
+        }
+    }
+}
+
+/// The argument alone. It gets the payload as it is.
+impl<P: App, A: FromRequest<P>> FromRequest<P> for (A,) {
+    ghost use Rattle.web_extract.specs.Lists.{Means1};
+    ghost use Rattle.web_extract.specs.Allowed.{means1_some, itself};
+
+    type Error = Error;
+
+    type Future = TupleFromRequest1<P, A>;
+
+    ghost means = { λ q m rest n x. Means1 A.Error.converts (A.means q) m rest n x };
+
+    ghost some = { λ q m. means1_some A.Error.converts A.converted (A.means q) (A.some q) m };
+
+    ghost converted = { itself };
+
+    fn from_request(
+        alloc: Global,
+        req: &HttpRequest<P>,
+        payload: &mut Payload<P::Source>,
+    ) -> Result<TupleFromRequest1<P, A>, NoMemory> {
+        let first = A::from_request(alloc, req, payload)?;
+        Ok(TupleFromRequest1 {
+            first: Place::Waiting(first),
+        })
+    }
+}
