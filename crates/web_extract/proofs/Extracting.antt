@@ -4,8 +4,8 @@ use Rattle.std.specs.Prelude.{Option, None, Some, Result, Ok, Err}
 use Rattle.web_request.specs.declared.source.Mark.{Mark}
 use Rattle.web_reply.specs.Replies.{Fault}
 use Rattle.web_extract.specs.Extracts.{Extracts}
-use Rattle.web_extract.specs.Joined.{Precedes, One, Joins1, Joins2}
-use Rattle.web_extract.specs.Lists.{Meaning, Means1, Means2}
+use Rattle.web_extract.specs.Joined.{Itself, Precedes, Joins1, Joins2, Joins3, Joins4, nested3, nested4}
+use Rattle.web_extract.specs.Lists.{Meaning, Means1, Means2, Means3, Means4}
 use Rattle.web_extract.specs.Optional.{GivesOption}
 
 pub extracts_option : {T E : Type 0} (means : Meaning T E) (gives : ℕ → Result T E → Type 0) (old new : Option (List Mark))
@@ -50,3 +50,35 @@ extracts2 c1 c2 means1 means2 g1 g2 None mid new h k = tt
 extracts2 c1 c2 means1 means2 g1 g2 (Some m) mid new h k =
     let j = next_extracts means2 g2 mid new h.0 h.1 k in
     (j.0, j.1, λ n x d. (h.0, joins2_within c1 c2 g1 (means1 m h.0) g2 (means2 h.0 j.0) h.2 j.2 n x d))
+
+pub extracts3 : {A B C E F G : Type 0} (c1 : E → Fault → Type 0) (c2 : F → Fault → Type 0) (c3 : G → Fault → Type 0)
+    (means1 : Meaning A E) (means2 : Meaning B F) (means3 : Meaning C G)
+    (g1 : ℕ → Result A E → Type 0) (g2 : ℕ → Result B F → Type 0) (g3 : ℕ → Result C G → Type 0) (old mid1 mid2 new : Option (List Mark))
+    → Extracts means1 g1 old mid1 → Extracts means2 g2 mid1 mid2 → Extracts means3 g3 mid2 new
+    → Extracts (λ m rest n x. Means3 c1 c2 c3 means1 means2 means3 m rest n x) (λ n x. Joins3 c1 c2 c3 g1 g2 g3 n x) old new
+extracts3 c1 c2 c3 means1 means2 means3 g1 g2 g3 None mid1 mid2 new h1 h2 h3 = tt
+extracts3 c1 c2 c3 means1 means2 means3 g1 g2 g3 (Some m) mid1 mid2 new h1 h2 h3 =
+    let j2 = next_extracts means2 g2 mid1 mid2 h1.0 h1.1 h2 in
+    let j3 = next_extracts means3 g3 mid2 new j2.0 j2.1 h3 in
+    let rest = joins2_within c2 c3 g2 (means2 h1.0 j2.0) g3 (means3 j2.0 j3.0) j2.2 j3.2 in
+    let all = joins2_within c1 Itself g1 (means1 m h1.0) (Joins2 c2 c3 g2 g3) (Joins2 c2 c3 (means2 h1.0 j2.0) (means3 j2.0 j3.0)) h1.2 rest in
+    (j3.0, j3.1, λ n x d. (h1.0, j2.0, all n (nested3 x) d))
+
+pub extracts4 : {A B C D E F G H : Type 0} (c1 : E → Fault → Type 0) (c2 : F → Fault → Type 0) (c3 : G → Fault → Type 0) (c4 : H → Fault → Type 0)
+    (means1 : Meaning A E) (means2 : Meaning B F) (means3 : Meaning C G) (means4 : Meaning D H)
+    (g1 : ℕ → Result A E → Type 0) (g2 : ℕ → Result B F → Type 0) (g3 : ℕ → Result C G → Type 0) (g4 : ℕ → Result D H → Type 0)
+    (old mid1 mid2 mid3 new : Option (List Mark))
+    → Extracts means1 g1 old mid1 → Extracts means2 g2 mid1 mid2 → Extracts means3 g3 mid2 mid3 → Extracts means4 g4 mid3 new
+    → Extracts (λ m rest n x. Means4 c1 c2 c3 c4 means1 means2 means3 means4 m rest n x) (λ n x. Joins4 c1 c2 c3 c4 g1 g2 g3 g4 n x) old new
+extracts4 c1 c2 c3 c4 means1 means2 means3 means4 g1 g2 g3 g4 None mid1 mid2 mid3 new h1 h2 h3 h4 = tt
+extracts4 c1 c2 c3 c4 means1 means2 means3 means4 g1 g2 g3 g4 (Some m) mid1 mid2 mid3 new h1 h2 h3 h4 =
+    let j2 = next_extracts means2 g2 mid1 mid2 h1.0 h1.1 h2 in
+    let j3 = next_extracts means3 g3 mid2 mid3 j2.0 j2.1 h3 in
+    let j4 = next_extracts means4 g4 mid3 new j3.0 j3.1 h4 in
+    let m2 = means2 h1.0 j2.0 in
+    let m3 = means3 j2.0 j3.0 in
+    let m4 = means4 j3.0 j4.0 in
+    let last = joins2_within c3 c4 g3 m3 g4 m4 j3.2 j4.2 in
+    let rest = joins2_within c2 Itself g2 m2 (Joins2 c3 c4 g3 g4) (Joins2 c3 c4 m3 m4) j2.2 last in
+    let all = joins2_within c1 Itself g1 (means1 m h1.0) (Joins2 c2 Itself g2 (Joins2 c3 c4 g3 g4)) (Joins2 c2 Itself m2 (Joins2 c3 c4 m3 m4)) h1.2 rest in
+    (j4.0, j4.1, λ n x d. (h1.0, j2.0, j3.0, all n (nested4 x) d))

@@ -6,7 +6,7 @@ use Rattle.web_reply.specs.Replies.{Fault}
 use Rattle.web_extract.specs.declared.place.Place.{Place}
 use Rattle.web_extract.specs.declared.place.Place.TheVariants.{Waiting, Done, Taken}
 use Rattle.web_extract.specs.Place.{place_finished, place_gives, place_some, Went}
-use Rattle.web_extract.specs.Joined.{RefusedBefore, Precedes, Joins2}
+use Rattle.web_extract.specs.Joined.{Itself, RefusedBefore, Precedes, Joins2, Joins3, Joins4, nested3, nested4}
 
 -- where the value is there, it came at this poll or before and comes at the next; else all comes one poll later
 abbrev pub Moved : {T E : Type 0} → Bool → (ℕ → Result T E → Type 0) → (ℕ → Result T E → Type 0) → Type 0
@@ -96,7 +96,49 @@ module _ {A B E F : Type 0} (c1 : E → Fault → Type 0) (c2 : F → Fault → 
   both_moved false true w1 w2 = shifts false true w1 w2 refl
   both_moved false false w1 w2 = shifts false false w1 w2 refl
 
+module _ {A B C E F G : Type 0} (c1 : E → Fault → Type 0) (c2 : F → Fault → Type 0) (c3 : G → Fault → Type 0)
+    (old1 new1 : ℕ → Result A E → Type 0) (old2 new2 : ℕ → Result B F → Type 0) (old3 new3 : ℕ → Result C G → Type 0) where
+  pub shifts3 : (b1 b2 b3 : Bool) → Moved b1 old1 new1 → Moved b2 old2 new2 → Moved b3 old3 new3 → (b1 && (b2 && b3)) ≡ false
+      → (n : ℕ) (x : Result (A × B × C) Fault) → Joins3 c1 c2 c3 new1 new2 new3 n x → Joins3 c1 c2 c3 old1 old2 old3 (suc n) x
+  shifts3 b1 b2 b3 w1 w2 w3 e n x =
+      shifts c1 Itself old1 new1 (Joins2 c2 c3 old2 old3) (Joins2 c2 c3 new2 new3)
+      b1 (b2 && b3) w1 (both_moved c2 c3 old2 new2 old3 new3 b2 b3 w2 w3) e n (nested3 x)
+
+module _ {A B C D E F G H : Type 0} (c1 : E → Fault → Type 0) (c2 : F → Fault → Type 0) (c3 : G → Fault → Type 0) (c4 : H → Fault → Type 0)
+    (old1 new1 : ℕ → Result A E → Type 0) (old2 new2 : ℕ → Result B F → Type 0) (old3 new3 : ℕ → Result C G → Type 0) (old4 new4 : ℕ → Result D H → Type 0) where
+  pub shifts4 : (b1 b2 b3 b4 : Bool) → Moved b1 old1 new1 → Moved b2 old2 new2 → Moved b3 old3 new3 → Moved b4 old4 new4 → (b1 && (b2 && (b3 && b4))) ≡ false
+      → (n : ℕ) (x : Result (A × B × C × D) Fault) → Joins4 c1 c2 c3 c4 new1 new2 new3 new4 n x → Joins4 c1 c2 c3 c4 old1 old2 old3 old4 (suc n) x
+  shifts4 b1 b2 b3 b4 w1 w2 w3 w4 e n x =
+      shifts c1 Itself old1 new1 (Joins2 c2 Itself old2 (Joins2 c3 c4 old3 old4)) (Joins2 c2 Itself new2 (Joins2 c3 c4 new3 new4))
+      b1 (b2 && (b3 && b4)) w1
+      (both_moved c2 Itself old2 new2 (Joins2 c3 c4 old3 old4) (Joins2 c3 c4 new3 new4) b2 (b3 && b4) w2 (both_moved c3 c4 old3 new3 old4 new4 b3 b4 w3 w4))
+      e n (nested4 x)
+
 pub and_false : (a b : Bool) → ((a ≡ true) × (b ≡ false)) ⊎ (a ≡ false) → (a && b) ≡ false
 and_false true b (inl h) = h.1
 and_false true b (inr h) = absurd cc
 and_false false b h = refl
+
+pub and_three : (a b c : Bool) → ((a && b) && c) ≡ false → (a && (b && c)) ≡ false
+and_three true true c h = h
+and_three true false c h = refl
+and_three false b c h = refl
+
+pub and_four : (a b c d : Bool) → (((a && b) && c) && d) ≡ false → (a && (b && (c && d))) ≡ false
+and_four true true true d h = h
+and_four true true false d h = refl
+and_four true false c d h = refl
+and_four false b c d h = refl
+
+pub all_three : (a b c : Bool) → ((a && b) && c) ≡ true → (a ≡ true) × (b ≡ true) × (c ≡ true)
+all_three true true true h = (refl, refl, refl)
+all_three true true false h = absurd cc
+all_three true false c h = absurd cc
+all_three false b c h = absurd cc
+
+pub all_four : (a b c d : Bool) → (((a && b) && c) && d) ≡ true → (a ≡ true) × (b ≡ true) × (c ≡ true) × (d ≡ true)
+all_four true true true true h = (refl, refl, refl, refl)
+all_four true true true false h = absurd cc
+all_four true true false d h = absurd cc
+all_four true false c d h = absurd cc
+all_four false b c d h = absurd cc

@@ -62,15 +62,16 @@ module _ {A B C E F G : Type 0} (c1 : E → Fault → Type 0) (c2 : F → Fault 
 module _ {A B C D E F G H : Type 0} (c1 : E → Fault → Type 0) (c2 : F → Fault → Type 0) (c3 : G → Fault → Type 0) (c4 : H → Fault → Type 0)
     (t1 : Converted c1) (t2 : Converted c2) (t3 : Converted c3) (t4 : Converted c4)
     (g1 : ℕ → Result A E → Type 0) (g2 : ℕ → Result B F → Type 0) (g3 : ℕ → Result C G → Type 0) (g4 : ℕ → Result D H → Type 0) where
-  as_four : (n : ℕ) (x : Result (A × (B × C × D)) Fault) → Joins2 c1 Itself g1 (Joins3 c2 c3 c4 g2 g3 g4) n x → Answer (Joins4 c1 c2 c3 c4 g1 g2 g3 g4)
-  as_four n (Ok v) h = (n, Ok (v.0, v.1.0, v.1.1, v.1.2), h)
+  as_four : (n : ℕ) (x : Result (A × (B × (C × D))) Fault) → Joins2 c1 Itself g1 (Joins2 c2 Itself g2 (Joins2 c3 c4 g3 g4)) n x → Answer (Joins4 c1 c2 c3 c4 g1 g2 g3 g4)
+  as_four n (Ok v) h = (n, Ok (v.0, v.1.0, v.1.1.0, v.1.1.1), h)
   as_four n (Err x) h = (n, Err x, h)
 
   join4 : (n1 : ℕ) (x1 : Result A E) (n2 : ℕ) (x2 : Result B F) (n3 : ℕ) (x3 : Result C G) (n4 : ℕ) (x4 : Result D H)
       → g1 n1 x1 → g2 n2 x2 → g3 n3 x3 → g4 n4 x4 → Answer (Joins4 c1 c2 c3 c4 g1 g2 g3 g4)
   join4 n1 x1 n2 x2 n3 x3 n4 x4 h1 h2 h3 h4 =
-      let j = join3 c2 c3 c4 t2 t3 t4 g2 g3 g4 n2 x2 n3 x3 n4 x4 h2 h3 h4 in
-      let k = join2 c1 Itself t1 itself g1 (Joins3 c2 c3 c4 g2 g3 g4) n1 x1 j.0 j.1 h1 j.2 in
+      let i = join2 c3 c4 t3 t4 g3 g4 n3 x3 n4 x4 h3 h4 in
+      let j = join2 c2 Itself t2 itself g2 (Joins2 c3 c4 g3 g4) n2 x2 i.0 i.1 h2 i.2 in
+      let k = join2 c1 Itself t1 itself g1 (Joins2 c2 Itself g2 (Joins2 c3 c4 g3 g4)) n1 x1 j.0 j.1 h1 j.2 in
       as_four k.0 k.1 k.2
 
   pub joins4_some : GivesSome g1 → GivesSome g2 → GivesSome g3 → GivesSome g4 → GivesSome (Joins4 c1 c2 c3 c4 g1 g2 g3 g4)

@@ -30,22 +30,21 @@ Joins2 c1 c2 g1 g2 n (Ok v) = (n1 n2 : ℕ) × g1 n1 (Ok v.0) × g2 n2 (Ok v.1) 
 Joins2 {A} {B} {E} {F} c1 c2 g1 g2 n (Err x) =
     ((e : E) × g1 n (Err e) × c1 e x × (Precedes g2 n → ⊥)) ⊎ ((e : F) × g2 n (Err e) × c2 e x × (Precedes g1 (suc n) → ⊥))
 
--- three values as the first and the two others
-abbrev pub first_of_three : {A B C : Type 0} → Result (A × B × C) Fault → Result (A × (B × C)) Fault
-first_of_three (Ok v) = Ok (v.0, (v.1, v.2))
-first_of_three (Err x) = Err x
+-- a list of three or four values as nested pairs
+abbrev pub nested3 : {A B C : Type 0} → Result (A × B × C) Fault → Result (A × (B × C)) Fault
+nested3 (Ok v) = Ok (v.0, (v.1, v.2))
+nested3 (Err x) = Err x
 
--- four values as the first and the three others
-abbrev pub first_of_four : {A B C D : Type 0} → Result (A × B × C × D) Fault → Result (A × (B × C × D)) Fault
-first_of_four (Ok v) = Ok (v.0, (v.1, v.2, v.3))
-first_of_four (Err x) = Err x
+abbrev pub nested4 : {A B C D : Type 0} → Result (A × B × C × D) Fault → Result (A × (B × (C × D))) Fault
+nested4 (Ok v) = Ok (v.0, (v.1, (v.2, v.3)))
+nested4 (Err x) = Err x
 
 -- three places: the first, and the two others together
 abbrev pub Joins3 : {A B C E F G : Type 0} → (E → Fault → Type 0) → (F → Fault → Type 0) → (G → Fault → Type 0)
     → (ℕ → Result A E → Type 0) → (ℕ → Result B F → Type 0) → (ℕ → Result C G → Type 0) → ℕ → Result (A × B × C) Fault → Type 0
-Joins3 c1 c2 c3 g1 g2 g3 n x = Joins2 c1 Itself g1 (Joins2 c2 c3 g2 g3) n (first_of_three x)
+Joins3 c1 c2 c3 g1 g2 g3 n x = Joins2 c1 Itself g1 (Joins2 c2 c3 g2 g3) n (nested3 x)
 
 -- four places: the first, and the three others together
 abbrev pub Joins4 : {A B C D E F G H : Type 0} → (E → Fault → Type 0) → (F → Fault → Type 0) → (G → Fault → Type 0) → (H → Fault → Type 0)
     → (ℕ → Result A E → Type 0) → (ℕ → Result B F → Type 0) → (ℕ → Result C G → Type 0) → (ℕ → Result D H → Type 0) → ℕ → Result (A × B × C × D) Fault → Type 0
-Joins4 c1 c2 c3 c4 g1 g2 g3 g4 n x = Joins2 c1 Itself g1 (Joins3 c2 c3 c4 g2 g3 g4) n (first_of_four x)
+Joins4 c1 c2 c3 c4 g1 g2 g3 g4 n x = Joins2 c1 Itself g1 (Joins2 c2 Itself g2 (Joins2 c3 c4 g3 g4)) n (nested4 x)

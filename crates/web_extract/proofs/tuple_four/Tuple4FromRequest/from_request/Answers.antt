@@ -1,0 +1,5 @@
+use Rattle.web_extract.proofs.Extracting.{extracts4}
+use Rattle.web_extract.proofs.tuple_four.Tuple4FromRequest.from_request.Goals as goal
+
+pub returns-clause-extracts : goal.returns-clause-extracts
+returns-clause-extracts g c = extracts4 _ _ _ _ _ _ _ _ _ _ _ _ _ _ _ _ _ c.in_ok-first.ensures.extracts c.in_ok-second.ensures.extracts c.in_ok-third.ensures.extracts c.in_ok-fourth.ensures.extracts

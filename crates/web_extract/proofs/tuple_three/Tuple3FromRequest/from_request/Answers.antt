@@ -1,0 +1,5 @@
+use Rattle.web_extract.proofs.Extracting.{extracts3}
+use Rattle.web_extract.proofs.tuple_three.Tuple3FromRequest.from_request.Goals as goal
+
+pub returns-clause-extracts : goal.returns-clause-extracts
+returns-clause-extracts g c = extracts3 _ _ _ _ _ _ _ _ _ _ _ _ _ c.in_ok-first.ensures.extracts c.in_ok-second.ensures.extracts c.in_ok-third.ensures.extracts

@@ -1,0 +1,111 @@
+//! Four arguments.
+ghost use Rattle.std.specs.Prelude.{◌≡◌, ◌||◌};
+ghost use Rattle.web_extract.specs.Place.{place_finished, place_gives, place_some};
+
+use crate::from_request::FromRequest;
+use crate::place::{Place, Stop};
+use std::alloc::Global;
+use std::mem;
+use web_body::{Payload, Poll, Step};
+use web_reply::Error;
+use web_request::{App, HttpRequest, NoMemory};
+
+/// The future of four arguments. At each poll it polls those that are not there yet, in order.
+#[derive(Drop)]
+pub struct TupleFromRequest4<P: App, A: FromRequest<P>, B: FromRequest<P>, C: FromRequest<P>, D: FromRequest<P>> {
+    first: Place<A::Future, A>,
+    second: Place<B::Future, B>,
+    third: Place<C::Future, C>,
+    fourth: Place<D::Future, D>,
+}
+
+impl<P: App, A: FromRequest<P>, B: FromRequest<P>, C: FromRequest<P>, D: FromRequest<P>> Poll for TupleFromRequest4<P, A, B, C, D> {
+    ghost use Rattle.web_extract.specs.Joined.{Joins4};
+    ghost use Rattle.web_extract.specs.Allowed.{joins4_some, or_first, or_second};
+
+    type Output = Result<(A, B, C, D), Error>;
+
+    ghost is_finished = { λ f. ((place_finished A.Future.is_finished f.first || place_finished B.Future.is_finished f.second) || place_finished C.Future.is_finished f.third) || place_finished D.Future.is_finished f.fourth };
+
+    ghost gives = { λ f n x. Joins4 A.Error.converts B.Error.converts C.Error.converts D.Error.converts
+        (place_gives A.Future.gives f.first) (place_gives B.Future.gives f.second) (place_gives C.Future.gives f.third) (place_gives D.Future.gives f.fourth) n x };
+
+    ghost some = { λ f h. joins4_some A.Error.converts B.Error.converts C.Error.converts D.Error.converts A.converted B.converted C.converted D.converted
+        (place_gives A.Future.gives f.first) (place_gives B.Future.gives f.second) (place_gives C.Future.gives f.third) (place_gives D.Future.gives f.fourth)
+        (place_some A.Future.is_finished A.Future.gives A.Future.some f.first (or_first _ _ (or_first _ _ (or_first _ _ h))))
+        (place_some B.Future.is_finished B.Future.gives B.Future.some f.second (or_second _ _ (or_first _ _ (or_first _ _ h))))
+        (place_some C.Future.is_finished C.Future.gives C.Future.some f.third (or_second _ _ (or_first _ _ h)))
+        (place_some D.Future.is_finished D.Future.gives D.Future.some f.fourth (or_second _ _ h)) };
+
+    fn finished(&self) -> bool {
+        self.first.finished() || self.second.finished() || self.third.finished() || self.fourth.finished()
+    }
+
+    fn poll(&mut self, alloc: Global) -> Step<Result<(A, B, C, D), Error>> {
+        let has_first = match self.first.advance(alloc) {
+            Ok(has) => has,
+            Err(Stop::Refused(e)) => return Step::Ready(Err(e.into())),
+            Err(Stop::NoRoom) => return Step::NoMemory,
+        };
+        let has_second = match self.second.advance(alloc) {
+            Ok(has) => has,
+            Err(Stop::Refused(e)) => return Step::Ready(Err(e.into())),
+            Err(Stop::NoRoom) => return Step::NoMemory,
+        };
+        let has_third = match self.third.advance(alloc) {
+            Ok(has) => has,
+            Err(Stop::Refused(e)) => return Step::Ready(Err(e.into())),
+            Err(Stop::NoRoom) => return Step::NoMemory,
+        };
+        let has_fourth = match self.fourth.advance(alloc) {
+            Ok(has) => has,
+            Err(Stop::Refused(e)) => return Step::Ready(Err(e.into())),
+            Err(Stop::NoRoom) => return Step::NoMemory,
+        };
+        if !(has_first & has_second & has_third & has_fourth) {
+            return Step::Pending;
+        }
+        let first = mem::replace(&mut self.first, Place::Taken);
+        let second = mem::replace(&mut self.second, Place::Taken);
+        let third = mem::replace(&mut self.third, Place::Taken);
+        let fourth = mem::replace(&mut self.fourth, Place::Taken);
+        match (first, second, third, fourth) {
+            (Place::Done(a), Place::Done(b), Place::Done(c), Place::Done(d)) => Step::Ready(Ok((a, b, c, d))),
+            _ => unreachable!(),
+        }
+    }
+}
+
+/// All four arguments. Each gets the payload as the one before left it.
+impl<P: App, A: FromRequest<P>, B: FromRequest<P>, C: FromRequest<P>, D: FromRequest<P>> FromRequest<P> for (A, B, C, D) {
+    ghost use Rattle.web_extract.specs.Lists.{Means4};
+    ghost use Rattle.web_extract.specs.Allowed.{means4_some, itself};
+
+    type Error = Error;
+
+    type Future = TupleFromRequest4<P, A, B, C, D>;
+
+    ghost means = { λ q m rest n x. Means4 A.Error.converts B.Error.converts C.Error.converts D.Error.converts (A.means q) (B.means q) (C.means q) (D.means q) m rest n x };
+
+    ghost some = { λ q m. means4_some A.Error.converts B.Error.converts C.Error.converts D.Error.converts A.converted B.converted C.converted D.converted
+        (A.means q) (B.means q) (C.means q) (D.means q) (A.some q) (B.some q) (C.some q) (D.some q) m };
+
+    ghost converted = { itself };
+
+    fn from_request(
+        alloc: Global,
+        req: &HttpRequest<P>,
+        payload: &mut Payload<P::Source>,
+    ) -> Result<TupleFromRequest4<P, A, B, C, D>, NoMemory> {
+        let first = A::from_request(alloc, req, payload)?;
+        let second = B::from_request(alloc, req, payload)?;
+        let third = C::from_request(alloc, req, payload)?;
+        let fourth = D::from_request(alloc, req, payload)?;
+        Ok(TupleFromRequest4 {
+            first: Place::Waiting(first),
+            second: Place::Waiting(second),
+            third: Place::Waiting(third),
+            fourth: Place::Waiting(fourth),
+        })
+    }
+}
