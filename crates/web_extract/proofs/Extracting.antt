@@ -7,11 +7,17 @@ use Rattle.web_extract.specs.Extracts.{Extracts}
 use Rattle.web_extract.specs.Joined.{Itself, Precedes, Joins1, Joins2, Joins3, Joins4, nested3, nested4}
 use Rattle.web_extract.specs.Lists.{Meaning, Means1, Means2, Means3, Means4}
 use Rattle.web_extract.specs.Optional.{GivesOption}
+use Rattle.web_extract.specs.Fallible.{GivesResult}
 
 pub extracts_option : {T E : Type 0} (means : Meaning T E) (gives : ℕ → Result T E → Type 0) (old new : Option (List Mark))
     → Extracts means gives old new → Extracts (λ m rest n x. GivesOption {T = T} {E = E} (means m rest) n x) (GivesOption gives) old new
 extracts_option means gives None new h = tt
 extracts_option means gives (Some m) new h = (h.0, h.1, λ n x g. (g.0, h.2 n g.0 g.1, g.2))
+
+pub extracts_result : {T E F : Type 0} (c : E → F → Type 0) (means : Meaning T E) (gives : ℕ → Result T E → Type 0) (old new : Option (List Mark))
+    → Extracts means gives old new → Extracts (λ m rest n x. GivesResult c (means m rest) n x) (λ n x. GivesResult c gives n x) old new
+extracts_result c means gives None new h = tt
+extracts_result c means gives (Some m) new h = (h.0, h.1, λ n x g. (g.0, h.2 n g.0 g.1, g.2))
 
 -- one relation allows no more than another
 abbrev pub Within : {T E : Type 0} → (ℕ → Result T E → Type 0) → (ℕ → Result T E → Type 0) → Type 0

@@ -1,6 +1,7 @@
 pub mod Allowed
 pub mod Collected
 pub mod Extracts
+pub mod Fallible
 pub mod Joined
 pub mod Lists
 pub mod Never

@@ -3,10 +3,12 @@
 
 mod bytes_argument;
 mod from_request;
+mod into_some;
 mod never;
 mod option;
 mod place;
 mod ready;
+mod result;
 mod tuple_four;
 mod tuple_one;
 mod tuple_three;
@@ -14,9 +16,11 @@ mod tuple_two;
 mod unit;
 
 pub use from_request::FromRequest;
+pub use into_some::IntoSome;
 pub use never::Never;
 pub use option::FromRequestOptFuture;
 pub use ready::Ready;
+pub use result::FromRequestResFuture;
 pub use tuple_four::TupleFromRequest4;
 pub use tuple_one::TupleFromRequest1;
 pub use tuple_three::TupleFromRequest3;

@@ -1,0 +1,5 @@
+use Rattle.web_extract.proofs.Extracting.{extracts_result}
+use Rattle.web_extract.proofs.result.ResultFromRequest.from_request.Goals as goal
+
+pub returns-in-Ok-clause-extracts : goal.returns-in-Ok-clause-extracts
+returns-in-Ok-clause-extracts g c = extracts_result g.T.Error.Into-2.converts _ _ _ _ c.in-Ok.ensures.extracts
