@@ -1,45 +1,53 @@
 -- One poll of the places of an argument list.
-use Rattle.std.proofs.Common.{◌≡◌, ℕ, suc, max, ◌<◌, ◌≤◌, Bool, true, false, refl, sym, ap, arith, ◌⊎◌, inl, inr, subst, ◌&&◌}
+use Rattle.std.proofs.Common.{◌≡◌, ℕ, suc, max, ◌<◌, Bool, true, false, refl, sym, arith, ◌⊎◌, inl, inr, subst, ◌&&◌}
 use Rattle.std.specs.Prelude.{Result, Ok, Err}
 use Rattle.web_body.specs.Polled.{GivesSome}
 use Rattle.web_reply.specs.Replies.{Fault}
 use Rattle.web_extract.specs.declared.place.Place.{Place}
 use Rattle.web_extract.specs.declared.place.Place.TheVariants.{Waiting, Done, Taken}
 use Rattle.web_extract.specs.Place.{place_finished, place_gives, place_some, Went}
-use Rattle.web_extract.specs.Joined.{Itself, RefusedBefore, Precedes, Joins2, Joins3, Joins4, nested3, nested4}
+use Rattle.web_extract.specs.Joined.{Coming, Turned, RefusedBefore, Precedes, Joins2, Joins3, Joins4, nested3, nested4}
+use Rattle.web_extract.specs.Allowed.{Converted, turned_some}
 
 -- where the value is there, it came at this poll or before and comes at the next; else all comes one poll later
-abbrev pub Moved : {T E : Type 0} → Bool → (ℕ → Result T E → Type 0) → (ℕ → Result T E → Type 0) → Type 0
-Moved {T} {E} true old new = (v : T) × old 0 (Ok v) × ((n : ℕ) (x : Result T E) → new n x → (n ≡ 0) × (x ≡ Ok v))
-Moved {T} {E} false old new = (n : ℕ) (x : Result T E) → new n x → old (suc n) x
+abbrev pub Moved : {T : Type 0} → Bool → Coming T → Coming T → Type 0
+Moved {T} true old new = (v : T) × old 0 (Ok v) × ((n : ℕ) (x : Result T Fault) → new n x → (n ≡ 0) × (x ≡ Ok v))
+Moved {T} false old new = (n : ℕ) (x : Result T Fault) → new n x → old (suc n) x
 
-pub moved : {T E U : Type 0} (gives : U → ℕ → Result T E → Type 0) (has : Bool) (old new : Place U T) → Went gives old has new → Moved has (place_gives gives old) (place_gives gives new)
-moved {T} {E} {U} gives true old new w = (w.0, w.2, λ n x h. subst (λ (p : Place U T). place_gives gives p n x) w.1 h)
-moved gives false old new w = w
+module _ {T E U : Type 0} (gives : U → ℕ → Result T E → Type 0) (c : E → Fault → Type 0) where
+  only_value : (p : Place U T) (v : T) → p ≡ Done v → (n : ℕ) (x : Result T Fault) → Turned c (place_gives gives p) n x → (n ≡ 0) × (x ≡ Ok v)
+  only_value p v e n (Ok u) h = let d = subst (λ (q : Place U T). place_gives gives q n (Ok u)) e h in let same : u ≡ v = cc (d.1) in (d.0, rw same refl)
+  only_value p v e n (Err x) h = let d = subst (λ (q : Place U T). place_gives gives q n (Err h.0)) e h.1 in absurd (cc d.1)
 
-pub came : {T E U : Type 0} (gives : U → ℕ → Result T E → Type 0) (old new : Place U T) (v : T) → Went gives old true new → new ≡ Done v → place_gives gives old 0 (Ok v)
-came {T} gives old new v w e = let same : w.0 ≡ v = cc in subst (λ (u : T). place_gives gives old 0 (Ok u)) same w.2
+  later : (old new : Place U T) → Went gives old false new → (n : ℕ) (x : Result T Fault) → Turned c (place_gives gives new) n x → Turned c (place_gives gives old) (suc n) x
+  later old new w n (Ok v) h = w n (Ok v) h
+  later old new w n (Err e) h = (h.0, w n (Err h.0) h.1, h.2)
 
-never_before_zero : {T E : Type 0} (k : ℕ) (x : Result T E) → RefusedBefore 0 k x → ⊥
+  pub moved : (has : Bool) (old new : Place U T) → Went gives old has new → Moved has (Turned c (place_gives gives old)) (Turned c (place_gives gives new))
+  moved true old new w = (w.0, w.2, only_value new w.0 w.1)
+  moved false old new w = later old new w
+
+  pub came : (old new : Place U T) (v : T) → Went gives old true new → new ≡ Done v → place_gives gives old 0 (Ok v)
+  came old new v w e = let same : w.0 ≡ v = cc in subst (λ (u : T). place_gives gives old 0 (Ok u)) same w.2
+
+never_before_zero : {T : Type 0} (k : ℕ) (x : Result T Fault) → RefusedBefore 0 k x → ⊥
 never_before_zero k (Ok v) h = h
 never_before_zero k (Err e) h = absurd (omega arith)
 
-before_less : {T E : Type 0} (n k : ℕ) (x : Result T E) → RefusedBefore (suc n) (suc k) x → RefusedBefore n k x
+before_less : {T : Type 0} (n k : ℕ) (x : Result T Fault) → RefusedBefore (suc n) (suc k) x → RefusedBefore n k x
 before_less n k (Ok v) h = h
 before_less n k (Err e) h = omega arith
 
--- what can give something does not precede a refusal at zero
-pub not_first : {T E : Type 0} (gives : ℕ → Result T E → Type 0) → GivesSome gives → Precedes gives 0 → ⊥
-not_first gives some p = some (λ k x h. never_before_zero k x (p k x h))
+-- what can come does not precede a refusal at zero
+pub not_first : {T : Type 0} (g : Coming T) → GivesSome g → Precedes g 0 → ⊥
+not_first g some p = some (λ k x h. never_before_zero k x (p k x h))
 
-module _ {T E U : Type 0} (finished : U → Bool) (gives : U → ℕ → Result T E → Type 0) (some : (f : U) → finished f ≡ false → GivesSome (gives f)) where
-  -- nor does a place that was polled without a refusal precede one at the next poll
-  pub not_refused : (has : Bool) (old new : Place U T) → place_finished finished new ≡ false → Went gives old has new → Precedes (place_gives gives old) 1 → ⊥
-  not_refused true old new h w p = p 0 (Ok w.0) w.2
-  not_refused false old new h w p = place_some finished gives some new h (λ k x g. never_before_zero k x (before_less 0 k x (p (suc k) x (w k x g))))
+module _ {T : Type 0} (old new : Coming T) where
+  moved_not_first : (has : Bool) → Moved has old new → GivesSome new → Precedes old 1 → ⊥
+  moved_not_first true w some p = p 0 (Ok w.0) w.1
+  moved_not_first false w some p = some (λ k x h. never_before_zero k x (before_less 0 k x (p (suc k) x (w k x h))))
 
-module _ {T E : Type 0} (old new : ℕ → Result T E → Type 0) where
-  refuses_later : (has : Bool) → Moved has old new → (n : ℕ) (e : E) → new n (Err e) → old (suc n) (Err e)
+  refuses_later : (has : Bool) → Moved has old new → (n : ℕ) (e : Fault) → new n (Err e) → old (suc n) (Err e)
   refuses_later true w n e h = let d = w.2 n (Err e) h in absurd (cc d.1)
   refuses_later false w n e h = w n (Err e) h
 
@@ -47,12 +55,20 @@ module _ {T E : Type 0} (old new : ℕ → Result T E → Type 0) where
   precedes_later true w n p k x h = absurd (p 0 (Ok w.0) w.1)
   precedes_later false w n p k x h = before_less n k x (p (suc k) x (w k x h))
 
+-- a place that was polled without a refusal does not precede one at the next poll
+pub not_refused : {T E U : Type 0} (finished : U → Bool) (gives : U → ℕ → Result T E → Type 0) → ((f : U) → finished f ≡ false → GivesSome (gives f))
+    → (c : E → Fault → Type 0) → Converted c
+    → (has : Bool) (old new : Place U T) → place_finished finished new ≡ false → Went gives old has new → Precedes (Turned c (place_gives gives old)) 1 → ⊥
+not_refused finished gives some c t has old new h w =
+    moved_not_first (Turned c (place_gives gives old)) (Turned c (place_gives gives new)) has (moved gives c has old new w)
+    (turned_some c t (place_gives gives new) (place_some finished gives some new h))
+
 abbrev WhenLater : Bool → ℕ → ℕ → Type 0
 WhenLater true n k = (n ≡ 0) × (k ≡ 0)
 WhenLater false n k = k ≡ suc n
 
-value_later : {T E : Type 0} (old new : ℕ → Result T E → Type 0) (has : Bool) → Moved has old new → (n : ℕ) (v : T) → new n (Ok v) → (k : ℕ) × old k (Ok v) × WhenLater has n k
-value_later {T} {E} old new true w n v h =
+value_later : {T : Type 0} (old new : Coming T) (has : Bool) → Moved has old new → (n : ℕ) (v : T) → new n (Ok v) → (k : ℕ) × old k (Ok v) × WhenLater has n k
+value_later {T} old new true w n v h =
     let d = w.2 n (Ok v) h in
     let same : w.0 ≡ v = cc (d.1) in
     (0, subst (λ (u : T). old 0 (Ok u)) same w.1, (d.0, refl))
@@ -64,20 +80,17 @@ max_later true false e n1 n2 k1 k2 n h1 h2 h = omega arith
 max_later false true e n1 n2 k1 k2 n h1 h2 h = omega arith
 max_later false false e n1 n2 k1 k2 n h1 h2 h = omega arith
 
-module _ {A B E F : Type 0} (c1 : E → Fault → Type 0) (c2 : F → Fault → Type 0)
-    (old1 new1 : ℕ → Result A E → Type 0) (old2 new2 : ℕ → Result B F → Type 0) where
-  pub shifts : (b1 b2 : Bool) → Moved b1 old1 new1 → Moved b2 old2 new2 → (b1 && b2) ≡ false
-      → (n : ℕ) (x : Result (A × B) Fault) → Joins2 c1 c2 new1 new2 n x → Joins2 c1 c2 old1 old2 (suc n) x
-  shifts b1 b2 w1 w2 e n (Ok v) h =
+module _ {A B : Type 0} (old1 new1 : Coming A) (old2 new2 : Coming B) where
+  pub shifts2 : (b1 b2 : Bool) → Moved b1 old1 new1 → Moved b2 old2 new2 → (b1 && b2) ≡ false
+      → (n : ℕ) (x : Result (A × B) Fault) → Joins2 new1 new2 n x → Joins2 old1 old2 (suc n) x
+  shifts2 b1 b2 w1 w2 e n (Ok v) h =
       let k1 = value_later old1 new1 b1 w1 h.0 v.0 h.2 in
       let k2 = value_later old2 new2 b2 w2 h.1 v.1 h.3 in
       (k1.0, k2.0, k1.1, k2.1, max_later b1 b2 e h.0 h.1 k1.0 k2.0 n k1.2 k2.2 h.4)
-  shifts b1 b2 w1 w2 e n (Err x) (inl h) =
-      inl (h.0, refuses_later old1 new1 b1 w1 n h.0 h.1, h.2, λ p. h.3 (precedes_later old2 new2 b2 w2 n p))
-  shifts b1 b2 w1 w2 e n (Err x) (inr h) =
-      inr (h.0, refuses_later old2 new2 b2 w2 n h.0 h.1, h.2, λ p. h.3 (precedes_later old1 new1 b1 w1 (suc n) p))
+  shifts2 b1 b2 w1 w2 e n (Err x) (inl h) = inl (refuses_later old1 new1 b1 w1 n x h.0, λ p. h.1 (precedes_later old2 new2 b2 w2 n p))
+  shifts2 b1 b2 w1 w2 e n (Err x) (inr h) = inr (refuses_later old2 new2 b2 w2 n x h.0, λ p. h.1 (precedes_later old1 new1 b1 w1 (suc n) p))
 
-  only_both : (w1 : Moved true old1 new1) (w2 : Moved true old2 new2) (n : ℕ) (x : Result (A × B) Fault) → Joins2 c1 c2 new1 new2 n x → (n ≡ 0) × (x ≡ Ok (w1.0, w2.0))
+  only_both : (w1 : Moved true old1 new1) (w2 : Moved true old2 new2) (n : ℕ) (x : Result (A × B) Fault) → Joins2 new1 new2 n x → (n ≡ 0) × (x ≡ Ok (w1.0, w2.0))
   only_both w1 w2 n (Ok v) h =
       let d1 = w1.2 h.0 (Ok v.0) h.2 in
       let d2 = w2.2 h.1 (Ok v.1) h.3 in
@@ -87,37 +100,28 @@ module _ {A B E F : Type 0} (c1 : E → Fault → Type 0) (c2 : F → Fault → 
       let n2 = d2.0 in
       let z : n ≡ 0 = omega (arith, h.4, n1, n2) in
       (z, rw (sym e1, sym e2) refl)
-  only_both w1 w2 n (Err x) (inl h) = let d = w1.2 n (Err h.0) h.1 in absurd (cc d.1)
-  only_both w1 w2 n (Err x) (inr h) = let d = w2.2 n (Err h.0) h.1 in absurd (cc d.1)
+  only_both w1 w2 n (Err x) (inl h) = let d = w1.2 n (Err x) h.0 in absurd (cc d.1)
+  only_both w1 w2 n (Err x) (inr h) = let d = w2.2 n (Err x) h.0 in absurd (cc d.1)
 
-  pub both_moved : (b1 b2 : Bool) → Moved b1 old1 new1 → Moved b2 old2 new2 → Moved (b1 && b2) (Joins2 c1 c2 old1 old2) (Joins2 c1 c2 new1 new2)
+  pub both_moved : (b1 b2 : Bool) → Moved b1 old1 new1 → Moved b2 old2 new2 → Moved (b1 && b2) (Joins2 old1 old2) (Joins2 new1 new2)
   both_moved true true w1 w2 = ((w1.0, w2.0), (0, 0, w1.1, w2.1, refl), only_both w1 w2)
-  both_moved true false w1 w2 = shifts true false w1 w2 refl
-  both_moved false true w1 w2 = shifts false true w1 w2 refl
-  both_moved false false w1 w2 = shifts false false w1 w2 refl
+  both_moved true false w1 w2 = shifts2 true false w1 w2 refl
+  both_moved false true w1 w2 = shifts2 false true w1 w2 refl
+  both_moved false false w1 w2 = shifts2 false false w1 w2 refl
 
-module _ {A B C E F G : Type 0} (c1 : E → Fault → Type 0) (c2 : F → Fault → Type 0) (c3 : G → Fault → Type 0)
-    (old1 new1 : ℕ → Result A E → Type 0) (old2 new2 : ℕ → Result B F → Type 0) (old3 new3 : ℕ → Result C G → Type 0) where
+module _ {A B C : Type 0} (old1 new1 : Coming A) (old2 new2 : Coming B) (old3 new3 : Coming C) where
   pub shifts3 : (b1 b2 b3 : Bool) → Moved b1 old1 new1 → Moved b2 old2 new2 → Moved b3 old3 new3 → (b1 && (b2 && b3)) ≡ false
-      → (n : ℕ) (x : Result (A × B × C) Fault) → Joins3 c1 c2 c3 new1 new2 new3 n x → Joins3 c1 c2 c3 old1 old2 old3 (suc n) x
+      → (n : ℕ) (x : Result (A × B × C) Fault) → Joins3 new1 new2 new3 n x → Joins3 old1 old2 old3 (suc n) x
   shifts3 b1 b2 b3 w1 w2 w3 e n x =
-      shifts c1 Itself old1 new1 (Joins2 c2 c3 old2 old3) (Joins2 c2 c3 new2 new3)
-      b1 (b2 && b3) w1 (both_moved c2 c3 old2 new2 old3 new3 b2 b3 w2 w3) e n (nested3 x)
+      shifts2 old1 new1 (Joins2 old2 old3) (Joins2 new2 new3) b1 (b2 && b3) w1 (both_moved old2 new2 old3 new3 b2 b3 w2 w3) e n (nested3 x)
 
-module _ {A B C D E F G H : Type 0} (c1 : E → Fault → Type 0) (c2 : F → Fault → Type 0) (c3 : G → Fault → Type 0) (c4 : H → Fault → Type 0)
-    (old1 new1 : ℕ → Result A E → Type 0) (old2 new2 : ℕ → Result B F → Type 0) (old3 new3 : ℕ → Result C G → Type 0) (old4 new4 : ℕ → Result D H → Type 0) where
+module _ {A B C D : Type 0} (old1 new1 : Coming A) (old2 new2 : Coming B) (old3 new3 : Coming C) (old4 new4 : Coming D) where
   pub shifts4 : (b1 b2 b3 b4 : Bool) → Moved b1 old1 new1 → Moved b2 old2 new2 → Moved b3 old3 new3 → Moved b4 old4 new4 → (b1 && (b2 && (b3 && b4))) ≡ false
-      → (n : ℕ) (x : Result (A × B × C × D) Fault) → Joins4 c1 c2 c3 c4 new1 new2 new3 new4 n x → Joins4 c1 c2 c3 c4 old1 old2 old3 old4 (suc n) x
+      → (n : ℕ) (x : Result (A × B × C × D) Fault) → Joins4 new1 new2 new3 new4 n x → Joins4 old1 old2 old3 old4 (suc n) x
   shifts4 b1 b2 b3 b4 w1 w2 w3 w4 e n x =
-      shifts c1 Itself old1 new1 (Joins2 c2 Itself old2 (Joins2 c3 c4 old3 old4)) (Joins2 c2 Itself new2 (Joins2 c3 c4 new3 new4))
-      b1 (b2 && (b3 && b4)) w1
-      (both_moved c2 Itself old2 new2 (Joins2 c3 c4 old3 old4) (Joins2 c3 c4 new3 new4) b2 (b3 && b4) w2 (both_moved c3 c4 old3 new3 old4 new4 b3 b4 w3 w4))
+      shifts2 old1 new1 (Joins2 old2 (Joins2 old3 old4)) (Joins2 new2 (Joins2 new3 new4)) b1 (b2 && (b3 && b4)) w1
+      (both_moved old2 new2 (Joins2 old3 old4) (Joins2 new3 new4) b2 (b3 && b4) w2 (both_moved old3 new3 old4 new4 b3 b4 w3 w4))
       e n (nested4 x)
-
-pub and_false : (a b : Bool) → ((a ≡ true) × (b ≡ false)) ⊎ (a ≡ false) → (a && b) ≡ false
-and_false true b (inl h) = h.1
-and_false true b (inr h) = absurd cc
-and_false false b h = refl
 
 pub and_three : (a b c : Bool) → ((a && b) && c) ≡ false → (a && (b && c)) ≡ false
 and_three true true c h = h
@@ -129,6 +133,11 @@ and_four true true true d h = h
 and_four true true false d h = refl
 and_four true false c d h = refl
 and_four false b c d h = refl
+
+pub all_two : (a b : Bool) → (a && b) ≡ true → (a ≡ true) × (b ≡ true)
+all_two true true h = (refl, refl)
+all_two true false h = absurd cc
+all_two false b h = absurd cc
 
 pub all_three : (a b c : Bool) → ((a && b) && c) ≡ true → (a ≡ true) × (b ≡ true) × (c ≡ true)
 all_three true true true h = (refl, refl, refl)

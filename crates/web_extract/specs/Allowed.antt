@@ -6,107 +6,108 @@ use Rattle.web_request.specs.declared.source.Mark.{Mark}
 use Rattle.web_reply.specs.Replies.{Fault}
 use Rattle.web_body.specs.Polled.{GivesSome}
 use Rattle.web_extract.specs.Extracts.{AllowsSome}
-use Rattle.web_extract.specs.Joined.{One, Itself, Joins1, Joins2, Joins3, Joins4}
-use Rattle.web_extract.specs.Lists.{Meaning, Means1, Means2, Means3, Means4}
+use Rattle.web_extract.specs.Joined.{Coming, Turned, One, Joins1, Joins2, Joins3, Joins4}
+use Rattle.web_extract.specs.Lists.{Meaning, Member, Means1, Means2, Means3, Means4}
 
 -- each error turns into something
 abbrev pub Converted : {E : Type 0} → (E → Fault → Type 0) → Type 0
-Converted {E} c = (e : E) → (f : Fault) × c e f
+Converted {E} converts = (e : E) → (f : Fault) × converts e f
 
-pub itself : Converted Itself
+-- the conversion of an error into itself
+pub itself : (e : Fault) → (f : Fault) × (f ≡ e)
 itself e = (e, refl)
 
--- an answer that is allowed
-abbrev pub Answer : {T E : Type 0} → (ℕ → Result T E → Type 0) → Type 0
-Answer {T} {E} g = (n : ℕ) × (x : Result T E) × g n x
+-- an answer that may come
+abbrev Answer : {T : Type 0} → Coming T → Type 0
+Answer {T} g = (n : ℕ) × (x : Result T Fault) × g n x
 
-join1 : {A E : Type 0} (c : E → Fault → Type 0) → Converted c → (g : ℕ → Result A E → Type 0) (n : ℕ) (x : Result A E) → g n x → Answer (Joins1 c g)
-join1 c t g n (Ok a) h = (n, Ok record { 0 = a }, h)
-join1 c t g n (Err e) h = let x = t e in (n, Err x.0, (e, h, x.1))
+turn : {T E : Type 0} (c : E → Fault → Type 0) → Converted c → (g : ℕ → Result T E → Type 0) (n : ℕ) (x : Result T E) → g n x → Answer (Turned c g)
+turn c t g n (Ok v) h = (n, Ok v, h)
+turn c t g n (Err e) h = let x = t e in (n, Err x.0, (e, h, x.1))
 
-module _ {A B E F : Type 0} (c1 : E → Fault → Type 0) (c2 : F → Fault → Type 0) (t1 : Converted c1) (t2 : Converted c2)
-    (g1 : ℕ → Result A E → Type 0) (g2 : ℕ → Result B F → Type 0) where
-  both_refuse : (n1 n2 : ℕ) (e : E) (f : F) → g1 n1 (Err e) → g2 n2 (Err f) → (n2 < n1) ⊎ (n1 ≤ n2) → Answer (Joins2 c1 c2 g1 g2)
-  both_refuse n1 n2 e f h1 h2 (inr le) = let x = t1 e in (n1, Err x.0, inl (e, h1, x.1, λ p. let q = p n2 (Err f) h2 in omega arith))
-  both_refuse n1 n2 e f h1 h2 (inl lt) = let x = t2 f in (n2, Err x.0, inr (f, h2, x.1, λ p. let q = p n1 (Err e) h1 in omega arith))
+pub turned_some : {T E : Type 0} (c : E → Fault → Type 0) → Converted c → (g : ℕ → Result T E → Type 0) → GivesSome g → GivesSome (Turned c g)
+turned_some c t g some none = some (λ n x h. let j = turn c t g n x h in none j.0 j.1 j.2)
 
-  join2 : (n1 : ℕ) (x1 : Result A E) (n2 : ℕ) (x2 : Result B F) → g1 n1 x1 → g2 n2 x2 → Answer (Joins2 c1 c2 g1 g2)
+join1 : {A : Type 0} (g : Coming A) (n : ℕ) (x : Result A Fault) → g n x → Answer (Joins1 g)
+join1 g n (Ok a) h = (n, Ok record { 0 = a }, h)
+join1 g n (Err e) h = (n, Err e, h)
+
+module _ {A B : Type 0} (g1 : Coming A) (g2 : Coming B) where
+  both_refuse : (n1 n2 : ℕ) (e f : Fault) → g1 n1 (Err e) → g2 n2 (Err f) → (n2 < n1) ⊎ (n1 ≤ n2) → Answer (Joins2 g1 g2)
+  both_refuse n1 n2 e f h1 h2 (inr le) = (n1, Err e, inl (h1, λ p. let q = p n2 (Err f) h2 in omega arith))
+  both_refuse n1 n2 e f h1 h2 (inl lt) = (n2, Err f, inr (h2, λ p. let q = p n1 (Err e) h1 in omega arith))
+
+  join2 : (n1 : ℕ) (x1 : Result A Fault) (n2 : ℕ) (x2 : Result B Fault) → g1 n1 x1 → g2 n2 x2 → Answer (Joins2 g1 g2)
   join2 n1 (Ok a) n2 (Ok b) h1 h2 = (max n1 n2, Ok (a, b), (n1, n2, h1, h2, refl))
-  join2 n1 (Err e) n2 (Ok b) h1 h2 = let x = t1 e in (n1, Err x.0, inl (e, h1, x.1, λ p. p n2 (Ok b) h2))
-  join2 n1 (Ok a) n2 (Err f) h1 h2 = let x = t2 f in (n2, Err x.0, inr (f, h2, x.1, λ p. p n1 (Ok a) h1))
+  join2 n1 (Err e) n2 (Ok b) h1 h2 = (n1, Err e, inl (h1, λ p. p n2 (Ok b) h2))
+  join2 n1 (Ok a) n2 (Err f) h1 h2 = (n2, Err f, inr (h2, λ p. p n1 (Ok a) h1))
   join2 n1 (Err e) n2 (Err f) h1 h2 = both_refuse n1 n2 e f h1 h2 (cases_lt n2 n1)
 
-  pub joins2_some : GivesSome g1 → GivesSome g2 → GivesSome (Joins2 c1 c2 g1 g2)
+  pub joins2_some : GivesSome g1 → GivesSome g2 → GivesSome (Joins2 g1 g2)
   joins2_some some1 some2 none = some1 (λ n1 x1 h1. some2 (λ n2 x2 h2. let j = join2 n1 x1 n2 x2 h1 h2 in none j.0 j.1 j.2))
 
-pub joins1_some : {A E : Type 0} (c : E → Fault → Type 0) → Converted c → (g : ℕ → Result A E → Type 0) → GivesSome g → GivesSome (Joins1 c g)
-joins1_some c t g some none = some (λ n x h. let j = join1 c t g n x h in none j.0 j.1 j.2)
+pub joins1_some : {A : Type 0} (g : Coming A) → GivesSome g → GivesSome (Joins1 g)
+joins1_some g some none = some (λ n x h. let j = join1 g n x h in none j.0 j.1 j.2)
 
-module _ {A B C E F G : Type 0} (c1 : E → Fault → Type 0) (c2 : F → Fault → Type 0) (c3 : G → Fault → Type 0)
-    (t1 : Converted c1) (t2 : Converted c2) (t3 : Converted c3)
-    (g1 : ℕ → Result A E → Type 0) (g2 : ℕ → Result B F → Type 0) (g3 : ℕ → Result C G → Type 0) where
-  as_three : (n : ℕ) (x : Result (A × (B × C)) Fault) → Joins2 c1 Itself g1 (Joins2 c2 c3 g2 g3) n x → Answer (Joins3 c1 c2 c3 g1 g2 g3)
+module _ {A B C : Type 0} (g1 : Coming A) (g2 : Coming B) (g3 : Coming C) where
+  as_three : (n : ℕ) (x : Result (A × (B × C)) Fault) → Joins2 g1 (Joins2 g2 g3) n x → Answer (Joins3 g1 g2 g3)
   as_three n (Ok v) h = (n, Ok (v.0, v.1.0, v.1.1), h)
   as_three n (Err x) h = (n, Err x, h)
 
-  join3 : (n1 : ℕ) (x1 : Result A E) (n2 : ℕ) (x2 : Result B F) (n3 : ℕ) (x3 : Result C G) → g1 n1 x1 → g2 n2 x2 → g3 n3 x3 → Answer (Joins3 c1 c2 c3 g1 g2 g3)
+  join3 : (n1 : ℕ) (x1 : Result A Fault) (n2 : ℕ) (x2 : Result B Fault) (n3 : ℕ) (x3 : Result C Fault) → g1 n1 x1 → g2 n2 x2 → g3 n3 x3 → Answer (Joins3 g1 g2 g3)
   join3 n1 x1 n2 x2 n3 x3 h1 h2 h3 =
-      let j = join2 c2 c3 t2 t3 g2 g3 n2 x2 n3 x3 h2 h3 in
-      let k = join2 c1 Itself t1 itself g1 (Joins2 c2 c3 g2 g3) n1 x1 j.0 j.1 h1 j.2 in
+      let j = join2 g2 g3 n2 x2 n3 x3 h2 h3 in
+      let k = join2 g1 (Joins2 g2 g3) n1 x1 j.0 j.1 h1 j.2 in
       as_three k.0 k.1 k.2
 
-  pub joins3_some : GivesSome g1 → GivesSome g2 → GivesSome g3 → GivesSome (Joins3 c1 c2 c3 g1 g2 g3)
-  joins3_some some1 some2 some3 none =
-      some1 (λ n1 x1 h1. some2 (λ n2 x2 h2. some3 (λ n3 x3 h3. let j = join3 n1 x1 n2 x2 n3 x3 h1 h2 h3 in none j.0 j.1 j.2)))
+  pub joins3_some : GivesSome g1 → GivesSome g2 → GivesSome g3 → GivesSome (Joins3 g1 g2 g3)
+  joins3_some some1 some2 some3 none = joins2_some g1 (Joins2 g2 g3) some1 (joins2_some g2 g3 some2 some3) (λ n x h. let j = as_three n x h in none j.0 j.1 j.2)
 
-module _ {A B C D E F G H : Type 0} (c1 : E → Fault → Type 0) (c2 : F → Fault → Type 0) (c3 : G → Fault → Type 0) (c4 : H → Fault → Type 0)
-    (t1 : Converted c1) (t2 : Converted c2) (t3 : Converted c3) (t4 : Converted c4)
-    (g1 : ℕ → Result A E → Type 0) (g2 : ℕ → Result B F → Type 0) (g3 : ℕ → Result C G → Type 0) (g4 : ℕ → Result D H → Type 0) where
-  as_four : (n : ℕ) (x : Result (A × (B × (C × D))) Fault) → Joins2 c1 Itself g1 (Joins2 c2 Itself g2 (Joins2 c3 c4 g3 g4)) n x → Answer (Joins4 c1 c2 c3 c4 g1 g2 g3 g4)
+module _ {A B C D : Type 0} (g1 : Coming A) (g2 : Coming B) (g3 : Coming C) (g4 : Coming D) where
+  as_four : (n : ℕ) (x : Result (A × (B × (C × D))) Fault) → Joins2 g1 (Joins2 g2 (Joins2 g3 g4)) n x → Answer (Joins4 g1 g2 g3 g4)
   as_four n (Ok v) h = (n, Ok (v.0, v.1.0, v.1.1.0, v.1.1.1), h)
   as_four n (Err x) h = (n, Err x, h)
 
-  join4 : (n1 : ℕ) (x1 : Result A E) (n2 : ℕ) (x2 : Result B F) (n3 : ℕ) (x3 : Result C G) (n4 : ℕ) (x4 : Result D H)
-      → g1 n1 x1 → g2 n2 x2 → g3 n3 x3 → g4 n4 x4 → Answer (Joins4 c1 c2 c3 c4 g1 g2 g3 g4)
+  join4 : (n1 : ℕ) (x1 : Result A Fault) (n2 : ℕ) (x2 : Result B Fault) (n3 : ℕ) (x3 : Result C Fault) (n4 : ℕ) (x4 : Result D Fault)
+      → g1 n1 x1 → g2 n2 x2 → g3 n3 x3 → g4 n4 x4 → Answer (Joins4 g1 g2 g3 g4)
   join4 n1 x1 n2 x2 n3 x3 n4 x4 h1 h2 h3 h4 =
-      let i = join2 c3 c4 t3 t4 g3 g4 n3 x3 n4 x4 h3 h4 in
-      let j = join2 c2 Itself t2 itself g2 (Joins2 c3 c4 g3 g4) n2 x2 i.0 i.1 h2 i.2 in
-      let k = join2 c1 Itself t1 itself g1 (Joins2 c2 Itself g2 (Joins2 c3 c4 g3 g4)) n1 x1 j.0 j.1 h1 j.2 in
+      let i = join2 g3 g4 n3 x3 n4 x4 h3 h4 in
+      let j = join2 g2 (Joins2 g3 g4) n2 x2 i.0 i.1 h2 i.2 in
+      let k = join2 g1 (Joins2 g2 (Joins2 g3 g4)) n1 x1 j.0 j.1 h1 j.2 in
       as_four k.0 k.1 k.2
 
-  pub joins4_some : GivesSome g1 → GivesSome g2 → GivesSome g3 → GivesSome g4 → GivesSome (Joins4 c1 c2 c3 c4 g1 g2 g3 g4)
+  pub joins4_some : GivesSome g1 → GivesSome g2 → GivesSome g3 → GivesSome g4 → GivesSome (Joins4 g1 g2 g3 g4)
   joins4_some some1 some2 some3 some4 none =
-      some1 (λ n1 x1 h1. some2 (λ n2 x2 h2. some3 (λ n3 x3 h3. some4 (λ n4 x4 h4.
-      let j = join4 n1 x1 n2 x2 n3 x3 n4 x4 h1 h2 h3 h4 in none j.0 j.1 j.2))))
+      joins2_some g1 (Joins2 g2 (Joins2 g3 g4)) some1 (joins2_some g2 (Joins2 g3 g4) some2 (joins2_some g3 g4 some3 some4))
+      (λ n x h. let j = as_four n x h in none j.0 j.1 j.2)
 
 -- the meaning allows something for any marks
-abbrev pub MeansSome : {T E : Type 0} → Meaning T E → Type 0
+abbrev pub MeansSome : {T E : Type 0} → (List Mark → List Mark → ℕ → Result T E → Type 0) → Type 0
 MeansSome means = (m : List Mark) → AllowsSome (means m)
 
-pub means1_some : {A E : Type 0} (c : E → Fault → Type 0) → Converted c → (means : Meaning A E) → MeansSome means → MeansSome (Means1 c means)
-means1_some c t means some m none = some m (λ rest n x h. let j = join1 c t (means m rest) n x h in none rest j.0 j.1 j.2)
+pub member_some : {T E : Type 0} (c : E → Fault → Type 0) → Converted c → (means : List Mark → List Mark → ℕ → Result T E → Type 0) → MeansSome means → MeansSome (Member c means)
+member_some c t means some m none = some m (λ rest n x h. let j = turn c t (means m rest) n x h in none rest j.0 j.1 j.2)
 
-pub means2_some : {A B E F : Type 0} (c1 : E → Fault → Type 0) (c2 : F → Fault → Type 0) → Converted c1 → Converted c2
-    → (means1 : Meaning A E) (means2 : Meaning B F) → MeansSome means1 → MeansSome means2 → MeansSome (Means2 c1 c2 means1 means2)
-means2_some c1 c2 t1 t2 means1 means2 some1 some2 m none =
+pub means1_some : {A : Type 0} (first : Meaning A) → MeansSome first → MeansSome (Means1 first)
+means1_some first some m none = some m (λ rest n x h. let j = join1 (first m rest) n x h in none rest j.0 j.1 j.2)
+
+pub means2_some : {A B : Type 0} (first : Meaning A) (second : Meaning B) → MeansSome first → MeansSome second → MeansSome (Means2 first second)
+means2_some first second some1 some2 m none =
     some1 m (λ left1 n1 x1 h1. some2 left1 (λ rest n2 x2 h2.
-    let j = join2 c1 c2 t1 t2 (means1 m left1) (means2 left1 rest) n1 x1 n2 x2 h1 h2 in none rest j.0 j.1 (left1, j.2)))
+    let j = join2 (first m left1) (second left1 rest) n1 x1 n2 x2 h1 h2 in none rest j.0 j.1 (left1, j.2)))
 
-pub means3_some : {A B C E F G : Type 0} (c1 : E → Fault → Type 0) (c2 : F → Fault → Type 0) (c3 : G → Fault → Type 0) → Converted c1 → Converted c2 → Converted c3
-    → (means1 : Meaning A E) (means2 : Meaning B F) (means3 : Meaning C G) → MeansSome means1 → MeansSome means2 → MeansSome means3
-    → MeansSome (Means3 c1 c2 c3 means1 means2 means3)
-means3_some c1 c2 c3 t1 t2 t3 means1 means2 means3 some1 some2 some3 m none =
+pub means3_some : {A B C : Type 0} (first : Meaning A) (second : Meaning B) (third : Meaning C)
+    → MeansSome first → MeansSome second → MeansSome third → MeansSome (Means3 first second third)
+means3_some first second third some1 some2 some3 m none =
     some1 m (λ left1 n1 x1 h1. some2 left1 (λ left2 n2 x2 h2. some3 left2 (λ rest n3 x3 h3.
-    let j = join3 c1 c2 c3 t1 t2 t3 (means1 m left1) (means2 left1 left2) (means3 left2 rest) n1 x1 n2 x2 n3 x3 h1 h2 h3 in
+    let j = join3 (first m left1) (second left1 left2) (third left2 rest) n1 x1 n2 x2 n3 x3 h1 h2 h3 in
     none rest j.0 j.1 (left1, left2, j.2))))
 
-pub means4_some : {A B C D E F G H : Type 0} (c1 : E → Fault → Type 0) (c2 : F → Fault → Type 0) (c3 : G → Fault → Type 0) (c4 : H → Fault → Type 0)
-    → Converted c1 → Converted c2 → Converted c3 → Converted c4
-    → (means1 : Meaning A E) (means2 : Meaning B F) (means3 : Meaning C G) (means4 : Meaning D H)
-    → MeansSome means1 → MeansSome means2 → MeansSome means3 → MeansSome means4 → MeansSome (Means4 c1 c2 c3 c4 means1 means2 means3 means4)
-means4_some c1 c2 c3 c4 t1 t2 t3 t4 means1 means2 means3 means4 some1 some2 some3 some4 m none =
+pub means4_some : {A B C D : Type 0} (first : Meaning A) (second : Meaning B) (third : Meaning C) (fourth : Meaning D)
+    → MeansSome first → MeansSome second → MeansSome third → MeansSome fourth → MeansSome (Means4 first second third fourth)
+means4_some first second third fourth some1 some2 some3 some4 m none =
     some1 m (λ left1 n1 x1 h1. some2 left1 (λ left2 n2 x2 h2. some3 left2 (λ left3 n3 x3 h3. some4 left3 (λ rest n4 x4 h4.
-    let j = join4 c1 c2 c3 c4 t1 t2 t3 t4 (means1 m left1) (means2 left1 left2) (means3 left2 left3) (means4 left3 rest) n1 x1 n2 x2 n3 x3 n4 x4 h1 h2 h3 h4 in
+    let j = join4 (first m left1) (second left1 left2) (third left2 left3) (fourth left3 rest) n1 x1 n2 x2 n3 x3 n4 x4 h1 h2 h3 h4 in
     none rest j.0 j.1 (left1, left2, left3, j.2)))))
 
 pub or_first : (a b : Bool) → (a || b) ≡ false → a ≡ false

@@ -17,17 +17,19 @@ pub struct TupleFromRequest1<P: App, A: FromRequest<P>> {
 }
 
 impl<P: App, A: FromRequest<P>> Poll for TupleFromRequest1<P, A> {
-    ghost use Rattle.web_extract.specs.Joined.{Joins1};
-    ghost use Rattle.web_extract.specs.Allowed.{joins1_some};
+    ghost use Rattle.web_extract.specs.Joined.{Turned, Joins1};
+    ghost use Rattle.web_extract.specs.Allowed.{joins1_some, turned_some};
 
     type Output = Result<(A,), Error>;
 
     ghost is_finished = { λ f. place_finished A.Future.is_finished f.first };
 
-    ghost gives = { λ f n x. Joins1 A.Error.converts (place_gives A.Future.gives f.first) n x };
+    ghost gives = { λ f n x. Joins1
+        (Turned A.Error.converts (place_gives A.Future.gives f.first)) n x };
 
-    ghost some = { λ f h. joins1_some A.Error.converts A.converted (place_gives A.Future.gives f.first)
-        (place_some A.Future.is_finished A.Future.gives A.Future.some f.first h) };
+    ghost some = { λ f h. joins1_some
+        (Turned A.Error.converts (place_gives A.Future.gives f.first))
+        (turned_some A.Error.converts A.converted (place_gives A.Future.gives f.first) (place_some A.Future.is_finished A.Future.gives A.Future.some f.first h)) };
 
     fn finished(&self) -> bool {
         self.first.finished()
@@ -51,16 +53,17 @@ impl<P: App, A: FromRequest<P>> Poll for TupleFromRequest1<P, A> {
 
 /// The argument alone. It gets the payload as it is.
 impl<P: App, A: FromRequest<P>> FromRequest<P> for (A,) {
-    ghost use Rattle.web_extract.specs.Lists.{Means1};
-    ghost use Rattle.web_extract.specs.Allowed.{means1_some, itself};
+    ghost use Rattle.web_extract.specs.Lists.{Member, Means1};
+    ghost use Rattle.web_extract.specs.Allowed.{means1_some, member_some, itself};
 
     type Error = Error;
 
     type Future = TupleFromRequest1<P, A>;
 
-    ghost means = { λ q m rest n x. Means1 A.Error.converts (A.means q) m rest n x };
+    ghost means = { λ q m rest n x. Means1 (Member A.Error.converts (A.means q)) m rest n x };
 
-    ghost some = { λ q m. means1_some A.Error.converts A.converted (A.means q) (A.some q) m };
+    ghost some = { λ q m. means1_some (Member A.Error.converts (A.means q))
+        (member_some A.Error.converts A.converted (A.means q) (A.some q)) m };
 
     ghost converted = { itself };
 

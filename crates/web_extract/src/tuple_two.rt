@@ -18,20 +18,22 @@ pub struct TupleFromRequest2<P: App, A: FromRequest<P>, B: FromRequest<P>> {
 }
 
 impl<P: App, A: FromRequest<P>, B: FromRequest<P>> Poll for TupleFromRequest2<P, A, B> {
-    ghost use Rattle.web_extract.specs.Joined.{Joins2};
-    ghost use Rattle.web_extract.specs.Allowed.{joins2_some, or_first, or_second};
+    ghost use Rattle.web_extract.specs.Joined.{Turned, Joins2};
+    ghost use Rattle.web_extract.specs.Allowed.{joins2_some, turned_some, or_first, or_second};
 
     type Output = Result<(A, B), Error>;
 
     ghost is_finished = { λ f. place_finished A.Future.is_finished f.first || place_finished B.Future.is_finished f.second };
 
-    ghost gives = { λ f n x. Joins2 A.Error.converts B.Error.converts
-        (place_gives A.Future.gives f.first) (place_gives B.Future.gives f.second) n x };
+    ghost gives = { λ f n x. Joins2
+        (Turned A.Error.converts (place_gives A.Future.gives f.first))
+        (Turned B.Error.converts (place_gives B.Future.gives f.second)) n x };
 
-    ghost some = { λ f h. joins2_some A.Error.converts B.Error.converts A.converted B.converted
-        (place_gives A.Future.gives f.first) (place_gives B.Future.gives f.second)
-        (place_some A.Future.is_finished A.Future.gives A.Future.some f.first (or_first _ _ h))
-        (place_some B.Future.is_finished B.Future.gives B.Future.some f.second (or_second _ _ h)) };
+    ghost some = { λ f h. joins2_some
+        (Turned A.Error.converts (place_gives A.Future.gives f.first))
+        (Turned B.Error.converts (place_gives B.Future.gives f.second))
+        (turned_some A.Error.converts A.converted (place_gives A.Future.gives f.first) (place_some A.Future.is_finished A.Future.gives A.Future.some f.first (or_first _ _ h)))
+        (turned_some B.Error.converts B.converted (place_gives B.Future.gives f.second) (place_some B.Future.is_finished B.Future.gives B.Future.some f.second (or_second _ _ h))) };
 
     fn finished(&self) -> bool {
         self.first.finished() || self.second.finished()
@@ -48,7 +50,7 @@ impl<P: App, A: FromRequest<P>, B: FromRequest<P>> Poll for TupleFromRequest2<P,
             Err(Stop::Refused(e)) => return Step::Ready(Err(e.into())),
             Err(Stop::NoRoom) => return Step::NoMemory,
         };
-        if !(has_first && has_second) {
+        if !(has_first & has_second) {
             return Step::Pending;
         }
         let first = mem::replace(&mut self.first, Place::Taken);
@@ -62,17 +64,18 @@ impl<P: App, A: FromRequest<P>, B: FromRequest<P>> Poll for TupleFromRequest2<P,
 
 /// Both arguments. Each gets the payload as the one before left it.
 impl<P: App, A: FromRequest<P>, B: FromRequest<P>> FromRequest<P> for (A, B) {
-    ghost use Rattle.web_extract.specs.Lists.{Means2};
-    ghost use Rattle.web_extract.specs.Allowed.{means2_some, itself};
+    ghost use Rattle.web_extract.specs.Lists.{Member, Means2};
+    ghost use Rattle.web_extract.specs.Allowed.{means2_some, member_some, itself};
 
     type Error = Error;
 
     type Future = TupleFromRequest2<P, A, B>;
 
-    ghost means = { λ q m rest n x. Means2 A.Error.converts B.Error.converts (A.means q) (B.means q) m rest n x };
+    ghost means = { λ q m rest n x. Means2 (Member A.Error.converts (A.means q)) (Member B.Error.converts (B.means q)) m rest n x };
 
-    ghost some = { λ q m. means2_some A.Error.converts B.Error.converts A.converted B.converted
-        (A.means q) (B.means q) (A.some q) (B.some q) m };
+    ghost some = { λ q m. means2_some (Member A.Error.converts (A.means q)) (Member B.Error.converts (B.means q))
+        (member_some A.Error.converts A.converted (A.means q) (A.some q))
+        (member_some B.Error.converts B.converted (B.means q) (B.some q)) m };
 
     ghost converted = { itself };
 
