@@ -38,7 +38,7 @@ joins1_within g k f n (Err x) h = f n (Err x) h
 precedes_within : {T : Type 0} (g k : Coming T) → Within g k → (n : ℕ) → Precedes k n → Precedes g n
 precedes_within g k f n p m x h = p m x (f m x h)
 
-joins2_within : {A B : Type 0} (g1 k1 : Coming A) (g2 k2 : Coming B) → Within g1 k1 → Within g2 k2 → Within (Joins2 g1 g2) (Joins2 k1 k2)
+pub joins2_within : {A B : Type 0} (g1 k1 : Coming A) (g2 k2 : Coming B) → Within g1 k1 → Within g2 k2 → Within (Joins2 g1 g2) (Joins2 k1 k2)
 joins2_within g1 k1 g2 k2 f1 f2 n (Ok v) h = (h.0, h.1, f1 h.0 (Ok v.0) h.2, f2 h.1 (Ok v.1) h.3, h.4)
 joins2_within g1 k1 g2 k2 f1 f2 n (Err x) (inl h) = inl (f1 n (Err x) h.0, λ p. h.1 (precedes_within g2 k2 f2 n p))
 joins2_within g1 k1 g2 k2 f1 f2 n (Err x) (inr h) = inr (f2 n (Err x) h.0, λ p. h.1 (precedes_within g1 k1 f1 (suc n) p))

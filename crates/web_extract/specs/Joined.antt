@@ -33,14 +33,17 @@ abbrev pub Joins2 : {A B : Type 0} → Coming A → Coming B → Coming (A × B)
 Joins2 first second n (Ok v) = (n1 n2 : ℕ) × first n1 (Ok v.0) × second n2 (Ok v.1) × (n ≡ max n1 n2)
 Joins2 first second n (Err x) = (first n (Err x) × (Precedes second n → ⊥)) ⊎ (second n (Err x) × (Precedes first (suc n) → ⊥))
 
+-- the result with its value grouped otherwise
+abbrev pub grouped : {T U : Type 0} → (T → U) → Result T Fault → Result U Fault
+grouped group (Ok v) = Ok (group v)
+grouped group (Err x) = Err x
+
 -- a list of three or four values as nested pairs
 abbrev pub nested3 : {A B C : Type 0} → Result (A × B × C) Fault → Result (A × (B × C)) Fault
-nested3 (Ok v) = Ok (v.0, (v.1, v.2))
-nested3 (Err x) = Err x
+nested3 x = grouped (λ v. (v.0, (v.1, v.2))) x
 
 abbrev pub nested4 : {A B C D : Type 0} → Result (A × B × C × D) Fault → Result (A × (B × (C × D))) Fault
-nested4 (Ok v) = Ok (v.0, (v.1, (v.2, v.3)))
-nested4 (Err x) = Err x
+nested4 x = grouped (λ v. (v.0, (v.1, (v.2, v.3)))) x
 
 -- three and four places: the first, and the others together
 abbrev pub Joins3 : {A B C : Type 0} → Coming A → Coming B → Coming C → Coming (A × B × C)

@@ -1,5 +1,6 @@
 pub mod Allowed
 pub mod Collected
+pub mod Deciding
 pub mod Extracts
 pub mod Fallible
 pub mod Joined

@@ -4,6 +4,7 @@
 mod bytes_argument;
 mod from_request;
 mod into_some;
+mod laws;
 mod never;
 mod option;
 mod place;
@@ -17,6 +18,7 @@ mod unit;
 
 pub use from_request::FromRequest;
 pub use into_some::IntoSome;
+pub use laws::{list_law, nesting_law};
 pub use never::Never;
 pub use option::FromRequestOptFuture;
 pub use ready::Ready;

@@ -1,0 +1,43 @@
+//! Laws of argument lists.
+ghost use Rattle.web_request.specs.Request.{Request};
+ghost use Rattle.web_extract.specs.Lists.{Member};
+ghost use Rattle.web_extract.specs.Deciding.{Decides1, Decides2, Decides3, Decides4, AsList4};
+
+use crate::from_request::FromRequest;
+use web_request::App;
+
+/// What a list of one to four arguments means where each of them allows exactly one answer: where some place refuses, the
+/// refusing place of least delay decides, among equals the lowest place, with that delay; else all values come, with the
+/// greatest delay. Each place gets the marks that the one before leaves, and the list leaves what the last place leaves.
+///
+/// It does nothing.
+pub fn list_law<P: App, A: FromRequest<P>, B: FromRequest<P>, C: FromRequest<P>, D: FromRequest<P>>()
+    ensures one { (q : Request P.Layer P.Local P.Conn) → Decides1 (Member A.Error.converts (A.means q)) }
+    ensures two { (q : Request P.Layer P.Local P.Conn) → Decides2 (Member A.Error.converts (A.means q)) (Member B.Error.converts (B.means q)) }
+    ensures three { (q : Request P.Layer P.Local P.Conn) → Decides3 (Member A.Error.converts (A.means q))
+        (Member B.Error.converts (B.means q)) (Member C.Error.converts (C.means q)) }
+    ensures four { (q : Request P.Layer P.Local P.Conn) → Decides4 (Member A.Error.converts (A.means q))
+        (Member B.Error.converts (B.means q)) (Member C.Error.converts (C.means q)) (Member D.Error.converts (D.means q)) }
+{}
+
+/// Each nesting of four arguments in pairs, in the same order, decides as the list of four does: with the same delay, the same
+/// error and the same values, where each of them allows exactly one answer.
+///
+/// It does nothing.
+pub fn nesting_law<P: App, A: FromRequest<P>, B: FromRequest<P>, C: FromRequest<P>, D: FromRequest<P>>()
+    ensures pairs { (q : Request P.Layer P.Local P.Conn) → AsList4 (Member A.Error.converts (A.means q)) (Member B.Error.converts (B.means q))
+        (Member C.Error.converts (C.means q)) (Member D.Error.converts (D.means q))
+        (λ v. ((v.0, v.1), (v.2, v.3))) (⟦<((A, B), (C, D)) as FromRequest<P>>⟧.means q) }
+    ensures right { (q : Request P.Layer P.Local P.Conn) → AsList4 (Member A.Error.converts (A.means q)) (Member B.Error.converts (B.means q))
+        (Member C.Error.converts (C.means q)) (Member D.Error.converts (D.means q))
+        (λ v. (v.0, (v.1, (v.2, v.3)))) (⟦<(A, (B, (C, D))) as FromRequest<P>>⟧.means q) }
+    ensures left { (q : Request P.Layer P.Local P.Conn) → AsList4 (Member A.Error.converts (A.means q)) (Member B.Error.converts (B.means q))
+        (Member C.Error.converts (C.means q)) (Member D.Error.converts (D.means q))
+        (λ v. (((v.0, v.1), v.2), v.3)) (⟦<(((A, B), C), D) as FromRequest<P>>⟧.means q) }
+    ensures inner { (q : Request P.Layer P.Local P.Conn) → AsList4 (Member A.Error.converts (A.means q)) (Member B.Error.converts (B.means q))
+        (Member C.Error.converts (C.means q)) (Member D.Error.converts (D.means q))
+        (λ v. (v.0, ((v.1, v.2), v.3))) (⟦<(A, ((B, C), D)) as FromRequest<P>>⟧.means q) }
+    ensures outer { (q : Request P.Layer P.Local P.Conn) → AsList4 (Member A.Error.converts (A.means q)) (Member B.Error.converts (B.means q))
+        (Member C.Error.converts (C.means q)) (Member D.Error.converts (D.means q))
+        (λ v. ((v.0, (v.1, v.2)), v.3)) (⟦<((A, (B, C)), D) as FromRequest<P>>⟧.means q) }
+{}
