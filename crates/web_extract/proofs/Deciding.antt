@@ -1,8 +1,7 @@
 -- A list of arguments each of which allows exactly one answer.
-use Rattle.std.proofs.Common.{◌≡◌, ℕ, suc, max, ltb, cond, ◌<◌, ◌≤◌, ◌↔◌, refl, sym, arith, ◌⊎◌, inl, inr, subst}
+use Rattle.std.proofs.Common.{◌≡◌, ℕ, suc, max, ◌<◌, ◌≤◌, ◌↔◌, refl, sym, arith, ◌⊎◌, inl, inr, subst}
 use Rattle.std.proofs.lemmas.Bool.{cases_lt, cond_below, cond_above}
-use Rattle.std.specs.Prelude.{Option, None, Some, Result, Ok, Err}
-
+use Rattle.std.specs.Prelude.{Option, Some, Result, Ok, Err}
 use Rattle.web_reply.specs.Replies.{Fault}
 use Rattle.web_extract.specs.Joined.{Coming, RefusedBefore, Precedes, Joins2}
 use Rattle.web_extract.specs.Deciding.{Verdict, Refusal, decided, list2}

@@ -70,7 +70,7 @@ pub extracts3 : {A B C E F G : Type 0} (c1 : E → Fault → Type 0) (c2 : F →
     (g1 : ℕ → Result A E → Type 0) (g2 : ℕ → Result B F → Type 0) (g3 : ℕ → Result C G → Type 0) (old mid1 mid2 new : Option (List Mark))
     → Extracts means1 g1 old mid1 → Extracts means2 g2 mid1 mid2 → Extracts means3 g3 mid2 new
     → Extracts (λ m rest n x. Means3 (Member c1 means1) (Member c2 means2) (Member c3 means3) m rest n x)
-      (λ n x. Joins3 (Turned c1 g1) (Turned c2 g2) (Turned c3 g3) n x) old new
+    (λ n x. Joins3 (Turned c1 g1) (Turned c2 g2) (Turned c3 g3) n x) old new
 extracts3 c1 c2 c3 means1 means2 means3 g1 g2 g3 None mid1 mid2 new h1 h2 h3 = tt
 extracts3 c1 c2 c3 means1 means2 means3 g1 g2 g3 (Some m) mid1 mid2 new h1 h2 h3 =
     let j2 = next_extracts means2 g2 mid1 mid2 h1.0 h1.1 h2 in
@@ -88,7 +88,7 @@ pub extracts4 : {A B C D E F G H : Type 0} (c1 : E → Fault → Type 0) (c2 : F
     (old mid1 mid2 mid3 new : Option (List Mark))
     → Extracts means1 g1 old mid1 → Extracts means2 g2 mid1 mid2 → Extracts means3 g3 mid2 mid3 → Extracts means4 g4 mid3 new
     → Extracts (λ m rest n x. Means4 (Member c1 means1) (Member c2 means2) (Member c3 means3) (Member c4 means4) m rest n x)
-      (λ n x. Joins4 (Turned c1 g1) (Turned c2 g2) (Turned c3 g3) (Turned c4 g4) n x) old new
+    (λ n x. Joins4 (Turned c1 g1) (Turned c2 g2) (Turned c3 g3) (Turned c4 g4) n x) old new
 extracts4 c1 c2 c3 c4 means1 means2 means3 means4 g1 g2 g3 g4 None mid1 mid2 mid3 new h1 h2 h3 h4 = tt
 extracts4 c1 c2 c3 c4 means1 means2 means3 means4 g1 g2 g3 g4 (Some m) mid1 mid2 mid3 new h1 h2 h3 h4 =
     let j2 = next_extracts means2 g2 mid1 mid2 h1.0 h1.1 h2 in
@@ -101,5 +101,5 @@ extracts4 c1 c2 c3 c4 means1 means2 means3 means4 g1 g2 g3 g4 (Some m) mid1 mid2
     let last = joins2_within (Turned c3 g3) (Turned c3 m3) (Turned c4 g4) (Turned c4 m4) (turned_within c3 g3 m3 j3.2) (turned_within c4 g4 m4 j4.2) in
     let rest = joins2_within (Turned c2 g2) (Turned c2 m2) (Joins2 (Turned c3 g3) (Turned c4 g4)) (Joins2 (Turned c3 m3) (Turned c4 m4)) (turned_within c2 g2 m2 j2.2) last in
     let all = joins2_within (Turned c1 g1) (Turned c1 m1)
-        (Joins2 (Turned c2 g2) (Joins2 (Turned c3 g3) (Turned c4 g4))) (Joins2 (Turned c2 m2) (Joins2 (Turned c3 m3) (Turned c4 m4))) (turned_within c1 g1 m1 h1.2) rest in
+    (Joins2 (Turned c2 g2) (Joins2 (Turned c3 g3) (Turned c4 g4))) (Joins2 (Turned c2 m2) (Joins2 (Turned c3 m3) (Turned c4 m4))) (turned_within c1 g1 m1 h1.2) rest in
     (j4.0, j4.1, λ n x d. (h1.0, j2.0, j3.0, all n (nested4 x) d))

@@ -1,5 +1,5 @@
 -- Lists of lists and one list decide the same.
-use Rattle.std.proofs.Common.{◌≡◌, ℕ, Bool, true, false, max, ltb, cond, ◌<◌, ◌≤◌, List, [], ◌∷◌, refl, sym, ap, ◌∙◌, arith, ◌⊎◌, inl, inr, subst}
+use Rattle.std.proofs.Common.{◌≡◌, ℕ, Bool, true, false, max, ltb, cond, ◌<◌, ◌≤◌, [], ◌∷◌, refl, sym, ap, ◌∙◌, arith, ◌⊎◌, inl, inr}
 use Rattle.std.proofs.lemmas.Bool.{cases_lt, cond_below, cond_above}
 use Rattle.std.specs.Prelude.{⊤, Option, None, Some, Result, Ok, Err}
 use Rattle.web_reply.specs.Replies.{Fault}
@@ -101,11 +101,12 @@ node_there (Some p) (Some q) x y f g h = absurd (cond_some (ltb q.delay p.delay)
 
 abbrev node : {A B : Type 0} (a : Verdict A) (b : Verdict B) → Decision a → Decision b → Decision (list2 a b)
 node a b s t = record {
-    refusal = earlier s.refusal t.refusal;
-    delay = max s.delay t.delay;
-    values = values2 s.values t.values;
-    is = rw (s.is, t.is) (node_is s.refusal t.refusal s.delay t.delay s.values t.values s.there t.there);
-    there = node_there s.refusal t.refusal s.values t.values s.there t.there }
+  refusal = earlier s.refusal t.refusal;
+  delay = max s.delay t.delay;
+  values = values2 s.values t.values;
+  is = rw (s.is, t.is) (node_is s.refusal t.refusal s.delay t.delay s.values t.values s.there t.there);
+  there = node_there s.refusal t.refusal s.values t.values s.there t.there;
+}
 
 regrouped_is : {T U : Type 0} (f : T → U) (r : Option Refusal) (n : ℕ) (x : Result T Fault) → decided r n (grouped f x) ≡ regrouped f (decided r n x)
 regrouped_is f None n x = refl

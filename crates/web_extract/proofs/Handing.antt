@@ -1,6 +1,6 @@
 -- Marks that are handed on from place to place.
-use Rattle.std.proofs.Common.{◌≡◌, ℕ, suc, max, ◌↔◌, List, [], ◌∷◌, refl, sym, ap, ◌∙◌, ◌⊎◌, inl, inr, subst, arith}
-use Rattle.std.specs.Prelude.{Option, None, Some, Result, Ok, Err}
+use Rattle.std.proofs.Common.{◌≡◌, ℕ, max, List, refl, sym, ap, ◌∙◌, inl, inr, subst, arith}
+use Rattle.std.specs.Prelude.{Result, Ok, Err}
 use Rattle.web_request.specs.declared.source.Mark.{Mark}
 use Rattle.web_reply.specs.Replies.{Fault}
 use Rattle.web_extract.specs.Joined.{Coming, One, Joins1, Joins2, grouped, nested3, nested4}
@@ -104,9 +104,11 @@ decides3 {A} {B} {C} first second third m m1 m2 m3 a b c h1 h2 h3 =
     let all = joins_only g1 (Joins2 g2 g3) a (list2 b c) (only_at first m m1 a h1) (joins_only g2 g3 b c (only_at second m1 m2 b h2) (only_at third m2 m3 c h3)) in
     flat_exactly (Means3 first second third) (Means2 first rest) (λ v. (v.0, (v.1, v.2))) (λ v. (v.0, v.1.0, v.1.1)) (λ v. refl) m m3 (list3 a b c)
     (subst (λ (w : Verdict (A × (B × C))). Exactly (Means2 first rest) m m3 w) (three a b c)
-      (decides2 first rest m m1 m3 a (list2 b c) h1 (decides2 second third m1 m2 m3 b c h2 h3)))
-    (λ left n x d. (d.0,
-      joins2_within (first m d.0) (first m d.0) (Joins2 (second d.0 d.1) (third d.1 left)) (rest d.0 left) (λ k y h. h) (λ k y h. (d.1, h)) n (nested3 x) d.2))
+    (decides2 first rest m m1 m3 a (list2 b c) h1 (decides2 second third m1 m2 m3 b c h2 h3)))
+    (λ left n x d. (
+      d.0,
+      joins2_within (first m d.0) (first m d.0) (Joins2 (second d.0 d.1) (third d.1 left)) (rest d.0 left) (λ k y h. h) (λ k y h. (d.1, h)) n (nested3 x) d.2,
+    ))
     (m1, m2, subst (λ (w : Verdict (A × (B × C))). Joins2 g1 (Joins2 g2 g3) w.delay w.result) (three a b c) (comes (Joins2 g1 (Joins2 g2 g3)) (list2 a (list2 b c)) all))
 
 pub decides4 : {A B C D : Type 0} (first : Meaning A) (second : Meaning B) (third : Meaning C) (fourth : Meaning D) → Decides4 first second third fourth
@@ -118,15 +120,23 @@ decides4 {A} {B} {C} {D} first second third fourth m m1 m2 m3 m4 a b c d h1 h2 h
     let g3 = third m2 m3 in
     let g4 = fourth m3 m4 in
     let all = joins_only g1 (Joins2 g2 (Joins2 g3 g4)) a (list2 b (list2 c d)) (only_at first m m1 a h1)
-        (joins_only g2 (Joins2 g3 g4) b (list2 c d) (only_at second m1 m2 b h2) (joins_only g3 g4 c d (only_at third m2 m3 c h3) (only_at fourth m3 m4 d h4))) in
+    (joins_only g2 (Joins2 g3 g4) b (list2 c d) (only_at second m1 m2 b h2) (joins_only g3 g4 c d (only_at third m2 m3 c h3) (only_at fourth m3 m4 d h4))) in
     flat_exactly (Means4 first second third fourth) (Means2 first rest) (λ v. (v.0, (v.1, (v.2, v.3)))) (λ v. (v.0, v.1.0, v.1.1.0, v.1.1.1)) (λ v. refl) m m4 (list4 a b c d)
     (subst (λ (w : Verdict (A × (B × (C × D)))). Exactly (Means2 first rest) m m4 w) (right a b c d)
-      (decides2 first rest m m1 m4 a (list2 b (list2 c d)) h1
-        (decides2 second last m1 m2 m4 b (list2 c d) h2 (decides2 third fourth m2 m3 m4 c d h3 h4))))
-    (λ left n x e. (e.0,
+    (decides2 first rest m m1 m4 a (list2 b (list2 c d)) h1
+    (decides2 second last m1 m2 m4 b (list2 c d) h2 (decides2 third fourth m2 m3 m4 c d h3 h4))))
+    (λ left n x e. (
+      e.0,
       joins2_within (first m e.0) (first m e.0) (Joins2 (second e.0 e.1) (Joins2 (third e.1 e.2) (fourth e.2 left))) (rest e.0 left) (λ k y h. h)
-        (λ k y h. (e.1,
-          joins2_within (second e.0 e.1) (second e.0 e.1) (Joins2 (third e.1 e.2) (fourth e.2 left)) (last e.1 left) (λ i z j. j) (λ i z j. (e.2, j)) k y h))
-        n (nested4 x) e.3))
-    (m1, m2, m3, subst (λ (w : Verdict (A × (B × (C × D)))). Joins2 g1 (Joins2 g2 (Joins2 g3 g4)) w.delay w.result) (right a b c d)
-      (comes (Joins2 g1 (Joins2 g2 (Joins2 g3 g4))) (list2 a (list2 b (list2 c d))) all))
+          (λ k y h. (
+            e.1,
+            joins2_within (second e.0 e.1) (second e.0 e.1) (Joins2 (third e.1 e.2) (fourth e.2 left)) (last e.1 left) (λ i z j. j) (λ i z j. (e.2, j)) k y h,
+          ))
+          n (nested4 x) e.3,
+    )) (
+      m1,
+      m2,
+      m3,
+      subst (λ (w : Verdict (A × (B × (C × D)))). Joins2 g1 (Joins2 g2 (Joins2 g3 g4)) w.delay w.result) (right a b c d)
+          (comes (Joins2 g1 (Joins2 g2 (Joins2 g3 g4))) (list2 a (list2 b (list2 c d))) all),
+    )

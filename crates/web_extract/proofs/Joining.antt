@@ -1,10 +1,10 @@
 -- One poll of the places of an argument list.
-use Rattle.std.proofs.Common.{◌≡◌, ℕ, suc, max, ◌<◌, Bool, true, false, refl, sym, arith, ◌⊎◌, inl, inr, subst, ◌&&◌}
+use Rattle.std.proofs.Common.{◌≡◌, ℕ, suc, max, Bool, true, false, refl, sym, arith, inl, inr, subst, ◌&&◌}
 use Rattle.std.specs.Prelude.{Result, Ok, Err}
 use Rattle.web_body.specs.Polled.{GivesSome}
 use Rattle.web_reply.specs.Replies.{Fault}
 use Rattle.web_extract.specs.declared.place.Place.{Place}
-use Rattle.web_extract.specs.declared.place.Place.TheVariants.{Waiting, Done, Taken}
+use Rattle.web_extract.specs.declared.place.Place.TheVariants.{Done}
 use Rattle.web_extract.specs.Place.{place_finished, place_gives, place_some, Went}
 use Rattle.web_extract.specs.Joined.{Coming, Turned, RefusedBefore, Precedes, Joins2, Joins3, Joins4, nested3, nested4}
 use Rattle.web_extract.specs.Allowed.{Converted, turned_some}

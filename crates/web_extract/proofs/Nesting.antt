@@ -1,5 +1,5 @@
 -- Lists of lists.
-use Rattle.std.proofs.Common.{◌≡◌, ℕ, ◌↔◌, List, refl, sym, subst}
+use Rattle.std.proofs.Common.{◌≡◌, ℕ, List, refl, sym, subst}
 use Rattle.std.specs.Prelude.{Result, Ok, Err}
 use Rattle.web_request.specs.declared.source.Mark.{Mark}
 use Rattle.web_reply.specs.Replies.{Fault}

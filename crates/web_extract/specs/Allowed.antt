@@ -1,12 +1,12 @@
 -- An argument list allows some answer where each place does.
-use Rattle.std.specs.Prelude.{◌≡◌, ℕ, suc, ◌<◌, ◌≤◌, ◌⊎◌, ◌||◌, max, Bool, true, false, List, Result, Ok, Err, refl}
+use Rattle.std.specs.Prelude.{◌≡◌, ℕ, ◌<◌, ◌≤◌, ◌⊎◌, ◌||◌, max, Bool, true, false, List, Result, Ok, Err, refl}
 use Rattle.std.proofs.Common.{inl, inr, arith}
 use Rattle.std.proofs.lemmas.Bool.{cases_lt}
 use Rattle.web_request.specs.declared.source.Mark.{Mark}
 use Rattle.web_reply.specs.Replies.{Fault}
 use Rattle.web_body.specs.Polled.{GivesSome}
 use Rattle.web_extract.specs.Extracts.{AllowsSome}
-use Rattle.web_extract.specs.Joined.{Coming, Turned, One, Joins1, Joins2, Joins3, Joins4}
+use Rattle.web_extract.specs.Joined.{Coming, Turned, Joins1, Joins2, Joins3, Joins4}
 use Rattle.web_extract.specs.Lists.{Meaning, Member, Means1, Means2, Means3, Means4}
 
 -- each error turns into something

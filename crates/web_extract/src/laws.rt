@@ -11,7 +11,13 @@ use web_request::App;
 /// greatest delay. Each place gets the marks that the one before leaves, and the list leaves what the last place leaves.
 ///
 /// It does nothing.
-pub fn list_law<P: App, A: FromRequest<P>, B: FromRequest<P>, C: FromRequest<P>, D: FromRequest<P>>()
+pub fn list_law<
+    P: App,
+    A: FromRequest<P>,
+    B: FromRequest<P>,
+    C: FromRequest<P>,
+    D: FromRequest<P>,
+>()
     ensures one { (q : Request P.Layer P.Local P.Conn) → Decides1 (Member A.Error.converts (A.means q)) }
     ensures two { (q : Request P.Layer P.Local P.Conn) → Decides2 (Member A.Error.converts (A.means q)) (Member B.Error.converts (B.means q)) }
     ensures three { (q : Request P.Layer P.Local P.Conn) → Decides3 (Member A.Error.converts (A.means q))
@@ -24,7 +30,13 @@ pub fn list_law<P: App, A: FromRequest<P>, B: FromRequest<P>, C: FromRequest<P>,
 /// error and the same values, where each of them allows exactly one answer.
 ///
 /// It does nothing.
-pub fn nesting_law<P: App, A: FromRequest<P>, B: FromRequest<P>, C: FromRequest<P>, D: FromRequest<P>>()
+pub fn nesting_law<
+    P: App,
+    A: FromRequest<P>,
+    B: FromRequest<P>,
+    C: FromRequest<P>,
+    D: FromRequest<P>,
+>()
     ensures pairs { (q : Request P.Layer P.Local P.Conn) → AsList4 (Member A.Error.converts (A.means q)) (Member B.Error.converts (B.means q))
         (Member C.Error.converts (C.means q)) (Member D.Error.converts (D.means q))
         (λ v. ((v.0, v.1), (v.2, v.3))) (⟦<((A, B), (C, D)) as FromRequest<P>>⟧.means q) }

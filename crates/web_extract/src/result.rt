@@ -20,7 +20,8 @@ impl<Fut, E> Model for FromRequestResFuture<Fut, E> {
     ghost view = { λ f. f.fut };
 }
 
-impl<T: Drop, Ei: IntoSome<E> + Drop, E: Drop, Fut: Poll<Output = Result<T, Ei>>> Poll for FromRequestResFuture<Fut, E> {
+impl<T: Drop, Ei: IntoSome<E> + Drop, E: Drop, Fut: Poll<Output = Result<T, Ei>>> Poll
+    for FromRequestResFuture<Fut, E> {
     ghost use Rattle.web_extract.specs.Fallible.{GivesResult, result_some};
 
     type Output = Result<Result<T, E>, Never>;
