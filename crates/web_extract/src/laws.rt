@@ -1,10 +1,28 @@
 //! Laws of argument lists.
 ghost use Rattle.web_request.specs.Request.{Request};
 ghost use Rattle.web_extract.specs.Lists.{Member};
+ghost use Rattle.web_extract.specs.Never.{NeverRefuses};
 ghost use Rattle.web_extract.specs.Deciding.{Decides1, Decides2, Decides3, Decides4, AsList4};
 
 use crate::from_request::FromRequest;
+use crate::into_some::IntoSome;
+use crate::never::Never;
+use web_reply::Error;
 use web_request::App;
+
+/// Optional arguments are never refused, neither alone nor as a place of a list.
+///
+/// It does nothing.
+pub fn optional_law<P: App, T: FromRequest<P>, E: Drop>()
+where
+    T::Error: IntoSome<E>,
+    ensures option { (q : Request P.Layer P.Local P.Conn) → NeverRefuses (⟦<Option<T> as FromRequest<P>>⟧.means q) }
+    ensures result { (q : Request P.Layer P.Local P.Conn) → NeverRefuses (⟦<Result<T, E> as FromRequest<P>>⟧.means q) }
+    ensures option_place { (q : Request P.Layer P.Local P.Conn) → NeverRefuses
+        (Member ⟦<Never as Into<Error>>⟧.converts (⟦<Option<T> as FromRequest<P>>⟧.means q)) }
+    ensures result_place { (q : Request P.Layer P.Local P.Conn) → NeverRefuses
+        (Member ⟦<Never as Into<Error>>⟧.converts (⟦<Result<T, E> as FromRequest<P>>⟧.means q)) }
+{}
 
 /// What a list of one to four arguments means where each of them allows exactly one answer: where some place refuses, the
 /// refusing place of least delay decides, among equals the lowest place, with that delay; else all values come, with the

@@ -8,7 +8,10 @@ use web_request::{App, HttpRequest, NoMemory};
 
 /// No argument. It leaves the payload as it is.
 impl<A: App> FromRequest<A> for () {
-    ghost use Rattle.web_extract.specs.Ready.{MeansUnit, unit_some};
+    ghost use Rattle.std.specs.Prelude.{◌≡◌, IsOk, IfOk, false, is_none};
+    ghost use Rattle.web_body.specs.Payload.{payload_feed};
+    ghost use Rattle.web_extract.specs.Extracts.{Extracts};
+    ghost use Rattle.web_extract.specs.Ready.{GivesHeld, MeansUnit, unit_some};
     ghost use Rattle.web_extract.specs.Never.{never_converted};
 
     type Error = Never;
@@ -25,7 +28,13 @@ impl<A: App> FromRequest<A> for () {
         _alloc: Global,
         _req: &HttpRequest<A>,
         _payload: &mut Payload<A::Source>,
-    ) -> Result<Ready<Result<(), Never>>, NoMemory> {
+    ) -> Result<Ready<Result<(), Never>>, NoMemory>
+        ensures fresh { IfOk result (λ f. is_none f ≡ false) }
+        ensures extracts { IfOk result (λ f. Extracts (λ m rest n x. MeansUnit m rest n x) (λ n x. GivesHeld f n x)
+            (payload_feed A.Source.feed _payload.old).marks (payload_feed A.Source.feed _payload.new).marks) }
+        ensures ok { IsOk result }
+        ensures kept { _payload.new ≡ _payload.old }
+    {
         Ok(Ready::new(Ok(())))
     }
 }
