@@ -28,7 +28,8 @@ impl<T> Ready<T> {
 }
 
 impl<T: Drop> Poll for Ready<T> {
-    ghost use Rattle.std.specs.Prelude.{is_none};
+    ghost use Rattle.std.specs.Prelude.{◌≡◌, Some, false, is_none};
+    ghost use Rattle.web_body.specs.Polled.{Ends, IfReady, MatchStep, Shifts};
     ghost use Rattle.web_extract.specs.Ready.{GivesHeld, held_some};
 
     type Output = T;
@@ -43,7 +44,13 @@ impl<T: Drop> Poll for Ready<T> {
         self.value.is_none()
     }
 
-    fn poll(&mut self, _alloc: Global) -> Step<T> {
+    fn poll(&mut self, _alloc: Global) -> Step<T>
+        requires unfinished { is_none self.old ≡ false }
+        ensures ends { Ends result (is_none self.new) }
+        ensures value { IfReady result (λ x. GivesHeld self.old 0 x) }
+        ensures shift { Shifts result (λ n x. GivesHeld self.old n x) (λ n x. GivesHeld self.new n x) }
+        ensures comes { MatchStep result ⊥ (λ x. self.old ≡ Some x) ⊥ }
+    {
         match self.value.take() {
             Some(value) => Step::Ready(value),
             None => unreachable!(),
