@@ -6,7 +6,7 @@ use Rattle.web_reply.specs.Replies.{Fault}
 use Rattle.web_extract.specs.declared.place.Place.{Place}
 use Rattle.web_extract.specs.declared.place.Place.TheVariants.{Done}
 use Rattle.web_extract.specs.Place.{place_finished, place_gives, place_comes, Went}
-use Rattle.web_extract.specs.Joined.{Coming, Turned, RefusedBefore, Precedes, Joins2, Joins3, Joins4, nested3, nested4}
+use Rattle.web_extract.specs.Joined.{Coming, RefusedBefore, Precedes, Joins2, Joins3, Joins4, nested3, nested4}
 use Rattle.web_extract.specs.Allowed.{Converted, place_some}
 
 -- where the value is there, it came at this poll or before and comes at the next; else all comes one poll later

@@ -1,5 +1,5 @@
 -- Nested places and places side by side.
-use Rattle.std.proofs.Common.{◌≡◌, ℕ, suc, max, ◌<◌, ◌≤◌, refl, arith, ◌⊎◌, inl, inr, ◌↔◌}
+use Rattle.std.proofs.Common.{ℕ, suc, max, ◌<◌, ◌≤◌, refl, arith, ◌⊎◌, inl, inr}
 use Rattle.std.proofs.lemmas.Bool.{cases_lt}
 use Rattle.std.specs.Prelude.{Result, Ok, Err}
 use Rattle.web_reply.specs.Replies.{Fault}
@@ -67,8 +67,8 @@ module _ {A B : Type 0} (g : Coming A) (h : Coming B) where
 module _ {A B C : Type 0} (g1 : Coming A) (g2 : Coming B) (g3 : Coming C) where
   three_to : (n : ℕ) (x : Fault) → Joins3 g1 g2 g3 n (Err x) → Refuses3 g1 g2 g3 n x
   three_to n x (inl j) = inl (j.0, need_first g2 g3 n j.1, need_second g2 g3 n j.1)
-  three_to n x (inr (inl j , need)) = inr (inl (j.0, need, j.1))
-  three_to n x (inr (inr j , need)) = inr (inr (j.0, need, j.1))
+  three_to n x (inr (inl j, need)) = inr (inl (j.0, need, j.1))
+  three_to n x (inr (inr j, need)) = inr (inr (j.0, need, j.1))
 
   three_from : (n : ℕ) (x : Fault) → Refuses3 g1 g2 g3 n x → Joins3 g1 g2 g3 n (Err x)
   three_from n x (inl r) = inl (r.0, need_both g2 g3 n r.1 r.2)
@@ -89,9 +89,9 @@ module _ {A B C D : Type 0} (g1 : Coming A) (g2 : Coming B) (g3 : Coming C) (g4 
   four_to n x (inl j) =
       let last = need_second g2 (Joins2 g3 g4) n j.1 in
       inl (j.0, need_first g2 (Joins2 g3 g4) n j.1, need_first g3 g4 n last, need_second g3 g4 n last)
-  four_to n x (inr (inl j , need)) = inr (inl (j.0, need, need_first g3 g4 n j.1, need_second g3 g4 n j.1))
-  four_to n x (inr (inr (inl j , need') , need)) = inr (inr (inl (j.0, need, need', j.1)))
-  four_to n x (inr (inr (inr j , need') , need)) = inr (inr (inr (j.0, need, need', j.1)))
+  four_to n x (inr (inl j, need)) = inr (inl (j.0, need, need_first g3 g4 n j.1, need_second g3 g4 n j.1))
+  four_to n x (inr (inr (inl j, need'), need)) = inr (inr (inl (j.0, need, need', j.1)))
+  four_to n x (inr (inr (inr j, need'), need)) = inr (inr (inr (j.0, need, need', j.1)))
 
   four_from : (n : ℕ) (x : Fault) → Refuses4 g1 g2 g3 g4 n x → Joins4 g1 g2 g3 g4 n (Err x)
   four_from n x (inl r) = inl (r.0, need_both g2 (Joins2 g3 g4) n r.1 (need_both g3 g4 n r.2 r.3))

@@ -1,5 +1,5 @@
 -- Lists of three and four, said place by place.
-use Rattle.std.specs.Prelude.{◌≡◌, ℕ, suc, ◌⊎◌, ◌↔◌, [], ◌∷◌, Result, Ok, Err}
+use Rattle.std.specs.Prelude.{◌≡◌, ℕ, suc, ◌⊎◌, ◌↔◌, [], ◌∷◌, Ok, Err}
 use Rattle.web_reply.specs.Replies.{Fault}
 use Rattle.web_extract.specs.Deciding.{greatest}
 use Rattle.web_extract.specs.Joined.{Coming, Precedes, Joins3, Joins4}

@@ -12,14 +12,21 @@ use web_request::{App, HttpRequest, NoMemory};
 
 /// The future of four arguments. At each poll it polls those that are not there yet, in order.
 #[derive(Drop)]
-pub struct TupleFromRequest4<P: App, A: FromRequest<P>, B: FromRequest<P>, C: FromRequest<P>, D: FromRequest<P>> {
+pub struct TupleFromRequest4<
+    P: App,
+    A: FromRequest<P>,
+    B: FromRequest<P>,
+    C: FromRequest<P>,
+    D: FromRequest<P>,
+> {
     first: Place<A::Future, A>,
     second: Place<B::Future, B>,
     third: Place<C::Future, C>,
     fourth: Place<D::Future, D>,
 }
 
-impl<P: App, A: FromRequest<P>, B: FromRequest<P>, C: FromRequest<P>, D: FromRequest<P>> Poll for TupleFromRequest4<P, A, B, C, D> {
+impl<P: App, A: FromRequest<P>, B: FromRequest<P>, C: FromRequest<P>, D: FromRequest<P>> Poll
+    for TupleFromRequest4<P, A, B, C, D> {
     ghost use Rattle.web_extract.specs.Joined.{Joins4};
     ghost use Rattle.web_extract.specs.Allowed.{joins4_some, place_some, or_first, or_second};
 
@@ -46,7 +53,10 @@ impl<P: App, A: FromRequest<P>, B: FromRequest<P>, C: FromRequest<P>, D: FromReq
         (place_some D.Error.converts D.converted D.Future.is_finished D.Future.gives D.Future.some f.fourth (or_second _ _ h)) };
 
     fn finished(&self) -> bool {
-        self.first.finished() || self.second.finished() || self.third.finished() || self.fourth.finished()
+        self.first.finished()
+            || self.second.finished()
+            || self.third.finished()
+            || self.fourth.finished()
     }
 
     fn poll(&mut self, alloc: Global) -> Step<Result<(A, B, C, D), Error>> {
@@ -78,14 +88,22 @@ impl<P: App, A: FromRequest<P>, B: FromRequest<P>, C: FromRequest<P>, D: FromReq
         let third = mem::replace(&mut self.third, Place::Taken);
         let fourth = mem::replace(&mut self.fourth, Place::Taken);
         match (first, second, third, fourth) {
-            (Place::Done(a), Place::Done(b), Place::Done(c), Place::Done(d)) => Step::Ready(Ok((a, b, c, d))),
+            (Place::Done(a), Place::Done(b), Place::Done(c), Place::Done(d)) => Step::Ready(Ok((
+                a, b, c, d,
+            ))),
             _ => unreachable!(),
         }
     }
 }
 
 /// All four arguments. Each gets the payload as the one before left it.
-impl<P: App, A: FromRequest<P>, B: FromRequest<P>, C: FromRequest<P>, D: FromRequest<P>> FromRequest<P> for (A, B, C, D) {
+impl<
+    P: App,
+    A: FromRequest<P>,
+    B: FromRequest<P>,
+    C: FromRequest<P>,
+    D: FromRequest<P>,
+> FromRequest<P> for (A, B, C, D) {
     ghost use Rattle.web_extract.specs.Lists.{Member, Means4};
     ghost use Rattle.web_extract.specs.Allowed.{means4_some, member_some, itself};
 

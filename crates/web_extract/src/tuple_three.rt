@@ -18,7 +18,8 @@ pub struct TupleFromRequest3<P: App, A: FromRequest<P>, B: FromRequest<P>, C: Fr
     third: Place<C::Future, C>,
 }
 
-impl<P: App, A: FromRequest<P>, B: FromRequest<P>, C: FromRequest<P>> Poll for TupleFromRequest3<P, A, B, C> {
+impl<P: App, A: FromRequest<P>, B: FromRequest<P>, C: FromRequest<P>> Poll
+    for TupleFromRequest3<P, A, B, C> {
     ghost use Rattle.web_extract.specs.Joined.{Joins3};
     ghost use Rattle.web_extract.specs.Allowed.{joins3_some, place_some, or_first, or_second};
 

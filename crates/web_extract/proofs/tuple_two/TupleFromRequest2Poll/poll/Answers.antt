@@ -1,6 +1,5 @@
-use Rattle.std.proofs.Common.{◌≡◌, ℕ, sym, ◌∙◌, refl, inl, inr}
-use Rattle.web_extract.specs.Allowed.{place_some, or_first, or_second}
-use Rattle.web_extract.specs.Place.{place_comes}
+use Rattle.std.proofs.Common.{sym, ◌∙◌, refl, inl, inr}
+use Rattle.web_extract.specs.Allowed.{place_some, or_second}
 use Rattle.web_extract.proofs.Joining.{not_first, not_refused, moved, came, shifts2, all_two}
 use Rattle.web_extract.proofs.tuple_two.TupleFromRequest2Poll.poll.Goals as goal
 
@@ -24,6 +23,10 @@ returns-then-not-has_first-has_second-clause-shift g c =
 
 pub returns-clause-value : goal.returns-clause-value
 returns-clause-value g c =
-    let all = all_two c.in-Ok.has c.in-Ok-advance.has c.if-not-has_first-has_second.false in
-    (0, 0, came g.A.Future.Poll.gives g.A.Error.Into.converts _ c.advance.new.self c.in-Done-Done.a (rw all.0 at c.in-Ok.ensures.advances.1) (sym c.replace-first.ensures.value ∙ c.in-Done-Done.is-0),
-      came g.B.Future.Poll.gives g.B.Error.Into.converts _ c.advance-2.new.self c.in-Done-Done.b (rw all.1 at c.in-Ok-advance.ensures.advances.1) (sym c.replace-second.ensures.value ∙ c.in-Done-Done.is-1), refl)
+    let all = all_two c.in-Ok.has c.in-Ok-advance.has c.if-not-has_first-has_second.false in (
+      0,
+      0,
+      came g.A.Future.Poll.gives g.A.Error.Into.converts _ c.advance.new.self c.in-Done-Done.a (rw all.0 at c.in-Ok.ensures.advances.1) (sym c.replace-first.ensures.value ∙ c.in-Done-Done.is-0),
+      came g.B.Future.Poll.gives g.B.Error.Into.converts _ c.advance-2.new.self c.in-Done-Done.b (rw all.1 at c.in-Ok-advance.ensures.advances.1) (sym c.replace-second.ensures.value ∙ c.in-Done-Done.is-1),
+      refl,
+    )
