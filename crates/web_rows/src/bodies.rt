@@ -66,7 +66,11 @@ fn a_source_and_a_payload_give_mark_by_mark(rt: HostRuntime) -> Result<(), Fail>
 }
 
 /// Polls to the answer. It says how often the answer was `Pending` before.
-pub(crate) fn answer_of<F: Poll>(rt: &impl Abort, alloc: Global, mut future: F) -> (usize, F::Output) {
+pub(crate) fn answer_of<F: Poll>(
+    rt: &impl Abort,
+    alloc: Global,
+    mut future: F,
+) -> (usize, F::Output) {
     for stalls in 0..9 {
         if future.finished() {
             panic!(rt; "finished without an answer");
