@@ -5,9 +5,9 @@ use Rattle.web_body.specs.Polled.{GivesSome}
 use Rattle.web_reply.specs.Replies.{Fault}
 use Rattle.web_extract.specs.declared.place.Place.{Place}
 use Rattle.web_extract.specs.declared.place.Place.TheVariants.{Done}
-use Rattle.web_extract.specs.Place.{place_finished, place_gives, place_some, Went}
-use Rattle.web_extract.specs.Joined.{Coming, Turned, RefusedBefore, Precedes, Joins2, Joins3, Joins4, nested3, nested4}
-use Rattle.web_extract.specs.Allowed.{Converted, turned_some}
+use Rattle.web_extract.specs.Place.{place_finished, place_gives, place_comes, Went}
+use Rattle.web_extract.specs.Joined.{Coming, RefusedBefore, Precedes, Joins2, Joins3, Joins4, nested3, nested4}
+use Rattle.web_extract.specs.Allowed.{Converted, place_some}
 
 -- where the value is there, it came at this poll or before and comes at the next; else all comes one poll later
 abbrev pub Moved : {T : Type 0} → Bool → Coming T → Coming T → Type 0
@@ -15,15 +15,15 @@ Moved {T} true old new = (v : T) × old 0 (Ok v) × ((n : ℕ) (x : Result T Fau
 Moved {T} false old new = (n : ℕ) (x : Result T Fault) → new n x → old (suc n) x
 
 module _ {T E U : Type 0} (gives : U → ℕ → Result T E → Type 0) (c : E → Fault → Type 0) where
-  only_value : (p : Place U T) (v : T) → p ≡ Done v → (n : ℕ) (x : Result T Fault) → Turned c (place_gives gives p) n x → (n ≡ 0) × (x ≡ Ok v)
+  only_value : (p : Place U T) (v : T) → p ≡ Done v → (n : ℕ) (x : Result T Fault) → place_comes c gives p n x → (n ≡ 0) × (x ≡ Ok v)
   only_value p v e n (Ok u) h = let d = subst (λ (q : Place U T). place_gives gives q n (Ok u)) e h in let same : u ≡ v = cc (d.1) in (d.0, rw same refl)
   only_value p v e n (Err x) h = let d = subst (λ (q : Place U T). place_gives gives q n (Err h.0)) e h.1 in absurd (cc d.1)
 
-  later : (old new : Place U T) → Went gives old false new → (n : ℕ) (x : Result T Fault) → Turned c (place_gives gives new) n x → Turned c (place_gives gives old) (suc n) x
+  later : (old new : Place U T) → Went gives old false new → (n : ℕ) (x : Result T Fault) → place_comes c gives new n x → place_comes c gives old (suc n) x
   later old new w n (Ok v) h = w n (Ok v) h
   later old new w n (Err e) h = (h.0, w n (Err h.0) h.1, h.2)
 
-  pub moved : (has : Bool) (old new : Place U T) → Went gives old has new → Moved has (Turned c (place_gives gives old)) (Turned c (place_gives gives new))
+  pub moved : (has : Bool) (old new : Place U T) → Went gives old has new → Moved has (place_comes c gives old) (place_comes c gives new)
   moved true old new w = (w.0, w.2, only_value new w.0 w.1)
   moved false old new w = later old new w
 
@@ -58,10 +58,10 @@ module _ {T : Type 0} (old new : Coming T) where
 -- a place that was polled without a refusal does not precede one at the next poll
 pub not_refused : {T E U : Type 0} (finished : U → Bool) (gives : U → ℕ → Result T E → Type 0) → ((f : U) → finished f ≡ false → GivesSome (gives f))
     → (c : E → Fault → Type 0) → Converted c
-    → (has : Bool) (old new : Place U T) → place_finished finished new ≡ false → Went gives old has new → Precedes (Turned c (place_gives gives old)) 1 → ⊥
+    → (has : Bool) (old new : Place U T) → place_finished finished new ≡ false → Went gives old has new → Precedes (place_comes c gives old) 1 → ⊥
 not_refused finished gives some c t has old new h w =
-    moved_not_first (Turned c (place_gives gives old)) (Turned c (place_gives gives new)) has (moved gives c has old new w)
-    (turned_some c t (place_gives gives new) (place_some finished gives some new h))
+    moved_not_first (place_comes c gives old) (place_comes c gives new) has (moved gives c has old new w)
+    (place_some c t finished gives some new h)
 
 abbrev WhenLater : Bool → ℕ → ℕ → Type 0
 WhenLater true n k = (n ≡ 0) × (k ≡ 0)

@@ -6,6 +6,8 @@ use Rattle.web_request.specs.declared.source.Mark.{Mark}
 use Rattle.web_reply.specs.Replies.{Fault}
 use Rattle.web_body.specs.Polled.{GivesSome}
 use Rattle.web_extract.specs.Extracts.{AllowsSome}
+use Rattle.web_extract.specs.declared.place.Place.{Place}
+use Rattle.web_extract.specs.Place.{place_finished, place_gives, place_comes, unfinished_some}
 use Rattle.web_extract.specs.Joined.{Coming, Turned, Joins1, Joins2, Joins3, Joins4}
 use Rattle.web_extract.specs.Lists.{Meaning, Member, Means1, Means2, Means3, Means4}
 
@@ -25,8 +27,13 @@ turn : {T E : Type 0} (c : E → Fault → Type 0) → Converted c → (g : ℕ 
 turn c t g n (Ok v) h = (n, Ok v, h)
 turn c t g n (Err e) h = let x = t e in (n, Err x.0, (e, h, x.1))
 
-pub turned_some : {T E : Type 0} (c : E → Fault → Type 0) → Converted c → (g : ℕ → Result T E → Type 0) → GivesSome g → GivesSome (Turned c g)
+turned_some : {T E : Type 0} (c : E → Fault → Type 0) → Converted c → (g : ℕ → Result T E → Type 0) → GivesSome g → GivesSome (Turned c g)
 turned_some c t g some none = some (λ n x h. let j = turn c t g n x h in none j.0 j.1 j.2)
+
+pub place_some : {F T E : Type 0} (c : E → Fault → Type 0) → Converted c → (finished : F → Bool) (gives : F → ℕ → Result T E → Type 0)
+    → ((f : F) → finished f ≡ false → GivesSome (gives f))
+    → (p : Place F T) → place_finished finished p ≡ false → GivesSome (place_comes c gives p)
+place_some c t finished gives some p h = turned_some c t (place_gives gives p) (unfinished_some finished gives some p h)
 
 join1 : {A : Type 0} (g : Coming A) (n : ℕ) (x : Result A Fault) → g n x → Answer (Joins1 g)
 join1 g n (Ok a) h = (n, Ok record { 0 = a }, h)

@@ -7,5 +7,6 @@ pub mod Joined
 pub mod Lists
 pub mod Never
 pub mod Optional
+pub mod PerPlace
 pub mod Place
 pub mod Ready

@@ -1,6 +1,8 @@
 -- One place of an argument list.
 use Rattle.std.specs.Prelude.{◌≡◌, ℕ, suc, Bool, true, false, Result, Ok, Err, refl}
 use Rattle.web_body.specs.Polled.{GivesSome}
+use Rattle.web_reply.specs.Replies.{Fault}
+use Rattle.web_extract.specs.Joined.{Coming, Turned}
 use Rattle.web_extract.specs.declared.place.Stop.{Stop}
 use Rattle.web_extract.specs.declared.place.Stop.TheVariants.{Refused, NoRoom}
 use Rattle.web_extract.specs.declared.place.Place.{Place}
@@ -17,6 +19,10 @@ place_gives gives (Waiting f) n x = gives f n x
 place_gives gives (Done v) n x = (n ≡ 0) × (x ≡ Ok v)
 place_gives gives Taken n x = ⊥
 
+-- the same with the refusal turned
+abbrev pub place_comes : {F T E : Type 0} → (E → Fault → Type 0) → (F → ℕ → Result T E → Type 0) → Place F T → Coming T
+place_comes converts gives place = Turned converts (place_gives gives place)
+
 -- its value came at this poll or before
 abbrev pub IsDone : {F T E : Type 0} → (F → ℕ → Result T E → Type 0) → Place F T → Place F T → Type 0
 IsDone {F} {T} gives old new = (v : T) × (new ≡ Done v) × place_gives gives old 0 (Ok v)
@@ -32,9 +38,9 @@ Advances finished gives old (Ok here) new = (place_finished finished new ≡ fal
 Advances finished gives old (Err (Refused e)) new = (place_finished finished new ≡ true) × place_gives gives old 0 (Err e)
 Advances finished gives old (Err NoRoom) new = place_finished finished new ≡ true
 
-pub place_some : {F T E : Type 0} (finished : F → Bool) (gives : F → ℕ → Result T E → Type 0)
+pub unfinished_some : {F T E : Type 0} (finished : F → Bool) (gives : F → ℕ → Result T E → Type 0)
     → ((f : F) → finished f ≡ false → GivesSome (gives f))
     → (p : Place F T) → place_finished finished p ≡ false → GivesSome (place_gives gives p)
-place_some finished gives some (Waiting f) h = some f h
-place_some finished gives some (Done v) h = λ none. none 0 (Ok v) (refl, refl)
-place_some finished gives some Taken h = absurd cc
+unfinished_some finished gives some (Waiting f) h = some f h
+unfinished_some finished gives some (Done v) h = λ none. none 0 (Ok v) (refl, refl)
+unfinished_some finished gives some Taken h = absurd cc

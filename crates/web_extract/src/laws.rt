@@ -1,7 +1,10 @@
 //! Laws of argument lists.
+ghost use Rattle.std.specs.Prelude.{List};
 ghost use Rattle.web_request.specs.Request.{Request};
+ghost use Rattle.web_request.specs.declared.source.Mark.{Mark};
 ghost use Rattle.web_extract.specs.Lists.{Member};
 ghost use Rattle.web_extract.specs.Never.{NeverRefuses};
+ghost use Rattle.web_extract.specs.PerPlace.{PerPlace3, PerPlace4};
 ghost use Rattle.web_extract.specs.Deciding.{Decides1, Decides2, Decides3, Decides4, AsList4};
 
 use crate::from_request::FromRequest;
@@ -42,6 +45,24 @@ pub fn list_law<
         (Member B.Error.converts (B.means q)) (Member C.Error.converts (C.means q)) }
     ensures four { (q : Request P.Layer P.Local P.Conn) → Decides4 (Member A.Error.converts (A.means q))
         (Member B.Error.converts (B.means q)) (Member C.Error.converts (C.means q)) (Member D.Error.converts (D.means q)) }
+{}
+
+/// A list of three or four arguments said place by place, whatever they allow: all values come at the greatest delay; or a
+/// place refuses, and no lower place need have refused by then, and no higher one before. `m` to `m4` are the marks before
+/// and after each place.
+///
+/// It does nothing.
+pub fn place_law<
+    P: App,
+    A: FromRequest<P>,
+    B: FromRequest<P>,
+    C: FromRequest<P>,
+    D: FromRequest<P>,
+>()
+    ensures three { (q : Request P.Layer P.Local P.Conn) (m m1 m2 m3 : List Mark) → PerPlace3 (Member A.Error.converts (A.means q) m m1)
+        (Member B.Error.converts (B.means q) m1 m2) (Member C.Error.converts (C.means q) m2 m3) }
+    ensures four { (q : Request P.Layer P.Local P.Conn) (m m1 m2 m3 m4 : List Mark) → PerPlace4 (Member A.Error.converts (A.means q) m m1)
+        (Member B.Error.converts (B.means q) m1 m2) (Member C.Error.converts (C.means q) m2 m3) (Member D.Error.converts (D.means q) m3 m4) }
 {}
 
 /// Each nesting of four arguments in pairs, in the same order, decides as the list of four does: with the same delay, the same

@@ -18,7 +18,7 @@ mod unit;
 
 pub use from_request::FromRequest;
 pub use into_some::IntoSome;
-pub use laws::{list_law, nesting_law, optional_law};
+pub use laws::{list_law, nesting_law, optional_law, place_law};
 pub use never::Never;
 pub use option::FromRequestOptFuture;
 pub use ready::Ready;

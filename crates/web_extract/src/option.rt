@@ -9,7 +9,7 @@ use web_body::{Payload, Poll, Step};
 use web_request::{App, HttpRequest, NoMemory};
 
 /// The future of an argument that is `None` where it is refused.
-#[derive(Debug, Drop)]
+#[derive(Drop)]
 pub struct FromRequestOptFuture<Fut> {
     fut: Fut,
 }

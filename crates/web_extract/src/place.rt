@@ -6,7 +6,7 @@ use std::alloc::Global;
 use web_body::{Poll, Step};
 
 /// One place of an argument list.
-#[derive(Debug, Drop)]
+#[derive(Drop)]
 pub enum Place<Fut, T> {
     /// Its value is not there yet.
     Waiting(Fut),
@@ -17,7 +17,7 @@ pub enum Place<Fut, T> {
 }
 
 /// Why a place gives no value.
-#[derive(Debug, Drop)]
+#[derive(Drop)]
 pub enum Stop<E> {
     Refused(E),
     NoRoom,

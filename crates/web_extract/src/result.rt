@@ -8,7 +8,7 @@ use web_body::{Payload, Poll, Step};
 use web_request::{App, HttpRequest, NoMemory};
 
 /// The future of an argument that is the error where it is refused.
-#[derive(Debug, Drop)]
+#[derive(Drop)]
 pub struct FromRequestResFuture<Fut, E> {
     fut: Fut,
     error: PhantomData<E>,

@@ -1,6 +1,6 @@
 //! Four arguments.
 ghost use Rattle.std.specs.Prelude.{◌≡◌, ◌||◌};
-ghost use Rattle.web_extract.specs.Place.{place_finished, place_gives, place_some};
+ghost use Rattle.web_extract.specs.Place.{place_finished, place_comes};
 
 use crate::from_request::FromRequest;
 use crate::place::{Place, Stop};
@@ -27,28 +27,30 @@ pub struct TupleFromRequest4<
 
 impl<P: App, A: FromRequest<P>, B: FromRequest<P>, C: FromRequest<P>, D: FromRequest<P>> Poll
     for TupleFromRequest4<P, A, B, C, D> {
-    ghost use Rattle.web_extract.specs.Joined.{Turned, Joins4};
-    ghost use Rattle.web_extract.specs.Allowed.{joins4_some, turned_some, or_first, or_second};
+    ghost use Rattle.web_extract.specs.Joined.{Joins4};
+    ghost use Rattle.web_extract.specs.Allowed.{joins4_some, place_some, or_first, or_second};
 
     type Output = Result<(A, B, C, D), Error>;
 
-    ghost is_finished = { λ f. ((place_finished A.Future.is_finished f.first || place_finished B.Future.is_finished f.second) || place_finished C.Future.is_finished f.third) || place_finished D.Future.is_finished f.fourth };
+    ghost is_finished = { λ f. ((place_finished A.Future.is_finished f.first || place_finished B.Future.is_finished f.second)
+        || place_finished C.Future.is_finished f.third)
+        || place_finished D.Future.is_finished f.fourth };
 
     ghost gives = { λ f n x. Joins4
-        (Turned A.Error.converts (place_gives A.Future.gives f.first))
-        (Turned B.Error.converts (place_gives B.Future.gives f.second))
-        (Turned C.Error.converts (place_gives C.Future.gives f.third))
-        (Turned D.Error.converts (place_gives D.Future.gives f.fourth)) n x };
+        (place_comes A.Error.converts A.Future.gives f.first)
+        (place_comes B.Error.converts B.Future.gives f.second)
+        (place_comes C.Error.converts C.Future.gives f.third)
+        (place_comes D.Error.converts D.Future.gives f.fourth) n x };
 
     ghost some = { λ f h. joins4_some
-        (Turned A.Error.converts (place_gives A.Future.gives f.first))
-        (Turned B.Error.converts (place_gives B.Future.gives f.second))
-        (Turned C.Error.converts (place_gives C.Future.gives f.third))
-        (Turned D.Error.converts (place_gives D.Future.gives f.fourth))
-        (turned_some A.Error.converts A.converted (place_gives A.Future.gives f.first) (place_some A.Future.is_finished A.Future.gives A.Future.some f.first (or_first _ _ (or_first _ _ (or_first _ _ h)))))
-        (turned_some B.Error.converts B.converted (place_gives B.Future.gives f.second) (place_some B.Future.is_finished B.Future.gives B.Future.some f.second (or_second _ _ (or_first _ _ (or_first _ _ h)))))
-        (turned_some C.Error.converts C.converted (place_gives C.Future.gives f.third) (place_some C.Future.is_finished C.Future.gives C.Future.some f.third (or_second _ _ (or_first _ _ h))))
-        (turned_some D.Error.converts D.converted (place_gives D.Future.gives f.fourth) (place_some D.Future.is_finished D.Future.gives D.Future.some f.fourth (or_second _ _ h))) };
+        (place_comes A.Error.converts A.Future.gives f.first)
+        (place_comes B.Error.converts B.Future.gives f.second)
+        (place_comes C.Error.converts C.Future.gives f.third)
+        (place_comes D.Error.converts D.Future.gives f.fourth)
+        (place_some A.Error.converts A.converted A.Future.is_finished A.Future.gives A.Future.some f.first (or_first _ _ (or_first _ _ (or_first _ _ h))))
+        (place_some B.Error.converts B.converted B.Future.is_finished B.Future.gives B.Future.some f.second (or_second _ _ (or_first _ _ (or_first _ _ h))))
+        (place_some C.Error.converts C.converted C.Future.is_finished C.Future.gives C.Future.some f.third (or_second _ _ (or_first _ _ h)))
+        (place_some D.Error.converts D.converted D.Future.is_finished D.Future.gives D.Future.some f.fourth (or_second _ _ h)) };
 
     fn finished(&self) -> bool {
         self.first.finished()
@@ -109,9 +111,17 @@ impl<
 
     type Future = TupleFromRequest4<P, A, B, C, D>;
 
-    ghost means = { λ q m rest n x. Means4 (Member A.Error.converts (A.means q)) (Member B.Error.converts (B.means q)) (Member C.Error.converts (C.means q)) (Member D.Error.converts (D.means q)) m rest n x };
+    ghost means = { λ q m rest n x. Means4
+        (Member A.Error.converts (A.means q))
+        (Member B.Error.converts (B.means q))
+        (Member C.Error.converts (C.means q))
+        (Member D.Error.converts (D.means q)) m rest n x };
 
-    ghost some = { λ q m. means4_some (Member A.Error.converts (A.means q)) (Member B.Error.converts (B.means q)) (Member C.Error.converts (C.means q)) (Member D.Error.converts (D.means q))
+    ghost some = { λ q m. means4_some
+        (Member A.Error.converts (A.means q))
+        (Member B.Error.converts (B.means q))
+        (Member C.Error.converts (C.means q))
+        (Member D.Error.converts (D.means q))
         (member_some A.Error.converts A.converted (A.means q) (A.some q))
         (member_some B.Error.converts B.converted (B.means q) (B.some q))
         (member_some C.Error.converts C.converted (C.means q) (C.some q))

@@ -1,6 +1,6 @@
 //! One argument.
 ghost use Rattle.std.specs.Prelude.{◌≡◌};
-ghost use Rattle.web_extract.specs.Place.{place_finished, place_gives, place_some};
+ghost use Rattle.web_extract.specs.Place.{place_finished, place_comes};
 
 use crate::from_request::FromRequest;
 use crate::place::{Place, Stop};
@@ -17,19 +17,19 @@ pub struct TupleFromRequest1<P: App, A: FromRequest<P>> {
 }
 
 impl<P: App, A: FromRequest<P>> Poll for TupleFromRequest1<P, A> {
-    ghost use Rattle.web_extract.specs.Joined.{Turned, Joins1};
-    ghost use Rattle.web_extract.specs.Allowed.{joins1_some, turned_some};
+    ghost use Rattle.web_extract.specs.Joined.{Joins1};
+    ghost use Rattle.web_extract.specs.Allowed.{joins1_some, place_some};
 
     type Output = Result<(A,), Error>;
 
     ghost is_finished = { λ f. place_finished A.Future.is_finished f.first };
 
     ghost gives = { λ f n x. Joins1
-        (Turned A.Error.converts (place_gives A.Future.gives f.first)) n x };
+        (place_comes A.Error.converts A.Future.gives f.first) n x };
 
     ghost some = { λ f h. joins1_some
-        (Turned A.Error.converts (place_gives A.Future.gives f.first))
-        (turned_some A.Error.converts A.converted (place_gives A.Future.gives f.first) (place_some A.Future.is_finished A.Future.gives A.Future.some f.first h)) };
+        (place_comes A.Error.converts A.Future.gives f.first)
+        (place_some A.Error.converts A.converted A.Future.is_finished A.Future.gives A.Future.some f.first h) };
 
     fn finished(&self) -> bool {
         self.first.finished()

@@ -1,6 +1,6 @@
 //! Three arguments.
 ghost use Rattle.std.specs.Prelude.{◌≡◌, ◌||◌};
-ghost use Rattle.web_extract.specs.Place.{place_finished, place_gives, place_some};
+ghost use Rattle.web_extract.specs.Place.{place_finished, place_comes};
 
 use crate::from_request::FromRequest;
 use crate::place::{Place, Stop};
@@ -20,25 +20,26 @@ pub struct TupleFromRequest3<P: App, A: FromRequest<P>, B: FromRequest<P>, C: Fr
 
 impl<P: App, A: FromRequest<P>, B: FromRequest<P>, C: FromRequest<P>> Poll
     for TupleFromRequest3<P, A, B, C> {
-    ghost use Rattle.web_extract.specs.Joined.{Turned, Joins3};
-    ghost use Rattle.web_extract.specs.Allowed.{joins3_some, turned_some, or_first, or_second};
+    ghost use Rattle.web_extract.specs.Joined.{Joins3};
+    ghost use Rattle.web_extract.specs.Allowed.{joins3_some, place_some, or_first, or_second};
 
     type Output = Result<(A, B, C), Error>;
 
-    ghost is_finished = { λ f. (place_finished A.Future.is_finished f.first || place_finished B.Future.is_finished f.second) || place_finished C.Future.is_finished f.third };
+    ghost is_finished = { λ f. (place_finished A.Future.is_finished f.first || place_finished B.Future.is_finished f.second)
+        || place_finished C.Future.is_finished f.third };
 
     ghost gives = { λ f n x. Joins3
-        (Turned A.Error.converts (place_gives A.Future.gives f.first))
-        (Turned B.Error.converts (place_gives B.Future.gives f.second))
-        (Turned C.Error.converts (place_gives C.Future.gives f.third)) n x };
+        (place_comes A.Error.converts A.Future.gives f.first)
+        (place_comes B.Error.converts B.Future.gives f.second)
+        (place_comes C.Error.converts C.Future.gives f.third) n x };
 
     ghost some = { λ f h. joins3_some
-        (Turned A.Error.converts (place_gives A.Future.gives f.first))
-        (Turned B.Error.converts (place_gives B.Future.gives f.second))
-        (Turned C.Error.converts (place_gives C.Future.gives f.third))
-        (turned_some A.Error.converts A.converted (place_gives A.Future.gives f.first) (place_some A.Future.is_finished A.Future.gives A.Future.some f.first (or_first _ _ (or_first _ _ h))))
-        (turned_some B.Error.converts B.converted (place_gives B.Future.gives f.second) (place_some B.Future.is_finished B.Future.gives B.Future.some f.second (or_second _ _ (or_first _ _ h))))
-        (turned_some C.Error.converts C.converted (place_gives C.Future.gives f.third) (place_some C.Future.is_finished C.Future.gives C.Future.some f.third (or_second _ _ h))) };
+        (place_comes A.Error.converts A.Future.gives f.first)
+        (place_comes B.Error.converts B.Future.gives f.second)
+        (place_comes C.Error.converts C.Future.gives f.third)
+        (place_some A.Error.converts A.converted A.Future.is_finished A.Future.gives A.Future.some f.first (or_first _ _ (or_first _ _ h)))
+        (place_some B.Error.converts B.converted B.Future.is_finished B.Future.gives B.Future.some f.second (or_second _ _ (or_first _ _ h)))
+        (place_some C.Error.converts C.converted C.Future.is_finished C.Future.gives C.Future.some f.third (or_second _ _ h)) };
 
     fn finished(&self) -> bool {
         self.first.finished() || self.second.finished() || self.third.finished()
@@ -82,9 +83,15 @@ impl<P: App, A: FromRequest<P>, B: FromRequest<P>, C: FromRequest<P>> FromReques
 
     type Future = TupleFromRequest3<P, A, B, C>;
 
-    ghost means = { λ q m rest n x. Means3 (Member A.Error.converts (A.means q)) (Member B.Error.converts (B.means q)) (Member C.Error.converts (C.means q)) m rest n x };
+    ghost means = { λ q m rest n x. Means3
+        (Member A.Error.converts (A.means q))
+        (Member B.Error.converts (B.means q))
+        (Member C.Error.converts (C.means q)) m rest n x };
 
-    ghost some = { λ q m. means3_some (Member A.Error.converts (A.means q)) (Member B.Error.converts (B.means q)) (Member C.Error.converts (C.means q))
+    ghost some = { λ q m. means3_some
+        (Member A.Error.converts (A.means q))
+        (Member B.Error.converts (B.means q))
+        (Member C.Error.converts (C.means q))
         (member_some A.Error.converts A.converted (A.means q) (A.some q))
         (member_some B.Error.converts B.converted (B.means q) (B.some q))
         (member_some C.Error.converts C.converted (C.means q) (C.some q)) m };

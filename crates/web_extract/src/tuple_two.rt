@@ -1,6 +1,6 @@
 //! Two arguments.
 ghost use Rattle.std.specs.Prelude.{◌≡◌, ◌||◌};
-ghost use Rattle.web_extract.specs.Place.{place_finished, place_gives, place_some};
+ghost use Rattle.web_extract.specs.Place.{place_finished, place_comes};
 
 use crate::from_request::FromRequest;
 use crate::place::{Place, Stop};
@@ -18,22 +18,22 @@ pub struct TupleFromRequest2<P: App, A: FromRequest<P>, B: FromRequest<P>> {
 }
 
 impl<P: App, A: FromRequest<P>, B: FromRequest<P>> Poll for TupleFromRequest2<P, A, B> {
-    ghost use Rattle.web_extract.specs.Joined.{Turned, Joins2};
-    ghost use Rattle.web_extract.specs.Allowed.{joins2_some, turned_some, or_first, or_second};
+    ghost use Rattle.web_extract.specs.Joined.{Joins2};
+    ghost use Rattle.web_extract.specs.Allowed.{joins2_some, place_some, or_first, or_second};
 
     type Output = Result<(A, B), Error>;
 
     ghost is_finished = { λ f. place_finished A.Future.is_finished f.first || place_finished B.Future.is_finished f.second };
 
     ghost gives = { λ f n x. Joins2
-        (Turned A.Error.converts (place_gives A.Future.gives f.first))
-        (Turned B.Error.converts (place_gives B.Future.gives f.second)) n x };
+        (place_comes A.Error.converts A.Future.gives f.first)
+        (place_comes B.Error.converts B.Future.gives f.second) n x };
 
     ghost some = { λ f h. joins2_some
-        (Turned A.Error.converts (place_gives A.Future.gives f.first))
-        (Turned B.Error.converts (place_gives B.Future.gives f.second))
-        (turned_some A.Error.converts A.converted (place_gives A.Future.gives f.first) (place_some A.Future.is_finished A.Future.gives A.Future.some f.first (or_first _ _ h)))
-        (turned_some B.Error.converts B.converted (place_gives B.Future.gives f.second) (place_some B.Future.is_finished B.Future.gives B.Future.some f.second (or_second _ _ h))) };
+        (place_comes A.Error.converts A.Future.gives f.first)
+        (place_comes B.Error.converts B.Future.gives f.second)
+        (place_some A.Error.converts A.converted A.Future.is_finished A.Future.gives A.Future.some f.first (or_first _ _ h))
+        (place_some B.Error.converts B.converted B.Future.is_finished B.Future.gives B.Future.some f.second (or_second _ _ h)) };
 
     fn finished(&self) -> bool {
         self.first.finished() || self.second.finished()

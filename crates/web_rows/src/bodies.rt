@@ -66,7 +66,11 @@ fn a_source_and_a_payload_give_mark_by_mark(rt: HostRuntime) -> Result<(), Fail>
 }
 
 /// Polls to the answer. It says how often the answer was `Pending` before.
-fn answer_of<F: Poll>(rt: &impl Abort, alloc: Global, mut future: F) -> (usize, F::Output) {
+pub(crate) fn answer_of<F: Poll>(
+    rt: &impl Abort,
+    alloc: Global,
+    mut future: F,
+) -> (usize, F::Output) {
     for stalls in 0..9 {
         if future.finished() {
             panic!(rt; "finished without an answer");
@@ -154,7 +158,7 @@ fn a_body_is_collected_up_to_its_limit(rt: HostRuntime) -> Result<(), Fail> {
 }
 
 /// Makes a value of a request and its payload, by the trait alone.
-fn value_of<T: FromRequest<Demo>>(
+pub(crate) fn value_of<T: FromRequest<Demo>>(
     rt: &impl Abort,
     alloc: Global,
     request: &HttpRequest<Demo>,
@@ -165,7 +169,7 @@ fn value_of<T: FromRequest<Demo>>(
 }
 
 /// Makes a value of a request alone, by the trait alone.
-fn value_alone<T: FromRequest<Demo>>(
+pub(crate) fn value_alone<T: FromRequest<Demo>>(
     rt: &impl Abort,
     alloc: Global,
     request: &HttpRequest<Demo>,

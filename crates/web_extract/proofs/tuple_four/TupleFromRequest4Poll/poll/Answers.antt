@@ -1,7 +1,7 @@
 use Rattle.std.proofs.Common.{sym, ◌∙◌, refl, inl, inr}
-use Rattle.web_extract.specs.Allowed.{joins2_some, turned_some, or_first, or_second}
-use Rattle.web_extract.specs.Joined.{Turned, Joins2}
-use Rattle.web_extract.specs.Place.{place_gives, place_some}
+use Rattle.web_extract.specs.Allowed.{joins2_some, place_some, or_first, or_second}
+use Rattle.web_extract.specs.Joined.{Joins2}
+use Rattle.web_extract.specs.Place.{place_comes}
 use Rattle.web_extract.proofs.Joining.{not_first, not_refused, moved, came, shifts4, and_four, all_four}
 use Rattle.web_extract.proofs.tuple_four.TupleFromRequest4Poll.poll.Goals as goal
 
@@ -10,14 +10,11 @@ returns-in-Err-Refused-clause-value g c =
     let h = rw c.in-Err-Refused.field-0-is at c.in-Err-Refused.ensures.advances in
     inl (
       (c.in-Err-Refused.e, h.1, rw c.in-Err-Refused.e-is at c.into.ensures),
-      not_first _ (joins2_some (Turned g.B.Error.Into.converts (place_gives g.B.Future.Poll.gives c.args.self.now.second)) (Joins2 (Turned g.C.Error.Into.converts (place_gives g.C.Future.Poll.gives c.args.self.now.third)) (Turned g.D.Error.Into.converts (place_gives g.D.Future.Poll.gives c.args.self.now.fourth)))
-          (turned_some g.B.Error.Into.converts g.met.B.FromRequest.converted (place_gives g.B.Future.Poll.gives c.args.self.now.second)
-          (place_some g.B.Future.Poll.is_finished g.B.Future.Poll.gives g.met.B.Future.Poll.some c.args.self.now.second (or_second _ _ (or_first _ _ (or_first _ _ c.requires.unfinished)))))
-          (joins2_some (Turned g.C.Error.Into.converts (place_gives g.C.Future.Poll.gives c.args.self.now.third)) (Turned g.D.Error.Into.converts (place_gives g.D.Future.Poll.gives c.args.self.now.fourth))
-          (turned_some g.C.Error.Into.converts g.met.C.FromRequest.converted (place_gives g.C.Future.Poll.gives c.args.self.now.third)
-          (place_some g.C.Future.Poll.is_finished g.C.Future.Poll.gives g.met.C.Future.Poll.some c.args.self.now.third (or_second _ _ (or_first _ _ c.requires.unfinished))))
-          (turned_some g.D.Error.Into.converts g.met.D.FromRequest.converted (place_gives g.D.Future.Poll.gives c.args.self.now.fourth)
-          (place_some g.D.Future.Poll.is_finished g.D.Future.Poll.gives g.met.D.Future.Poll.some c.args.self.now.fourth (or_second _ _ c.requires.unfinished))))),
+      not_first _ (joins2_some (place_comes g.B.Error.Into.converts g.B.Future.Poll.gives c.args.self.now.second) (Joins2 (place_comes g.C.Error.Into.converts g.C.Future.Poll.gives c.args.self.now.third) (place_comes g.D.Error.Into.converts g.D.Future.Poll.gives c.args.self.now.fourth))
+          (place_some g.B.Error.Into.converts g.met.B.FromRequest.converted g.B.Future.Poll.is_finished g.B.Future.Poll.gives g.met.B.Future.Poll.some c.args.self.now.second (or_second _ _ (or_first _ _ (or_first _ _ c.requires.unfinished))))
+          (joins2_some (place_comes g.C.Error.Into.converts g.C.Future.Poll.gives c.args.self.now.third) (place_comes g.D.Error.Into.converts g.D.Future.Poll.gives c.args.self.now.fourth)
+          (place_some g.C.Error.Into.converts g.met.C.FromRequest.converted g.C.Future.Poll.is_finished g.C.Future.Poll.gives g.met.C.Future.Poll.some c.args.self.now.third (or_second _ _ (or_first _ _ c.requires.unfinished)))
+          (place_some g.D.Error.Into.converts g.met.D.FromRequest.converted g.D.Future.Poll.is_finished g.D.Future.Poll.gives g.met.D.Future.Poll.some c.args.self.now.fourth (or_second _ _ c.requires.unfinished)))),
     )
 
 pub returns-in-Err-Refused-advance-clause-value : goal.returns-in-Err-Refused-advance-clause-value
@@ -27,11 +24,9 @@ returns-in-Err-Refused-advance-clause-value g c =
     inr (
       inl (
         (c.in-Err-Refused-advance.e, h.1, rw c.in-Err-Refused-advance.e-is at c.into-in-Err-Refused-advance.ensures),
-        not_first _ (joins2_some (Turned g.C.Error.Into.converts (place_gives g.C.Future.Poll.gives c.args.self.now.third)) (Turned g.D.Error.Into.converts (place_gives g.D.Future.Poll.gives c.args.self.now.fourth))
-            (turned_some g.C.Error.Into.converts g.met.C.FromRequest.converted (place_gives g.C.Future.Poll.gives c.args.self.now.third)
-            (place_some g.C.Future.Poll.is_finished g.C.Future.Poll.gives g.met.C.Future.Poll.some c.args.self.now.third (or_second _ _ (or_first _ _ c.requires.unfinished))))
-            (turned_some g.D.Error.Into.converts g.met.D.FromRequest.converted (place_gives g.D.Future.Poll.gives c.args.self.now.fourth)
-            (place_some g.D.Future.Poll.is_finished g.D.Future.Poll.gives g.met.D.Future.Poll.some c.args.self.now.fourth (or_second _ _ c.requires.unfinished)))),
+        not_first _ (joins2_some (place_comes g.C.Error.Into.converts g.C.Future.Poll.gives c.args.self.now.third) (place_comes g.D.Error.Into.converts g.D.Future.Poll.gives c.args.self.now.fourth)
+            (place_some g.C.Error.Into.converts g.met.C.FromRequest.converted g.C.Future.Poll.is_finished g.C.Future.Poll.gives g.met.C.Future.Poll.some c.args.self.now.third (or_second _ _ (or_first _ _ c.requires.unfinished)))
+            (place_some g.D.Error.Into.converts g.met.D.FromRequest.converted g.D.Future.Poll.is_finished g.D.Future.Poll.gives g.met.D.Future.Poll.some c.args.self.now.fourth (or_second _ _ c.requires.unfinished))),
       ),
       not0,
     )
@@ -41,17 +36,7 @@ returns-in-Err-Refused-advance-2-clause-value g c =
     let h = rw c.in-Err-Refused-advance-2.field-0-is at c.in-Err-Refused-advance-2.ensures.advances in
     let not0 = not_refused g.A.Future.Poll.is_finished g.A.Future.Poll.gives g.met.A.Future.Poll.some g.A.Error.Into.converts g.met.A.FromRequest.converted c.in-Ok.has _ _ c.in-Ok.ensures.advances.0 c.in-Ok.ensures.advances.1 in
     let not1 = not_refused g.B.Future.Poll.is_finished g.B.Future.Poll.gives g.met.B.Future.Poll.some g.B.Error.Into.converts g.met.B.FromRequest.converted c.in-Ok-advance.has _ _ c.in-Ok-advance.ensures.advances.0 c.in-Ok-advance.ensures.advances.1 in
-    inr (
-      inr (
-        inl (
-          (c.in-Err-Refused-advance-2.e, h.1, rw c.in-Err-Refused-advance-2.e-is at c.into-in-Err-Refused-advance-2.ensures),
-          not_first _ (turned_some g.D.Error.Into.converts g.met.D.FromRequest.converted (place_gives g.D.Future.Poll.gives c.args.self.now.fourth)
-              (place_some g.D.Future.Poll.is_finished g.D.Future.Poll.gives g.met.D.Future.Poll.some c.args.self.now.fourth (or_second _ _ c.requires.unfinished))),
-        ),
-        not1,
-      ),
-      not0,
-    )
+    inr (inr (inl ((c.in-Err-Refused-advance-2.e, h.1, rw c.in-Err-Refused-advance-2.e-is at c.into-in-Err-Refused-advance-2.ensures), not_first _ (place_some g.D.Error.Into.converts g.met.D.FromRequest.converted g.D.Future.Poll.is_finished g.D.Future.Poll.gives g.met.D.Future.Poll.some c.args.self.now.fourth (or_second _ _ c.requires.unfinished))), not1), not0)
 
 pub returns-in-Err-Refused-advance-3-clause-value : goal.returns-in-Err-Refused-advance-3-clause-value
 returns-in-Err-Refused-advance-3-clause-value g c =

@@ -1,7 +1,6 @@
 use Rattle.std.proofs.Common.{sym, ◌∙◌, refl, inl, inr}
-use Rattle.web_extract.specs.Allowed.{joins2_some, turned_some, or_first, or_second}
-use Rattle.web_extract.specs.Joined.{Turned}
-use Rattle.web_extract.specs.Place.{place_gives, place_some}
+use Rattle.web_extract.specs.Allowed.{joins2_some, place_some, or_first, or_second}
+use Rattle.web_extract.specs.Place.{place_comes}
 use Rattle.web_extract.proofs.Joining.{not_first, not_refused, moved, came, shifts3, and_three, all_three}
 use Rattle.web_extract.proofs.tuple_three.TupleFromRequest3Poll.poll.Goals as goal
 
@@ -10,25 +9,16 @@ returns-in-Err-Refused-clause-value g c =
     let h = rw c.in-Err-Refused.field-0-is at c.in-Err-Refused.ensures.advances in
     inl (
       (c.in-Err-Refused.e, h.1, rw c.in-Err-Refused.e-is at c.into.ensures),
-      not_first _ (joins2_some (Turned g.B.Error.Into.converts (place_gives g.B.Future.Poll.gives c.args.self.now.second)) (Turned g.C.Error.Into.converts (place_gives g.C.Future.Poll.gives c.args.self.now.third))
-          (turned_some g.B.Error.Into.converts g.met.B.FromRequest.converted (place_gives g.B.Future.Poll.gives c.args.self.now.second)
-          (place_some g.B.Future.Poll.is_finished g.B.Future.Poll.gives g.met.B.Future.Poll.some c.args.self.now.second (or_second _ _ (or_first _ _ c.requires.unfinished))))
-          (turned_some g.C.Error.Into.converts g.met.C.FromRequest.converted (place_gives g.C.Future.Poll.gives c.args.self.now.third)
-          (place_some g.C.Future.Poll.is_finished g.C.Future.Poll.gives g.met.C.Future.Poll.some c.args.self.now.third (or_second _ _ c.requires.unfinished)))),
+      not_first _ (joins2_some (place_comes g.B.Error.Into.converts g.B.Future.Poll.gives c.args.self.now.second) (place_comes g.C.Error.Into.converts g.C.Future.Poll.gives c.args.self.now.third)
+          (place_some g.B.Error.Into.converts g.met.B.FromRequest.converted g.B.Future.Poll.is_finished g.B.Future.Poll.gives g.met.B.Future.Poll.some c.args.self.now.second (or_second _ _ (or_first _ _ c.requires.unfinished)))
+          (place_some g.C.Error.Into.converts g.met.C.FromRequest.converted g.C.Future.Poll.is_finished g.C.Future.Poll.gives g.met.C.Future.Poll.some c.args.self.now.third (or_second _ _ c.requires.unfinished))),
     )
 
 pub returns-in-Err-Refused-advance-clause-value : goal.returns-in-Err-Refused-advance-clause-value
 returns-in-Err-Refused-advance-clause-value g c =
     let h = rw c.in-Err-Refused-advance.field-0-is at c.in-Err-Refused-advance.ensures.advances in
     let not0 = not_refused g.A.Future.Poll.is_finished g.A.Future.Poll.gives g.met.A.Future.Poll.some g.A.Error.Into.converts g.met.A.FromRequest.converted c.in-Ok.has _ _ c.in-Ok.ensures.advances.0 c.in-Ok.ensures.advances.1 in
-    inr (
-      inl (
-        (c.in-Err-Refused-advance.e, h.1, rw c.in-Err-Refused-advance.e-is at c.into-in-Err-Refused-advance.ensures),
-        not_first _ (turned_some g.C.Error.Into.converts g.met.C.FromRequest.converted (place_gives g.C.Future.Poll.gives c.args.self.now.third)
-            (place_some g.C.Future.Poll.is_finished g.C.Future.Poll.gives g.met.C.Future.Poll.some c.args.self.now.third (or_second _ _ c.requires.unfinished))),
-      ),
-      not0,
-    )
+    inr (inl ((c.in-Err-Refused-advance.e, h.1, rw c.in-Err-Refused-advance.e-is at c.into-in-Err-Refused-advance.ensures), not_first _ (place_some g.C.Error.Into.converts g.met.C.FromRequest.converted g.C.Future.Poll.is_finished g.C.Future.Poll.gives g.met.C.Future.Poll.some c.args.self.now.third (or_second _ _ c.requires.unfinished))), not0)
 
 pub returns-in-Err-Refused-advance-2-clause-value : goal.returns-in-Err-Refused-advance-2-clause-value
 returns-in-Err-Refused-advance-2-clause-value g c =

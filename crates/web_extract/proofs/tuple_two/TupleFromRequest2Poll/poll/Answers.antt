@@ -1,17 +1,12 @@
 use Rattle.std.proofs.Common.{sym, ◌∙◌, refl, inl, inr}
-use Rattle.web_extract.specs.Allowed.{turned_some, or_second}
-use Rattle.web_extract.specs.Place.{place_gives, place_some}
+use Rattle.web_extract.specs.Allowed.{place_some, or_second}
 use Rattle.web_extract.proofs.Joining.{not_first, not_refused, moved, came, shifts2, all_two}
 use Rattle.web_extract.proofs.tuple_two.TupleFromRequest2Poll.poll.Goals as goal
 
 pub returns-in-Err-Refused-clause-value : goal.returns-in-Err-Refused-clause-value
 returns-in-Err-Refused-clause-value g c =
     let h = rw c.in-Err-Refused.field-0-is at c.in-Err-Refused.ensures.advances in
-    inl (
-      (c.in-Err-Refused.e, h.1, rw c.in-Err-Refused.e-is at c.into.ensures),
-      not_first _ (turned_some g.B.Error.Into.converts g.met.B.FromRequest.converted (place_gives g.B.Future.Poll.gives c.args.self.now.second)
-          (place_some g.B.Future.Poll.is_finished g.B.Future.Poll.gives g.met.B.Future.Poll.some c.args.self.now.second (or_second _ _ c.requires.unfinished))),
-    )
+    inl ((c.in-Err-Refused.e, h.1, rw c.in-Err-Refused.e-is at c.into.ensures), not_first _ (place_some g.B.Error.Into.converts g.met.B.FromRequest.converted g.B.Future.Poll.is_finished g.B.Future.Poll.gives g.met.B.Future.Poll.some c.args.self.now.second (or_second _ _ c.requires.unfinished)))
 
 pub returns-in-Err-Refused-advance-clause-value : goal.returns-in-Err-Refused-advance-clause-value
 returns-in-Err-Refused-advance-clause-value g c =
