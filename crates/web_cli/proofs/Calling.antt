@@ -20,9 +20,9 @@ use Rattle.web_worker.specs.Exchanges.{Asked as Exchanged, request_of}
 use Rattle.web_worker.specs.Answers.{rules_of}
 use Rattle.web_worker.specs.Called.{ArgsOnce, CalledByFunctions, call_at, calls_from, calls_of}
 use Rattle.web_worker.specs.Served.{polls, lacks_memory}
-use Rattle.web_cli.specs.declared.demo.DemoLayer.{DemoLayer}
-use Rattle.web_cli.specs.declared.demo.DemoLocal.{DemoLocal}
-use Rattle.web_cli.specs.declared.demo.DemoConn.{DemoConn}
+use Rattle.web_cli.specs.declared.demo.app.DemoLayer.{DemoLayer}
+use Rattle.web_cli.specs.declared.demo.app.DemoLocal.{DemoLocal}
+use Rattle.web_cli.specs.declared.demo.app.DemoConn.{DemoConn}
 use Rattle.web_cli.specs.Asked.{Asked}
 use Rattle.web_cli.specs.Demo.{DemoRequest, demo_config, exchange_asked, exchanges_asked}
 use Rattle.web_cli.specs.Due.{arguments_of, calls_to}

@@ -14,7 +14,7 @@ use Rattle.web_worker.specs.Exchanges.{request_of}
 use Rattle.web_worker.specs.Answers.{rules_of, After, Replies, ComesBefore, RepliesBefore}
 use Rattle.web_worker.specs.Called.{ArgsOnce}
 use Rattle.web_worker.specs.Function.{AnswersOnce}
-use Rattle.web_cli.specs.declared.demo.DemoLayer.{DemoLayer}
+use Rattle.web_cli.specs.declared.demo.app.DemoLayer.{DemoLayer}
 use Rattle.web_cli.specs.Asked.{Asked}
 use Rattle.web_cli.specs.Demo.{DemoRequest, demo_config, exchange_asked, request_asked}
 use Rattle.web_cli.specs.Due.{arguments_of}

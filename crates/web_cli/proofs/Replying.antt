@@ -19,9 +19,9 @@ use Rattle.web_worker.specs.Called.{ArgsOnce, CalledByFunctions, call_at, calls_
 use Rattle.web_worker.specs.Function.{IsOutcome}
 use Rattle.web_worker.specs.Served.{polls, EachFrom, outcome_of, named_from, named, lacks_memory, Allowed, Served}
 use Rattle.web_worker.proofs.Outcomes.{outcome_is}
-use Rattle.web_cli.specs.declared.demo.DemoLayer.{DemoLayer}
-use Rattle.web_cli.specs.declared.demo.DemoLocal.{DemoLocal}
-use Rattle.web_cli.specs.declared.demo.DemoConn.{DemoConn}
+use Rattle.web_cli.specs.declared.demo.app.DemoLayer.{DemoLayer}
+use Rattle.web_cli.specs.declared.demo.app.DemoLocal.{DemoLocal}
+use Rattle.web_cli.specs.declared.demo.app.DemoConn.{DemoConn}
 use Rattle.web_cli.specs.Asked.{Asked}
 use Rattle.web_cli.specs.Demo.{DemoRequest, demo_config, exchange_asked, exchanges_asked}
 use Rattle.web_cli.specs.Due.{arguments_of, calls_to, outcome_in, outcomes, replies_to}

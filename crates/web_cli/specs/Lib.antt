@@ -1,6 +1,9 @@
+pub mod Answering
 pub mod Answers
 pub mod Asked
 pub mod BodyLines
+pub mod Choice
+pub mod Delayed
 pub mod Demo
 pub mod Due
 pub mod Ends
@@ -10,10 +13,13 @@ pub mod Faults
 pub mod HeaderLines
 pub mod Kept
 pub mod Kinds
+pub mod Late
 pub mod Line
 pub mod Lines
 pub mod Outcome
 pub mod Outside
+pub mod Picked
+pub mod PickedFuture
 pub mod Printing
 pub mod Reading
 pub mod Requested
@@ -22,6 +28,7 @@ pub mod Segments
 pub mod Service
 pub mod Status
 pub mod Targets
+pub mod Turned
 pub mod Verdict
 pub mod Words
 pub mod Writing

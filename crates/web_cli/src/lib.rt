@@ -18,7 +18,8 @@ mod status;
 mod words;
 mod writing;
 
-pub use demo::{Demo, DemoConn, DemoLayer, DemoLocal};
+pub use demo::{Answer, Answering, Delayed, Demo, DemoConn, DemoHandler, DemoLayer, DemoLocal};
+pub use demo::{Late, LateFuture, Picked, PickedFuture, Wait, picked_law};
 pub use input::{Input, ReadAnswer};
 pub use memory_input::{MemInput, PlainInput};
 pub use memory_output::{MemOutput, PlainOutput};
