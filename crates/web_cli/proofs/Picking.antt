@@ -1,5 +1,5 @@
 -- The arguments that the first segment of a path asks for.
-use Rattle.std.proofs.Common.{◌≡◌, ℕ, List, [], refl, subst, sym}
+use Rattle.std.proofs.Common.{◌≡◌, ℕ, List, [], refl, subst, sym, ap}
 use Rattle.std.specs.Prelude.{Option, Result, Ok, Err}
 use Rattle.web_request.specs.declared.source.Mark.{Mark}
 use Rattle.web_request.specs.Head.{head_path}
@@ -11,7 +11,7 @@ use Rattle.web_body.specs.declared.message_body.PayloadError.TheVariants.{Overfl
 use Rattle.web_texts.specs.declared.text.Pair.{Pair}
 use Rattle.web_reply.specs.Replies.{Fault}
 use Rattle.web_extract.specs.Collected.{MeansBytes}
-use Rattle.web_extract.specs.Deciding.{Exactly, list2}
+use Rattle.web_extract.specs.Deciding.{Exactly}
 use Rattle.web_extract.specs.Extracts.{Extracts}
 use Rattle.web_extract.specs.Joined.{Turned, grouped}
 use Rattle.web_extract.specs.Lists.{Member}
@@ -20,6 +20,8 @@ use Rattle.web_extract.specs.Ready.{MeansUnit}
 use Rattle.web_extract.specs.declared.never.Never.{Never}
 use Rattle.web_extract.proofs.Handing.{decides2}
 use Rattle.web_cli.specs.Choice.{choice_of}
+use Rattle.web_cli.specs.Program.{picked_arguments}
+use Rattle.web_cli.specs.Service.{ArgumentsMeet, TurnsTo}
 use Rattle.web_cli.specs.Late.{MeansLate, MeansWait}
 use Rattle.web_cli.specs.Picked.{MeansBoth, MeansChoice, MeansPicked, body_answer, body_verdict, late_verdict, picked_answer, picked_delay, verdict_of}
 use Rattle.web_cli.specs.PickedFuture.{PayloadGives, BytesPicked, BothPicked, WaitPicked, OtherPicked}
@@ -124,3 +126,13 @@ choice_once choice.Other params m rest n x h =
 pub picked_once : {L D C : Type 0} (q : Request L D C) (m rest : List Mark) (n : ℕ) (x : Result Picked Fault)
     → MeansPicked q m rest n x → (n ≡ picked_delay q m) × (x ≡ picked_answer q m)
 picked_once q m rest n x h = choice_once (choice_of (head_path q.head)) q.params m rest n x h
+
+-- an answer of the arguments is what it turns into
+pub turns_into : (x : Result Picked Fault) → TurnsTo (λ e f. f ≡ e) x x
+turns_into (Ok v) = refl
+turns_into (Err e) = λ f is. ap Err (sym is)
+
+pub picked_meets : ArgumentsMeet (λ q m rest n x. MeansPicked q m rest n x) (λ e f. f ≡ e) picked_arguments
+picked_meets q m rest n x means =
+    let once = picked_once q m rest n x means in
+    (once.0, subst (λ y. TurnsTo (λ e f. f ≡ e) x y) once.1 (turns_into x))

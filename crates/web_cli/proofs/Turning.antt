@@ -1,6 +1,6 @@
 -- Futures whose values and refusals are turned into others.
-use Rattle.std.proofs.Common.{◌≡◌, ℕ, List}
-use Rattle.std.specs.Prelude.{Option, None, Some, Result, Ok, Err, refl}
+use Rattle.std.proofs.Common.{ℕ, List}
+use Rattle.std.specs.Prelude.{Option, None, Some, Result}
 use Rattle.web_request.specs.declared.source.Mark.{Mark}
 use Rattle.web_body.specs.Polled.{IfReady, Shifts}
 use Rattle.web_body.specs.declared.poll.Step.{Step}

@@ -1,5 +1,5 @@
 -- The exchanges of the program, as its worker sees them.
-use Rattle.std.specs.Prelude.{ℕ, List, [], ◌∷◌, None, codes, false, map}
+use Rattle.std.specs.Prelude.{List, [], ◌∷◌, None, codes, false, map}
 use Rattle.http.specs.declared.version.TheConstants.Version.{HTTP_11}
 use Rattle.web_request.specs.declared.address.IpAddr.TheVariants.{V4}
 use Rattle.web_request.specs.declared.config.AppConfig.{AppConfig}

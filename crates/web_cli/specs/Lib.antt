@@ -21,6 +21,7 @@ pub mod Outside
 pub mod Picked
 pub mod PickedFuture
 pub mod Printing
+pub mod Program
 pub mod Reading
 pub mod Requested
 pub mod Script

@@ -4,7 +4,6 @@ use Rattle.web_request.specs.declared.source.Mark.{Mark}
 use Rattle.web_request.specs.Head.{head_path}
 use Rattle.web_request.specs.Reading.{Content, Over, Faulty, Whole, reading}
 use Rattle.web_request.specs.Request.{Request}
-use Rattle.web_body.specs.declared.message_body.PayloadError.{PayloadError}
 use Rattle.web_body.specs.declared.message_body.PayloadError.TheVariants.{Overflow, Io}
 use Rattle.web_texts.specs.declared.text.Pair.{Pair}
 use Rattle.web_reply.specs.declared.cause.Cause.TheVariants.{Payload}
