@@ -8,7 +8,7 @@
 use std::env;
 use std::io::ErrorKind;
 use std::process::ExitCode;
-use web_cli::{Status, StdInput, StdOutput, run};
+use web_cli::{DemoHandler, Status, StdInput, StdOutput, run};
 
 /// The words without the program's name, or how the program ends where they can't be had.
 fn words(rt: &HostRuntime) -> Result<Vec<String>, Status> {
@@ -26,7 +26,7 @@ fn main(rt: HostRuntime) -> ExitCode {
         Ok(words) => {
             let mut input = StdInput::new(rt.stdin());
             let mut output = StdOutput::new(rt.stdout());
-            run(rt.alloc(), &words, &mut input, &mut output)
+            run(rt.alloc(), &words, &mut input, &mut output, &mut DemoHandler)
         }
         Err(status) => status,
     };

@@ -8,6 +8,7 @@ use Rattle.web_cli.specs.declared.demo.answer.Answer.TheVariants as answer
 use Rattle.web_cli.specs.declared.demo.picked.Picked.{Picked}
 use Rattle.web_cli.specs.declared.demo.picked.Picked.TheVariants as picked
 
+-- the bytes where there are some, else what was done, and nothing for no segment that the program knows
 abbrev pub answer_of : Picked → Answer
 answer_of (picked.Bytes bytes) = answer.Bytes bytes
 answer_of (picked.Both bytes late) = answer.Bytes bytes
@@ -25,6 +26,7 @@ wait_of picked.Other = 0
 abbrev pub HandlerAnswers : Picked → ℕ → Answer → Type 0
 HandlerAnswers p n y = (n ≡ wait_of p) × (y ≡ answer_of p)
 
+-- 200 with the bytes, an empty 204, or an empty 404
 abbrev pub answer_reply : Answer → Reply Plain
 answer_reply (answer.Bytes bytes) = bytes_reply bytes
 answer_reply answer.Done = empty_reply 204

@@ -5,6 +5,7 @@ use Rattle.web_cli.specs.Segments.{first_segment}
 use Rattle.web_cli.specs.declared.demo.choice.Choice.{Choice}
 use Rattle.web_cli.specs.declared.demo.choice.Choice.TheVariants as choice
 
+-- what a segment of this name asks for
 abbrev pub choice_named : List ℕ → Choice
 choice_named segment =
     if bytes_eq segment (codes "bytes") then choice.Bytes

@@ -24,6 +24,7 @@ number_in name max params = option_and_then (λ p. digits_up_to max p.value) (fi
 abbrev pub delay_in : List Pair → ℕ
 delay_in params = unwrap_or (number_in (codes "delay") 1000000 params) 0
 
+-- the number, if it is not below the least
 abbrev pub at_least : ℕ → Option ℕ → Option ℕ
 at_least least None = None
 at_least least (Some n) = if nat_le least n then Some n else None
@@ -32,6 +33,7 @@ at_least least (Some n) = if nat_le least n then Some n else None
 abbrev pub refusal_in : List Pair → Option ℕ
 refusal_in params = at_least 400 (number_in (codes "refuse") 599 params)
 
+-- the empty value, or a refusal of this status
 abbrev pub refused_or : Option ℕ → Result Late Fault
 refused_or None = Ok (record {})
 refused_or (Some status) = Err (fault_of (Custom status (codes "late")))

@@ -54,12 +54,15 @@ body_answer (Over size) = Err (fault_of (Payload Overflow))
 body_answer Faulty = Err (fault_of (Payload Io))
 body_answer (Whole bytes) = Ok bytes
 
+-- the whole body, after as many polls as it stalls
 abbrev pub body_verdict : List Mark → Verdict (List ℕ)
 body_verdict m = record { delay = (reading 262144 m).delay; result = body_answer ((reading 262144 m).content) }
 
+-- the argument that comes late
 abbrev pub late_verdict : List Pair → Verdict Late
 late_verdict params = record { delay = delay_in params; result = late_answer params }
 
+-- this at the first poll
 abbrev pub at_once : Picked → Verdict Picked
 at_once p = record { delay = 0; result = Ok p }
 
@@ -71,12 +74,14 @@ verdict_of choice.Wait params m = at_once (picked.Wait (record { 0 = delay_in pa
 verdict_of choice.Other params m = at_once picked.Other
 
 module _ {L D C : Type 0} where
+  -- the first segment of the path chooses
   abbrev pub MeansPicked : Request L D C → List Mark → List Mark → ℕ → Result Picked Fault → Type 0
   MeansPicked q m rest n x = MeansChoice (choice_of (head_path q.head)) q.params m rest n x
 
   pub picked_some : (q : Request L D C) (m : List Mark) → AllowsSome (MeansPicked q m)
   picked_some q m = choice_some (choice_of (head_path q.head)) q.params m
 
+  -- the verdict of the choice that the first segment makes
   abbrev pub picked_verdict : Request L D C → List Mark → Verdict Picked
   picked_verdict q m = verdict_of (choice_of (head_path q.head)) q.params m
 

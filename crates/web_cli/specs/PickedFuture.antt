@@ -20,9 +20,11 @@ use Rattle.web_cli.specs.declared.demo.picked.PickedFuture.TheVariants as future
 abbrev Gives : Type 0 → Type 0 → Type 1
 Gives T E = ℕ → Result T E → Type 0
 
+-- the error of a body that could not be collected
 abbrev pub PayloadGives : PayloadError → Fault → Type 0
 PayloadGives e f = f ≡ fault_of (Payload e)
 
+-- the arguments of each choice, with their values together
 abbrev pub BytesPicked : Gives (List ℕ) PayloadError → Gives Picked Fault
 BytesPicked gives = GivesTurned (λ bytes p. p ≡ picked.Bytes bytes) PayloadGives gives
 
@@ -36,6 +38,7 @@ abbrev pub OtherPicked : Gives (Unit {0}) Never → Gives Picked Fault
 OtherPicked gives = GivesTurned (λ _ p. p ≡ picked.Other) NeverGives gives
 
 module _ {B L W N : Type 0} where
+  -- as the future of the choice
   abbrev pub future_finished : (B → Bool) → (L → Bool) → (W → Bool) → (N → Bool) → PickedFuture B L W N → Bool
   future_finished bytes both wait other (future.Bytes f) = bytes f
   future_finished bytes both wait other (future.Both f) = both f

@@ -33,8 +33,9 @@ impl Answering {
 }
 
 impl Poll for Answering {
-    ghost use Rattle.std.specs.Prelude.{is_none};
-    ghost use Rattle.web_cli.specs.Delayed.{GivesLater, later_some};
+    ghost use Rattle.std.specs.Prelude.{◌≡◌, false, is_none};
+    ghost use Rattle.web_body.specs.Polled.{Ends, IfReady, Shifts};
+    ghost use Rattle.web_cli.specs.Delayed.{CountsDown, GivesLater, later_some};
 
     type Output = Answer;
 
@@ -48,7 +49,13 @@ impl Poll for Answering {
         self.delayed.finished()
     }
 
-    fn poll(&mut self, alloc: Global) -> Step<Answer> {
+    fn poll(&mut self, alloc: Global) -> Step<Answer>
+        requires unfinished { is_none self.old.held ≡ false }
+        ensures ends { Ends result (is_none self.new.held) }
+        ensures value { IfReady result (λ x. GivesLater self.old 0 x) }
+        ensures shift { Shifts result (λ n x. GivesLater self.old n x) (λ n x. GivesLater self.new n x) }
+        ensures counts { CountsDown self.old result self.new }
+    {
         self.delayed.poll(alloc)
     }
 }

@@ -33,8 +33,9 @@ impl<T> Delayed<T> {
 }
 
 impl<T: Drop> Poll for Delayed<T> {
-    ghost use Rattle.std.specs.Prelude.{is_none};
-    ghost use Rattle.web_cli.specs.Delayed.{GivesLater, later_some};
+    ghost use Rattle.std.specs.Prelude.{◌≡◌, false, is_none};
+    ghost use Rattle.web_body.specs.Polled.{Ends, IfReady, Shifts};
+    ghost use Rattle.web_cli.specs.Delayed.{CountsDown, GivesLater, later_some};
 
     type Output = T;
 
@@ -48,7 +49,13 @@ impl<T: Drop> Poll for Delayed<T> {
         self.value.is_none()
     }
 
-    fn poll(&mut self, _alloc: Global) -> Step<T> {
+    fn poll(&mut self, _alloc: Global) -> Step<T>
+        requires unfinished { is_none self.old.held ≡ false }
+        ensures ends { Ends result (is_none self.new.held) }
+        ensures value { IfReady result (λ x. GivesLater self.old 0 x) }
+        ensures shift { Shifts result (λ n x. GivesLater self.old n x) (λ n x. GivesLater self.new n x) }
+        ensures counts { CountsDown self.old result self.new }
+    {
         if self.left > 0 {
             self.left -= 1;
             return Step::Pending;

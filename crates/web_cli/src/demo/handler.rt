@@ -34,7 +34,9 @@ fn answer_of(picked: Picked) -> Answer
 }
 
 impl Handler<Picked> for DemoHandler {
-    ghost use Rattle.std.specs.Prelude.{None};
+    ghost use Rattle.std.specs.Prelude.{IfOk, IsOk, None, false, is_none};
+    ghost use Rattle.web_worker.specs.Handling.{Within};
+    ghost use Rattle.web_cli.specs.Delayed.{GivesLater};
     ghost use Rattle.web_cli.specs.Answering.{HandlerAnswers};
 
     type Output = Answer;
@@ -45,7 +47,11 @@ impl Handler<Picked> for DemoHandler {
 
     ghost calls = { λ h. None };
 
-    fn call(&mut self, _alloc: Global, picked: Picked) -> Result<Answering, NoMemory> {
+    fn call(&mut self, _alloc: Global, picked: Picked) -> Result<Answering, NoMemory>
+        ensures fresh { IfOk result (λ f. is_none f.held ≡ false) }
+        ensures answers { IfOk result (λ f. Within (λ n x. GivesLater f n x) (λ n x. HandlerAnswers picked n x)) }
+        ensures ok { IsOk result }
+    {
         let wait = wait_of(&picked);
         Ok(Answering::new(wait, answer_of(picked)))
     }

@@ -1,5 +1,6 @@
 //! An argument that comes late.
-ghost use Rattle.std.specs.Prelude.{◌≡◌, IfOk};
+ghost use Rattle.std.specs.Prelude.{◌≡◌, IfOk, IsOk};
+ghost use Rattle.std.specs.Option.{IfNone};
 ghost use Rattle.web_cli.specs.Late.{late_answer, refusal_in};
 
 use crate::demo::delayed::Delayed;
@@ -34,7 +35,8 @@ fn refusal_in(params: &[Pair]) -> Option<StatusCode>
 
 /// A refusal where one is asked for, else the empty value.
 fn late_answer(alloc: Global, params: &[Pair]) -> Result<Result<Late, Error>, NoMemory>
-    ensures { IfOk result (λ answer. answer ≡ late_answer params.now) }
+    ensures value { IfOk result (λ answer. answer ≡ late_answer params.now) }
+    ensures ok { IfNone (refusal_in params.now) (IsOk result) }
 {
     match refusal_in(params) {
         Some(status) => {
@@ -47,7 +49,11 @@ fn late_answer(alloc: Global, params: &[Pair]) -> Result<Result<Late, Error>, No
 
 /// It leaves the payload as it is.
 impl<A: App> FromRequest<A> for Late {
+    ghost use Rattle.std.specs.Prelude.{false, is_none};
+    ghost use Rattle.web_body.specs.Payload.{payload_feed};
     ghost use Rattle.web_extract.specs.Allowed.{itself};
+    ghost use Rattle.web_extract.specs.Extracts.{Extracts};
+    ghost use Rattle.web_cli.specs.Delayed.{GivesLater};
     ghost use Rattle.web_cli.specs.Late.{MeansLate, late_some};
 
     type Error = Error;
@@ -64,7 +70,13 @@ impl<A: App> FromRequest<A> for Late {
         alloc: Global,
         req: &HttpRequest<A>,
         _payload: &mut Payload<A::Source>,
-    ) -> Result<LateFuture, NoMemory> {
+    ) -> Result<LateFuture, NoMemory>
+        ensures fresh { IfOk result (λ f. is_none f.held ≡ false) }
+        ensures extracts { IfOk result (λ f. Extracts (λ m rest n x. MeansLate req.now.request.params m rest n x) (λ n x. GivesLater f n x)
+            (payload_feed A.Source.feed _payload.old).marks (payload_feed A.Source.feed _payload.new).marks) }
+        ensures ok { IfNone (refusal_in req.now.request.params) (IsOk result) }
+        ensures kept { _payload.new ≡ _payload.old }
+    {
         let params = req.match_info();
         let answer = late_answer(alloc, params)?;
         Ok(Delayed::new(delay_in(params), answer))

@@ -12,7 +12,11 @@ pub struct Wait(pub u64);
 
 /// It leaves the payload as it is, and is never refused.
 impl<A: App> FromRequest<A> for Wait {
+    ghost use Rattle.std.specs.Prelude.{◌≡◌, IfOk, IsOk, false, is_none};
+    ghost use Rattle.web_body.specs.Payload.{payload_feed};
+    ghost use Rattle.web_extract.specs.Extracts.{Extracts};
     ghost use Rattle.web_extract.specs.Never.{never_converted};
+    ghost use Rattle.web_extract.specs.Ready.{GivesHeld};
     ghost use Rattle.web_cli.specs.Late.{MeansWait, wait_some};
 
     type Error = Never;
@@ -29,7 +33,13 @@ impl<A: App> FromRequest<A> for Wait {
         _alloc: Global,
         req: &HttpRequest<A>,
         _payload: &mut Payload<A::Source>,
-    ) -> Result<Ready<Result<Wait, Never>>, NoMemory> {
+    ) -> Result<Ready<Result<Wait, Never>>, NoMemory>
+        ensures fresh { IfOk result (λ f. is_none f ≡ false) }
+        ensures extracts { IfOk result (λ f. Extracts (λ m rest n x. MeansWait req.now.request.params m rest n x) (λ n x. GivesHeld f n x)
+            (payload_feed A.Source.feed _payload.old).marks (payload_feed A.Source.feed _payload.new).marks) }
+        ensures ok { IsOk result }
+        ensures kept { _payload.new ≡ _payload.old }
+    {
         Ok(Ready::new(Ok(Wait(delay_in(req.match_info())))))
     }
 }
