@@ -1,15 +1,17 @@
 -- The error of what never refuses.
-use Rattle.std.specs.Prelude.{ℕ, List, Result, Err}
+use Rattle.std.specs.Prelude.{◌≡◌, ℕ, List, Result, Err, refl}
 use Rattle.web_request.specs.declared.source.Mark.{Mark}
-use Rattle.web_reply.specs.Replies.{Fault}
+use Rattle.web_reply.specs.declared.cause.Cause.TheVariants.{Io}
+use Rattle.web_reply.specs.declared.cause.IoKind.TheVariants.{Other}
+use Rattle.web_reply.specs.Replies.{Fault, fault_of}
 use Rattle.web_extract.specs.declared.never.Never.{Never}
 
--- it has no value, so it turns into nothing
+-- one error stands for it, since what turns into an error has to say which
 abbrev pub NeverGives : Never → Fault → Type 0
-NeverGives e f = ⊥
+NeverGives e f = f ≡ fault_of (Io Other)
 
 pub never_converted : (e : Never) → (f : Fault) × NeverGives e f
-never_converted e = elim e [ ]
+never_converted e = (fault_of (Io Other), refl)
 
 -- no refusal is allowed
 abbrev pub NeverRefuses : {T E : Type 0} → (List Mark → List Mark → ℕ → Result T E → Type 0) → Type 0
