@@ -17,6 +17,8 @@ mod refusals;
 #[cfg(test)]
 mod replies;
 #[cfg(test)]
+mod responders;
+#[cfg(test)]
 mod texts;
 #[cfg(test)]
 mod workers;
