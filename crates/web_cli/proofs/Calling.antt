@@ -1,11 +1,10 @@
 -- From the calls of the exchanges that a script asks for to the calls of its plan.
 use Rattle.std.proofs.Common.{◌≡◌, ℕ, zero, suc, true, false, List, [], ◌∷◌, ◌++◌, map, refl, sym, ◌∙◌, ap, subst}
-use Rattle.std.specs.Prelude.{Option, None, Some, Result, Ok, Err, slice_get, unwrap_or}
+use Rattle.std.specs.Prelude.{Option, Result, slice_get, unwrap_or}
 use Rattle.std.specs.List.{All, AllPass, list_any}
 use Rattle.std.specs.Option.{option_map, option_map_or}
 use Rattle.std.specs.Result.{result_ok}
 use Rattle.std.proofs.lemmas.List.Elements.{All-cons, All-head, All-nil, All-tail}
-use Rattle.std.proofs.lemmas.Option.{slice_get-map}
 use Rattle.web_request.specs.declared.source.Mark.{Mark}
 use Rattle.web_request.specs.Body.{is_body}
 use Rattle.web_request.specs.Feed.{Feed}
@@ -18,11 +17,11 @@ use Rattle.web_reply.specs.Replies.{Fault, Reply}
 use Rattle.web_worker.specs.Endings.{Ending}
 use Rattle.web_worker.specs.Exchanges.{Asked as Exchanged, request_of}
 use Rattle.web_worker.specs.Answers.{rules_of}
-use Rattle.web_worker.specs.Called.{ArgsOnce, CalledByFunctions, call_at, calls_from, calls_of}
+use Rattle.web_worker.specs.Called.{ArgsOnce, CalledByFunctions, call_at, calls_from}
 use Rattle.web_worker.specs.Served.{polls, lacks_memory}
-use Rattle.web_cli.specs.declared.demo.DemoLayer.{DemoLayer}
-use Rattle.web_cli.specs.declared.demo.DemoLocal.{DemoLocal}
-use Rattle.web_cli.specs.declared.demo.DemoConn.{DemoConn}
+use Rattle.web_cli.specs.declared.demo.app.DemoLayer.{DemoLayer}
+use Rattle.web_cli.specs.declared.demo.app.DemoLocal.{DemoLocal}
+use Rattle.web_cli.specs.declared.demo.app.DemoConn.{DemoConn}
 use Rattle.web_cli.specs.Asked.{Asked}
 use Rattle.web_cli.specs.Demo.{DemoRequest, demo_config, exchange_asked, exchanges_asked}
 use Rattle.web_cli.specs.Due.{arguments_of, calls_to}
@@ -64,7 +63,7 @@ module _ {V E Y : Type 0} (means : DemoRequest → List Mark → List Mark → �
   each_same [] all = All-nil (λ (e : Asked). args_of a p (exchange_asked e) ≡ arguments_of a e)
   each_same (e ∷ es) all =
       All-cons (λ (e : Asked). args_of a p (exchange_asked e) ≡ arguments_of a e) e es (args_are e (All-head (λ (y : Asked). is_body y.marks ≡ true) e es all))
-          (each_same es (All-tail (λ (y : Asked). is_body y.marks ≡ true) e es all))
+      (each_same es (All-tail (λ (y : Asked). is_body y.marks ≡ true) e es all))
 
   abbrev Once : Exchanged Feed DemoLayer DemoLocal DemoConn → Type 0
   Once x = ArgsOnce (rules_of means converts answers responds) (request_of p) (λ (f : Feed). f) x (args_of a p x).0 (args_of a p x).1
@@ -78,7 +77,7 @@ module _ {V E Y : Type 0} (means : DemoRequest → List Mark → List Mark → �
   each_once [] all = All-nil (λ x. Once x)
   each_once (e ∷ es) all =
       All-cons (λ x. Once x) (exchange_asked e) (exchanges_asked es) (once_at e (All-head (λ (y : Asked). is_body y.marks ≡ true) e es all))
-          (each_once es (All-tail (λ (y : Asked). is_body y.marks ≡ true) e es all))
+      (each_once es (All-tail (λ (y : Asked). is_body y.marks ≡ true) e es all))
 
   -- the list of calls, where told, grew by those of the script's plan
   pub calls_are : (s : Said) (os : List Ending) (told told_new : Option (List V))

@@ -1,24 +1,23 @@
 -- Where arguments and a handler meet functions, an exchange that a script asks for has one delay and one reply.
-use Rattle.std.proofs.Common.{◌≡◌, ℕ, ◌+◌, ◌<◌, ◌≤◌, List, arith, refl, sym, ◌∙◌, ap, subst, true}
-use Rattle.std.specs.Prelude.{Option, Some, Result, Ok, Err, ⊤, MatchOption}
+use Rattle.std.proofs.Common.{◌≡◌, ℕ, ◌+◌, ◌<◌, List, arith, refl, ◌∙◌, true}
+use Rattle.std.specs.Prelude.{Result, Ok, Err}
 use Rattle.std.specs.Result.{result_ok}
 use Rattle.web_request.specs.declared.source.Mark.{Mark}
 use Rattle.web_request.specs.Body.{is_body}
 use Rattle.web_request.specs.Feed.{Feed}
 use Rattle.web_request.specs.Pool.{Pool}
-use Rattle.web_body.specs.Bodies.{without_empty}
 use Rattle.web_body.proofs.Pieces.{body_same}
-use Rattle.web_reply.specs.Bodies.{Plain, whole_plain}
-use Rattle.web_reply.specs.Replies.{Fault, Reply, error_reply, plain_reply}
+use Rattle.web_reply.specs.Bodies.{Plain}
+use Rattle.web_reply.specs.Replies.{Fault, Reply}
 use Rattle.web_worker.specs.Exchanges.{request_of}
 use Rattle.web_worker.specs.Answers.{rules_of, After, Replies, ComesBefore, RepliesBefore}
 use Rattle.web_worker.specs.Called.{ArgsOnce}
 use Rattle.web_worker.specs.Function.{AnswersOnce}
-use Rattle.web_cli.specs.declared.demo.DemoLayer.{DemoLayer}
+use Rattle.web_cli.specs.declared.demo.app.DemoLayer.{DemoLayer}
 use Rattle.web_cli.specs.Asked.{Asked}
 use Rattle.web_cli.specs.Demo.{DemoRequest, demo_config, exchange_asked, request_asked}
 use Rattle.web_cli.specs.Due.{arguments_of}
-use Rattle.web_cli.specs.Service.{Arguments, Handling, TurnsInto, ArgumentsMeet, HandlerMeets, delay_from, reply_from, delay_of, reply_of}
+use Rattle.web_cli.specs.Service.{Arguments, Handling, TurnsTo, ArgumentsMeet, HandlerMeets, delay_from, reply_from, delay_of, reply_of}
 
 module _ {V E Y : Type 0} (means : DemoRequest → List Mark → List Mark → ℕ → Result V E → Type 0) (converts : E → Fault → Type 0) (answers : V → ℕ → Y → Type 0) (responds : Y → DemoRequest → Reply Plain → Type 0)
     (converted : (e : E) → (f : Fault) × converts e f) (a : Arguments V) (h : Handling V) (meets : ArgumentsMeet means converts a) (handles : HandlerMeets answers responds h) where
@@ -29,7 +28,7 @@ module _ {V E Y : Type 0} (means : DemoRequest → List Mark → List Mark → �
       let same = one.0 in
       rw f (omega (arith, sum, same, e), one.1 q r response)
 
-  after_refusal : (q : DemoRequest) (d n : ℕ) (e : E) (y : Result V Fault) (k : ℕ) (r : Reply Plain) → n ≡ d → TurnsInto converts (Err e) y → After (rules_of means converts answers responds) q n (Err e) k r
+  after_refusal : (q : DemoRequest) (d n : ℕ) (e : E) (y : Result V Fault) (k : ℕ) (r : Reply Plain) → n ≡ d → TurnsTo converts (Err e) y → After (rules_of means converts answers responds) q n (Err e) k r
       → (k ≡ delay_from a h d y) × (r ≡ reply_from a h q y)
   after_refusal q d n e y k r same turns (after, (f, converts_to, is)) = rw (turns f converts_to) (after ∙ same, is)
 
@@ -43,13 +42,13 @@ module _ {V E Y : Type 0} (means : DemoRequest → List Mark → List Mark → �
       let small : d + h.wait v < polls = rw f at l in
       (omega (arith, small, e), λ j z answer. let one = handles v j z answer in let same = one.0 in omega (arith, small, same, e))
 
-  comes_refusal : (d n : ℕ) (e : E) (y : Result V Fault) (polls : ℕ) → n ≡ d → TurnsInto converts (Err e) y → delay_from a h d y < polls → ComesBefore (rules_of means converts answers responds) polls n (Err e)
+  comes_refusal : (d n : ℕ) (e : E) (y : Result V Fault) (polls : ℕ) → n ≡ d → TurnsTo converts (Err e) y → delay_from a h d y < polls → ComesBefore (rules_of means converts answers responds) polls n (Err e)
   comes_refusal d n e y polls same turns l =
       let some = converted e in
       let small : d < polls = rw (turns some.0 some.1) at l in
       omega (arith, small, same)
 
-  comes : (d n : ℕ) (x : Result V E) (y : Result V Fault) (polls : ℕ) → n ≡ d → TurnsInto converts x y → delay_from a h d y < polls → ComesBefore (rules_of means converts answers responds) polls n x
+  comes : (d n : ℕ) (x : Result V E) (y : Result V Fault) (polls : ℕ) → n ≡ d → TurnsTo converts x y → delay_from a h d y < polls → ComesBefore (rules_of means converts answers responds) polls n x
   comes d n (Ok v) y polls e t l = comes_value d n v y polls e t l
   comes d n (Err x) y polls e t l = comes_refusal d n x y polls e t l
 
@@ -66,7 +65,7 @@ module _ {V E Y : Type 0} (means : DemoRequest → List Mark → List Mark → �
 
 module _ {V E Y : Type 0} (means : DemoRequest → List Mark → List Mark → ℕ → Result V E → Type 0) (converts : E → Fault → Type 0) (answers : V → ℕ → Y → Type 0) (responds : Y → DemoRequest → Reply Plain → Type 0)
     (converted : (e : E) → (f : Fault) × converts e f) (a : Arguments V) (meets : ArgumentsMeet means converts a) where
-  same_value : (z : Result V E) (y : Result V Fault) → TurnsInto converts z y → result_ok z ≡ result_ok y
+  same_value : (z : Result V E) (y : Result V Fault) → TurnsTo converts z y → result_ok z ≡ result_ok y
   same_value (Ok v) y t = rw t refl
   same_value (Err e) y t = let some = converted e in rw (t some.0 some.1) refl
 

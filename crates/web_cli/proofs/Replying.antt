@@ -1,10 +1,8 @@
 -- From the outcomes of the exchanges that a script asks for to the text of its replies, and to the list of calls.
-use Rattle.std.proofs.Common.{◌≡◌, ℕ, suc, true, false, List, [], ◌∷◌, ◌++◌, map, refl, sym, ◌∙◌, ap, subst, inl, inr, ◌⊎◌, add-one, Global}
-use Rattle.std.specs.Prelude.{Option, None, Some, Result, Ok, Err, Vec, IfOk, slice_get}
-use Rattle.std.specs.List.{All, AllPass, enumerate_from, list_any}
-use Rattle.std.specs.Option.{option_map, option_map_or}
-use Rattle.std.proofs.lemmas.List.Elements.{All-cons, All-head, All-nil, All-tail}
-use Rattle.std.proofs.lemmas.Option.{slice_get-map}
+use Rattle.std.proofs.Common.{◌≡◌, ℕ, suc, true, false, List, [], ◌∷◌, map, refl, inl, inr, add-one, Global}
+use Rattle.std.specs.Prelude.{Result, Ok, Err, Vec, IfOk}
+use Rattle.std.specs.List.{AllPass, enumerate_from, list_any}
+use Rattle.std.proofs.lemmas.List.Elements.{All-head, All-tail}
 use Rattle.web_texts.proofs.Blocks.{or_false}
 use Rattle.web_request.specs.declared.source.Mark.{Mark}
 use Rattle.web_request.specs.Body.{is_body}
@@ -12,23 +10,20 @@ use Rattle.web_request.specs.Feed.{Feed}
 use Rattle.web_request.specs.Pool.{Pool}
 use Rattle.web_reply.specs.Bodies.{Plain}
 use Rattle.web_reply.specs.Replies.{Fault, Reply}
-use Rattle.web_worker.specs.Endings.{Ending, Ending.NoMemory}
-use Rattle.web_worker.specs.Exchanges.{Asked as Exchanged, request_of}
+use Rattle.web_worker.specs.Endings.{Ending}
+use Rattle.web_worker.specs.Exchanges.{request_of}
 use Rattle.web_worker.specs.Answers.{rules_of}
-use Rattle.web_worker.specs.Called.{ArgsOnce, CalledByFunctions, call_at, calls_from, calls_of}
 use Rattle.web_worker.specs.Function.{IsOutcome}
 use Rattle.web_worker.specs.Served.{polls, EachFrom, outcome_of, named_from, named, lacks_memory, Allowed, Served}
 use Rattle.web_worker.proofs.Outcomes.{outcome_is}
-use Rattle.web_cli.specs.declared.demo.DemoLayer.{DemoLayer}
-use Rattle.web_cli.specs.declared.demo.DemoLocal.{DemoLocal}
-use Rattle.web_cli.specs.declared.demo.DemoConn.{DemoConn}
+use Rattle.web_cli.specs.declared.demo.app.DemoLayer.{DemoLayer}
 use Rattle.web_cli.specs.Asked.{Asked}
 use Rattle.web_cli.specs.Demo.{DemoRequest, demo_config, exchange_asked, exchanges_asked}
-use Rattle.web_cli.specs.Due.{arguments_of, calls_to, outcome_in, outcomes, replies_to}
+use Rattle.web_cli.specs.Due.{outcome_in, outcomes, replies_to}
 use Rattle.web_cli.specs.Printing.{print}
 use Rattle.web_cli.specs.Script.{Said}
 use Rattle.web_cli.specs.Service.{Arguments, Handling, ArgumentsMeet, HandlerMeets, delay_of, reply_of}
-use Rattle.web_cli.proofs.Functions.{args_asked, once_asked}
+use Rattle.web_cli.proofs.Functions.{once_asked}
 
 one_outcome : (d : ℕ) (r : Reply Plain) (n : ℕ) (o : Ending) → IsOutcome d r n o → lacks_memory o ≡ false → o ≡ outcome_of d r n
 one_outcome d r n o (inl e) some = let t : lacks_memory o ≡ true = rw e refl in absurd (cc)

@@ -1,5 +1,5 @@
 -- The exchanges of the program, as its worker sees them.
-use Rattle.std.specs.Prelude.{ℕ, List, [], ◌∷◌, None, codes, false, map}
+use Rattle.std.specs.Prelude.{List, [], ◌∷◌, None, codes, false, map}
 use Rattle.http.specs.declared.version.TheConstants.Version.{HTTP_11}
 use Rattle.web_request.specs.declared.address.IpAddr.TheVariants.{V4}
 use Rattle.web_request.specs.declared.config.AppConfig.{AppConfig}
@@ -9,9 +9,9 @@ use Rattle.web_request.specs.Request.{Parts, Request}
 use Rattle.web_body.specs.Bodies.{marks_feed}
 use Rattle.web_body.specs.declared.payload.Payload.TheVariants as payload
 use Rattle.web_worker.specs.Exchanges.{Asked as Exchanged}
-use Rattle.web_cli.specs.declared.demo.DemoLayer.{DemoLayer}
-use Rattle.web_cli.specs.declared.demo.DemoLocal.{DemoLocal}
-use Rattle.web_cli.specs.declared.demo.DemoConn.{DemoConn}
+use Rattle.web_cli.specs.declared.demo.app.DemoLayer.{DemoLayer}
+use Rattle.web_cli.specs.declared.demo.app.DemoLocal.{DemoLocal}
+use Rattle.web_cli.specs.declared.demo.app.DemoConn.{DemoConn}
 use Rattle.web_cli.specs.Asked.{Asked}
 
 -- `localhost:8080`, not secure, on 127.0.0.1:8080

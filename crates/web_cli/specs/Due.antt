@@ -1,5 +1,5 @@
 -- The text that is due for a script.
-use Rattle.std.specs.Prelude.{◌≡◌, ℕ, Bool, true, false, List, [], ◌++◌, Option, Result, length, codes, map, nat_lt, if◌then◌else◌}
+use Rattle.std.specs.Prelude.{◌≡◌, ℕ, Bool, true, false, List, [], ◌++◌, Option, length, codes, map, nat_lt, if◌then◌else◌}
 use Rattle.std.specs.List.{enumerate_from}
 use Rattle.std.specs.Result.{result_ok}
 use Rattle.web_worker.specs.Called.{calls_of}

@@ -1,6 +1,9 @@
+pub mod Answering
 pub mod Answers
 pub mod Asked
 pub mod BodyLines
+pub mod Choice
+pub mod Delayed
 pub mod Demo
 pub mod Due
 pub mod Ends
@@ -10,11 +13,15 @@ pub mod Faults
 pub mod HeaderLines
 pub mod Kept
 pub mod Kinds
+pub mod Late
 pub mod Line
 pub mod Lines
 pub mod Outcome
 pub mod Outside
+pub mod Picked
+pub mod PickedFuture
 pub mod Printing
+pub mod Program
 pub mod Reading
 pub mod Requested
 pub mod Script
@@ -22,6 +29,7 @@ pub mod Segments
 pub mod Service
 pub mod Status
 pub mod Targets
+pub mod Turned
 pub mod Verdict
 pub mod Words
 pub mod Writing

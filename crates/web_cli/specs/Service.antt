@@ -19,13 +19,13 @@ pub record Handling (V : Type 0) : Type 0 where
   pub reply : V → DemoRequest → Reply Plain
 
 -- this answer of arguments turns into no other
-abbrev pub TurnsInto : {V E : Type 0} → (E → Fault → Type 0) → Result V E → Result V Fault → Type 0
-TurnsInto converts (Ok v) y = y ≡ Ok v
-TurnsInto converts (Err e) y = (f : Fault) → converts e f → y ≡ Err f
+abbrev pub TurnsTo : {V E : Type 0} → (E → Fault → Type 0) → Result V E → Result V Fault → Type 0
+TurnsTo converts (Ok v) y = y ≡ Ok v
+TurnsTo converts (Err e) y = (f : Fault) → converts e f → y ≡ Err f
 
 -- the arguments meet the functions
 abbrev pub ArgumentsMeet : {V E : Type 0} → (DemoRequest → List Mark → List Mark → ℕ → Result V E → Type 0) → (E → Fault → Type 0) → Arguments V → Type 0
-ArgumentsMeet {V} {E} means converts a = (q : DemoRequest) (m rest : List Mark) (n : ℕ) (x : Result V E) → means q m rest n x → (n ≡ a.delay q m) × TurnsInto converts x (a.answer q m)
+ArgumentsMeet {V} {E} means converts a = (q : DemoRequest) (m rest : List Mark) (n : ℕ) (x : Result V E) → means q m rest n x → (n ≡ a.delay q m) × TurnsTo converts x (a.answer q m)
 
 -- the handler meets the functions
 abbrev pub HandlerMeets : {V Y : Type 0} → (V → ℕ → Y → Type 0) → (Y → DemoRequest → Reply Plain → Type 0) → Handling V → Type 0

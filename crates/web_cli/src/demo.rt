@@ -1,65 +1,39 @@
 //! The application of the program.
-ghost use Rattle.std.specs.Prelude.{◌≡◌, ◌<◌, ◌^◌, [], true, length, IfOk};
+ghost use Rattle.std.specs.Prelude.{◌≡◌, ◌<◌, ◌^◌, true, length, IfOk};
 ghost use Rattle.std.specs.List.{All, AllPass};
 ghost use Rattle.web_request.specs.Body.{is_body, joined};
-ghost use Rattle.web_cli.specs.Demo.{demo_config, exchange_asked, exchanges_asked};
+ghost use Rattle.web_cli.specs.Demo.{exchange_asked, exchanges_asked};
+
+mod answer;
+mod answering;
+mod app;
+mod choice;
+mod delayed;
+mod handler;
+mod late;
+mod law;
+mod params;
+mod picked;
+mod wait;
 
 use crate::script::ScriptedExchange;
+pub use answer::Answer;
+pub use answering::Answering;
+pub(crate) use app::worker;
+pub use app::{Demo, DemoConn, DemoLayer, DemoLocal};
+pub use delayed::Delayed;
+pub use handler::DemoHandler;
 use http::Version;
 use http_header::HeaderMap;
+pub use late::{Late, LateFuture};
+pub use law::demo_law;
+pub use picked::{Picked, PickedFuture, picked_law};
 use std::alloc::Global;
-use std::rc::Rc;
+pub use wait::Wait;
 use web_body::{Marks, Payload};
-use web_request::{App, AppConfig, Configured, Duplicate, IpAddr, RequestHead, SocketAddr};
-use web_texts::{NoMemory, Text};
-use web_worker::{Exchange, Worker};
-
-/// The types of the program's application. Its records hold nothing yet.
-#[derive(Drop)]
-pub struct Demo;
-
-#[derive(Drop)]
-pub struct DemoLayer;
-
-#[derive(Drop)]
-pub struct DemoLocal;
-
-#[derive(Drop)]
-pub struct DemoConn;
-
-impl Configured for DemoLayer {}
-
-impl Duplicate for DemoLocal {
-    fn duplicate(&self, _alloc: Global) -> Result<DemoLocal, NoMemory> {
-        Ok(DemoLocal)
-    }
-}
-
-impl App for Demo {
-    type Layer = DemoLayer;
-
-    type Local = DemoLocal;
-
-    type Conn = DemoConn;
-
-    type Source = Marks;
-}
-
-/// A worker with an empty root layer, for `localhost:8080`, that keeps no record.
-pub(crate) fn worker(alloc: Global) -> Result<Worker<Demo>, NoMemory>
-    ensures { IfOk result (λ w. w ≡ record { serials = []; made = 0; capacity = 0; enabled = true; root = record {}; config = demo_config }) }
-{
-    let root = Rc::new(alloc, DemoLayer)?;
-    let config = AppConfig {
-        host: Text::of(alloc, "localhost:8080")?,
-        secure: false,
-        local_addr: SocketAddr {
-            ip: IpAddr::V4([127, 0, 0, 1]),
-            port: 8080,
-        },
-    };
-    Worker::new(alloc, root, config, 0)
-}
+use web_request::RequestHead;
+use web_texts::NoMemory;
+use web_worker::Exchange;
 
 /// The exchange that a script asks for, with its body as a stream.
 fn exchange(alloc: Global, asked: ScriptedExchange) -> Exchange<Demo>

@@ -18,14 +18,17 @@ mod status;
 mod words;
 mod writing;
 
-pub use demo::{Demo, DemoConn, DemoLayer, DemoLocal};
+pub use demo::{
+    Answer, Answering, Delayed, Demo, DemoConn, DemoHandler, DemoLayer, DemoLocal, Late,
+    LateFuture, Picked, PickedFuture, Wait, demo_law, picked_law,
+};
 pub use input::{Input, ReadAnswer};
 pub use memory_input::{MemInput, PlainInput};
 pub use memory_output::{MemOutput, PlainOutput};
 pub use output::{Output, WriteAnswer};
 pub use reading::{ReadWhole, SCRIPT_LIMIT, read_whole};
 pub use script::{Script, ScriptedExchange, Verdict, first_script_law, read_script, target_law};
-// pub use serving::run;
+pub use serving::run;
 pub use standard::{StdInput, StdOutput};
 pub use status::Status;
 pub use words::is_serve;

@@ -1,9 +1,10 @@
 //! The top call.
 ghost use Rattle.std.specs.Prelude.{◌≡◌, List, ℕ, map, string_bytes};
 ghost use Rattle.web_cli.specs.Words.{IsServe};
+ghost use Rattle.web_cli.specs.Program.{IsCalledBy, IsRepliesBy};
 ghost use Rattle.web_cli.specs.Outcome.{FaultIsTold, Headline, IsCalled, IsNoCommand, IsReplies, Serves, TooLongIsTold, WriteFaultIsTold};
 
-use crate::demo::Demo;
+use crate::demo::{Demo, Picked};
 use crate::due::{Due, due_of};
 use crate::input::Input;
 use crate::output::Output;
@@ -61,12 +62,12 @@ where
     ensures uncalled { ¬ (IsServe (map string_bytes words.now)) → handler.new ≡ handler.old }
     ensures serves { IsServe (map string_bytes words.now) → (came : List ℕ)
         × Serves (IsReplies Args.means Args.Error.converts (H.answers handler.old) H.Output.responds)
-            (IsCalled Args.means Args.Error.converts (H.calls handler.old) (H.calls handler.new)) (handler.new ≡ handler.old)
-            result came (I.state input.old) (I.state input.new) (O.state output.old) (O.state output.new) }
+        (IsCalled Args.means Args.Error.converts (H.calls handler.old) (H.calls handler.new)) (handler.new ≡ handler.old)
+        result came (I.state input.old) (I.state input.new) (O.state output.old) (O.state output.new) }
     ensures headline { IsServe (map string_bytes words.now) →
         Headline (IsReplies Args.means Args.Error.converts (H.answers handler.old) H.Output.responds)
-            (IsCalled Args.means Args.Error.converts (H.calls handler.old) (H.calls handler.new)) (handler.new ≡ handler.old)
-            result (I.state input.old) (I.state input.new) (O.state output.old) (O.state output.new) }
+        (IsCalled Args.means Args.Error.converts (H.calls handler.old) (H.calls handler.new)) (handler.new ≡ handler.old)
+        result (I.state input.old) (I.state input.new) (O.state output.old) (O.state output.new) }
     ensures read_fault { FaultIsTold result (I.state input.old) (I.state input.new) }
     ensures write_fault { WriteFaultIsTold result (O.state output.old) (O.state output.new) }
     ensures too_long { TooLongIsTold result (I.state input.old) (I.state input.new) }
@@ -76,4 +77,35 @@ where
     } else {
         say(output, USAGE, Status::Usage)
     }
+}
+
+/// Does what the words say.
+///
+/// `serve --pool=0` reads a script of at most 16,777,216 bytes, serves it by the handler, and writes the replies. The
+/// arguments of each exchange are those that the first segment of its path asks for. Other words write the usage.
+pub fn run<I: Input, O: Output, H: Handler<Picked>>(
+    alloc: Global,
+    words: &[String],
+    input: &mut I,
+    output: &mut O,
+    handler: &mut H,
+) -> Status
+where
+    H::Output: Responder<Demo>,
+    requires ready { H.ready handler.old }
+    ensures ready { H.ready handler.new }
+    ensures no_command { ¬ (IsServe (map string_bytes words.now)) →
+        IsNoCommand result (I.state input.old) (I.state input.new) (O.state output.old) (O.state output.new) }
+    ensures uncalled { ¬ (IsServe (map string_bytes words.now)) → handler.new ≡ handler.old }
+    ensures serves { IsServe (map string_bytes words.now) → (came : List ℕ)
+        × Serves (IsRepliesBy (H.answers handler.old) H.Output.responds) (IsCalledBy (H.calls handler.old) (H.calls handler.new)) (handler.new ≡ handler.old)
+        result came (I.state input.old) (I.state input.new) (O.state output.old) (O.state output.new) }
+    ensures headline { IsServe (map string_bytes words.now) →
+        Headline (IsRepliesBy (H.answers handler.old) H.Output.responds) (IsCalledBy (H.calls handler.old) (H.calls handler.new)) (handler.new ≡ handler.old)
+        result (I.state input.old) (I.state input.new) (O.state output.old) (O.state output.new) }
+    ensures read_fault { FaultIsTold result (I.state input.old) (I.state input.new) }
+    ensures write_fault { WriteFaultIsTold result (O.state output.old) (O.state output.new) }
+    ensures too_long { TooLongIsTold result (I.state input.old) (I.state input.new) }
+{
+    run_over::<I, O, Picked, H>(alloc, words, input, output, handler)
 }

@@ -1,4 +1,4 @@
-use Rattle.std.proofs.Common.{◌≡◌, ◌++◌, ◌∙◌, ap}
+use Rattle.std.proofs.Common.{◌++◌, ◌∙◌, ap}
 use Rattle.std.specs.Option.{option_map}
 use Rattle.web_cli.specs.Due.{calls_to}
 use Rattle.web_cli.specs.Script.{Said, said, script_lines}

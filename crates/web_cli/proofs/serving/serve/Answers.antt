@@ -9,8 +9,9 @@ returns-in-Ok-Replies-clause-serves g c =
     let due = rw c.in-Ok-Replies.field-0-is at c.in-Ok-Replies.ensures.due in
     let first = rw c.in-Ok-Replies.field-0-is at c.in-Ok-Replies.ensures.first in
     let calls = rw c.in-Ok-Replies.field-0-is at c.in-Ok-Replies.ensures.calls in
-    let said = rw c.deref.ensures.value at c.say-in-Ok-Replies.ensures in
-    (c.in-Ok-All.bytes.items,
-     replied (IsReplies g.Args.FromRequest.means g.Args.Error.Into.converts (g.H.Handler.answers c.args.handler.now) g.H.Output.Responder.responds)
-        (IsCalled g.Args.FromRequest.means g.Args.Error.Into.converts (g.H.Handler.calls c.args.handler.now) (g.H.Handler.calls c.due_of.new.handler)) (c.due_of.new.handler ≡ c.args.handler.now)
-        c.say-in-Ok-Replies.result c.in-Ok-All.bytes.items c.in-Ok-Replies.text.items _ _ _ _ all first (λ a h meets handles. (due a h meets handles).1) calls said)
+    let said = rw c.deref.ensures.value at c.say-in-Ok-Replies.ensures in (
+      c.in-Ok-All.bytes.items,
+      replied (IsReplies g.Args.FromRequest.means g.Args.Error.Into.converts (g.H.Handler.answers c.args.handler.now) g.H.Output.Responder.responds)
+          (IsCalled g.Args.FromRequest.means g.Args.Error.Into.converts (g.H.Handler.calls c.args.handler.now) (g.H.Handler.calls c.due_of.new.handler)) (c.due_of.new.handler ≡ c.args.handler.now)
+          c.say-in-Ok-Replies.result c.in-Ok-All.bytes.items c.in-Ok-Replies.text.items _ _ _ _ all first (λ a h meets handles. (due a h meets handles).1) calls said,
+    )

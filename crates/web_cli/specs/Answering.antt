@@ -1,0 +1,35 @@
+-- What the handler answers.
+use Rattle.std.specs.Prelude.{◌≡◌, ℕ}
+use Rattle.web_reply.specs.Bodies.{Plain}
+use Rattle.web_reply.specs.Replies.{Reply}
+use Rattle.web_reply.specs.Responds.{bytes_reply, empty_reply}
+use Rattle.web_cli.specs.declared.demo.answer.Answer.{Answer}
+use Rattle.web_cli.specs.declared.demo.answer.Answer.TheVariants as answer
+use Rattle.web_cli.specs.declared.demo.picked.Picked.{Picked}
+use Rattle.web_cli.specs.declared.demo.picked.Picked.TheVariants as picked
+
+abbrev pub answer_of : Picked → Answer
+answer_of (picked.Bytes bytes) = answer.Bytes bytes
+answer_of (picked.Both bytes late) = answer.Bytes bytes
+answer_of (picked.Wait wait) = answer.Done
+answer_of picked.Other = answer.None
+
+-- how often the handler answers Pending
+abbrev pub wait_of : Picked → ℕ
+wait_of (picked.Bytes bytes) = 0
+wait_of (picked.Both bytes late) = 0
+wait_of (picked.Wait wait) = wait.0
+wait_of picked.Other = 0
+
+-- this answer alone, after this wait alone
+abbrev pub HandlerAnswers : Picked → ℕ → Answer → Type 0
+HandlerAnswers p n y = (n ≡ wait_of p) × (y ≡ answer_of p)
+
+abbrev pub answer_reply : Answer → Reply Plain
+answer_reply (answer.Bytes bytes) = bytes_reply bytes
+answer_reply answer.Done = empty_reply 204
+answer_reply answer.None = empty_reply 404
+
+-- the reply to these arguments
+abbrev pub demo_reply : Picked → Reply Plain
+demo_reply p = answer_reply (answer_of p)

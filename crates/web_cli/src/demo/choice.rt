@@ -1,0 +1,42 @@
+//! What the first segment of a path asks for.
+ghost use Rattle.std.specs.Prelude.{◌≡◌};
+ghost use Rattle.std.specs.Str.{bytes_eq};
+ghost use Rattle.web_cli.specs.Choice.{choice_named, choice_of};
+
+use crate::segment::first_segment;
+
+/// What the program does with a request.
+#[derive(Clone, Copy, Debug, PartialEq, Eq)]
+pub enum Choice {
+    Bytes,
+    Both,
+    Wait,
+    Other,
+}
+
+fn is_named(segment: &[u8], name: &[u8]) -> bool
+    ensures { result ≡ bytes_eq segment.now name.now }
+{
+    segment == name
+}
+
+fn choice_named(segment: &[u8]) -> Choice
+    ensures { result ≡ choice_named segment.now }
+{
+    if is_named(segment, b"bytes") {
+        Choice::Bytes
+    } else if is_named(segment, b"both") {
+        Choice::Both
+    } else if is_named(segment, b"wait") {
+        Choice::Wait
+    } else {
+        Choice::Other
+    }
+}
+
+/// What the first segment of the path asks for.
+pub(crate) fn choice_of(path: &str) -> Choice
+    ensures { result ≡ choice_of path.now }
+{
+    choice_named(first_segment(path))
+}
