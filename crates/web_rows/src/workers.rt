@@ -9,8 +9,10 @@ use std::rc::Rc;
 use std::test::Fail;
 use web_body::{Marks, Payload};
 use web_cli::{Demo, DemoLayer, Script, Verdict, read_script};
+use web_extract::Ready;
+use web_reply::BoxBody;
 use web_request::{Mark, NoMemory};
-use web_worker::{Exchange, Flight, Outcome, Worker, poll_one, serve_all};
+use web_worker::{Exchange, Flight, Handler, Outcome, Worker, poll_one, serve_all};
 
 fn worker(alloc: Global) -> Result<Worker<Demo>, NoMemory> {
     let root = Rc::new(alloc, DemoLayer)?;
@@ -42,9 +44,32 @@ fn exchanges(alloc: Global) -> Result<Vec<Exchange<Demo>>, NoMemory> {
     Ok(exchanges)
 }
 
-fn is_reply(outcome: &Outcome, status: StatusCode, body: &[u8]) -> bool {
+/// Answers the body as it came.
+#[derive(Drop)]
+struct Echo;
+
+impl Handler<Bytes> for Echo {
+    ghost use Rattle.std.specs.Prelude.{◌≡◌, None};
+
+    type Output = Bytes;
+
+    type Future = Ready<Bytes>;
+
+    ghost answers = { λ h body n y. (n ≡ 0) × (y ≡ body) };
+
+    ghost calls = { λ h. None };
+
+    fn call(&mut self, _alloc: Global, body: Bytes) -> Result<Ready<Bytes>, NoMemory> {
+        Ok(Ready::new(body))
+    }
+}
+
+pub(crate) fn is_reply(outcome: &Outcome<Demo>, status: StatusCode, body: &[u8]) -> bool {
     match outcome {
-        Outcome::Reply(reply) => reply.status == status && reply.body.as_slice() == body,
+        Outcome::Reply(reply) => match reply.body() {
+            BoxBody::Bytes(bytes) => reply.status() == status && bytes.as_slice() == body,
+            _ => false,
+        },
         Outcome::Unfinished | Outcome::NoMemory => false,
     }
 }
@@ -56,7 +81,7 @@ fn exchanges_are_served_in_the_order_of_the_plan(rt: HostRuntime) -> Result<(), 
     assert_eq!(rt; exchanges.len(), 4);
     assert_eq!(rt; worker.pool().made(), 0);
     let plan = [0, 3, 1, 0, 2, 0, 9];
-    let Ok(outcomes) = serve_all(rt.alloc(), &mut worker, exchanges, &plan) else {
+    let Ok(outcomes) = serve_all(rt.alloc(), &mut worker, exchanges, &plan, &mut Echo) else {
         panic!(rt; "no memory");
     };
     assert_eq!(rt; outcomes.len(), 4);
@@ -78,13 +103,13 @@ fn exchanges_are_served_in_the_order_of_the_plan(rt: HostRuntime) -> Result<(), 
 #[test]
 fn each_first_poll_makes_one_record(rt: HostRuntime) -> Result<(), Fail> {
     let mut worker = worker(rt.alloc())?;
-    let mut flights = Vec::new(rt.alloc());
+    let mut flights: Vec<Flight<Demo, Bytes, Echo>> = Vec::new(rt.alloc());
     for exchange in exchanges(rt.alloc())? {
         flights.push(Flight::new(exchange))?;
     }
     for (place, made) in [(1, 1), (0, 2), (1, 2), (0, 2), (9, 2), (3, 3)] {
         assert!(rt; worker.pool().made() < 9);
-        poll_one(rt.alloc(), &mut worker, &mut flights, place);
+        poll_one(rt.alloc(), &mut worker, &mut Echo, &mut flights, place);
         assert_eq!(rt; worker.pool().made(), made, "after a poll of {place}");
     }
     Ok(())
