@@ -1,8 +1,10 @@
-//! Tests of the whole, and no other code: what each script is answered, inputs and outputs that fail at each call in turn,
+//! Tests of the whole, and handlers as a user of the library writes them: what each script is answered, inputs and outputs that fail at each call in turn,
 //! words that are no command, and one use of each public function that takes memory.
 //!
 //! The wanted texts are written by hand from what the program promises.
 #![tactic(auto)]
+
+mod handlers;
 
 #[cfg(test)]
 mod arguments;
@@ -10,6 +12,8 @@ mod arguments;
 mod bodies;
 #[cfg(test)]
 mod ends;
+#[cfg(test)]
+mod poll_order;
 #[cfg(test)]
 mod records;
 #[cfg(test)]
@@ -22,3 +26,7 @@ mod responders;
 mod texts;
 #[cfg(test)]
 mod workers;
+
+pub use handlers::{
+    Echo, Greeter, Outcomes, SecondPoll, serve_by_closure, serve_echo, serve_greeting,
+};
