@@ -4,14 +4,13 @@
 //! The wanted texts are written by hand from what the program promises.
 #![tactic(auto)]
 
-mod handlers;
-
 #[cfg(test)]
 mod arguments;
 #[cfg(test)]
 mod bodies;
 #[cfg(test)]
 mod ends;
+mod handlers;
 #[cfg(test)]
 mod poll_order;
 #[cfg(test)]

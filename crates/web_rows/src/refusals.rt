@@ -65,7 +65,13 @@ fn each_faulty_script_is_refused(rt: HostRuntime) -> Result<(), Fail> {
     ] {
         let mut input = MemInput::new(script.as_bytes(), 3, &[]);
         let mut output = PlainOutput::new(rt.alloc());
-        let status = run(rt.alloc(), &words, &mut input, &mut output, &mut DemoHandler);
+        let status = run(
+            rt.alloc(),
+            &words,
+            &mut input,
+            &mut output,
+            &mut DemoHandler,
+        );
         assert_eq!(rt; status, Status::Script, "{name}");
         assert!(rt; output.as_slice() == b"not built\n".as_slice(), "{name}");
     }

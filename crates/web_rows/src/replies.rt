@@ -100,7 +100,13 @@ fn each_script_has_its_answer_where_memory_is_ample(rt: HostRuntime) -> Result<(
     ] {
         let mut input = MemInput::new(script.as_bytes(), 3, &[]);
         let mut output = PlainOutput::new(rt.alloc());
-        let status = run(rt.alloc(), &words, &mut input, &mut output, &mut DemoHandler);
+        let status = run(
+            rt.alloc(),
+            &words,
+            &mut input,
+            &mut output,
+            &mut DemoHandler,
+        );
         assert_eq!(rt; status, Status::Done, "{name}");
         assert!(rt; output.as_slice() == want.as_bytes(), "{name}");
     }

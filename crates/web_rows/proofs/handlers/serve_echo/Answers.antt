@@ -13,7 +13,7 @@ returns-clause-answered g c =
     let feed = g.A.Source.Source.feed in
     on_ok c.serve_all.result _ _
     (λ os served. served (λ x. body_delay feed x) (λ x. body_reply feed x)
-        (each_answered (λ e f. f ≡ fault_of (Payload e)) (λ e f h. h) NeverGives _ _ _ (λ e f. f ≡ e) (λ e f h. h) (request_of c.args.worker.now) feed c.args.exchanges.items c.requires.told))
+    (each_answered (λ e f. f ≡ fault_of (Payload e)) (λ e f h. h) NeverGives _ _ _ (λ e f. f ≡ e) (λ e f h. h) (request_of c.args.worker.now) feed c.args.exchanges.items c.requires.told))
     c.serve_all.ensures.functions
 
 pub returns-clause-called : goal.returns-clause-called
@@ -21,5 +21,5 @@ returns-clause-called g c =
     let feed = g.A.Source.Source.feed in
     on_ok c.serve_all.result _ _
     (λ os called none. some_same (called (λ x. body_and_rest feed x)
-        (each_argued (λ e f. f ≡ fault_of (Payload e)) (λ e f h. h) NeverGives _ _ _ (λ e f. f ≡ e) (λ e f h. h) (request_of c.args.worker.now) feed c.args.exchanges.items c.requires.told) none))
+    (each_argued (λ e f. f ≡ fault_of (Payload e)) (λ e f h. h) NeverGives _ _ _ (λ e f. f ≡ e) (λ e f h. h) (request_of c.args.worker.now) feed c.args.exchanges.items c.requires.told) none))
     c.serve_all.ensures.called

@@ -10,5 +10,5 @@ pub returns : goal.returns
 returns g c =
     on_ok c.serve_all.result _ _
     (λ os served. served (λ x. 1) (λ x. text_reply (codes "hello"))
-        (each_greeted _ _ _ NeverGives (request_of c.args.worker.now) g.A.Source.Source.feed c.args.exchanges.items c.requires.told))
+    (each_greeted _ _ _ NeverGives (request_of c.args.worker.now) g.A.Source.Source.feed c.args.exchanges.items c.requires.told))
     c.serve_all.ensures.functions
