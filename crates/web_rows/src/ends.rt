@@ -3,8 +3,8 @@ use crate::replies::words;
 use std::process::Abort;
 use std::test::Fail;
 use web_cli::{
-    Input, MemInput, MemOutput, Output, PlainInput, PlainOutput, ReadAnswer, ReadWhole, Status,
-    WriteAnswer, read_whole, run, write_whole,
+    DemoHandler, Input, MemInput, MemOutput, Output, PlainInput, PlainOutput, ReadAnswer,
+    ReadWhole, Status, WriteAnswer, read_whole, run, write_whole,
 };
 
 #[test]
@@ -18,7 +18,13 @@ fn a_fault_at_each_read_in_turn_is_told_and_nothing_is_written(
         let fails_at = [call];
         let mut input = MemInput::new(script, 2, &fails_at);
         let mut output = PlainOutput::new(rt.alloc());
-        let status = run(rt.alloc(), &words, &mut input, &mut output);
+        let status = run(
+            rt.alloc(),
+            &words,
+            &mut input,
+            &mut output,
+            &mut DemoHandler,
+        );
         if call <= 19 {
             assert_eq!(rt; status, Status::ReadFault, "at call {call}");
             assert!(rt; output.as_slice().is_empty(), "at call {call}");
@@ -57,7 +63,13 @@ fn a_fault_at_each_write_in_turn_leaves_the_front_of_the_text(rt: HostRuntime) -
             let fails_at = [(sent as u64).saturating_add(1)];
             let mut input = PlainInput::new(script.as_bytes());
             let mut output = MemOutput::new(rt.alloc(), 1, &fails_at);
-            let status = run(rt.alloc(), &words, &mut input, &mut output);
+            let status = run(
+                rt.alloc(),
+                &words,
+                &mut input,
+                &mut output,
+                &mut DemoHandler,
+            );
             let want = if sent < text.len() {
                 Status::WriteFault
             } else {
@@ -138,7 +150,13 @@ fn a_script_of_the_limit_is_read_and_one_byte_more_is_refused(rt: HostRuntime) -
         let script = vec![in rt.alloc(); b'#'; size]?;
         let mut input = PlainInput::new(&script);
         let mut output = PlainOutput::new(rt.alloc());
-        let status = run(rt.alloc(), &words, &mut input, &mut output);
+        let status = run(
+            rt.alloc(),
+            &words,
+            &mut input,
+            &mut output,
+            &mut DemoHandler,
+        );
         assert_eq!(rt; status, want, "{size}");
         assert!(rt; output.as_slice() == text, "{size}");
     }

@@ -1,4 +1,4 @@
-//! Tests of the whole, and no other code: what each script is answered, inputs and outputs that fail at each call in turn,
+//! Tests of the whole, and handlers as a user of the library writes them: what each script is answered, inputs and outputs that fail at each call in turn,
 //! words that are no command, and one use of each public function that takes memory.
 //!
 //! The wanted texts are written by hand from what the program promises.
@@ -10,6 +10,9 @@ mod arguments;
 mod bodies;
 #[cfg(test)]
 mod ends;
+mod handlers;
+#[cfg(test)]
+mod poll_order;
 #[cfg(test)]
 mod records;
 #[cfg(test)]
@@ -17,6 +20,12 @@ mod refusals;
 #[cfg(test)]
 mod replies;
 #[cfg(test)]
+mod responders;
+#[cfg(test)]
 mod texts;
 #[cfg(test)]
 mod workers;
+
+pub use handlers::{
+    Echo, Greeter, Outcomes, SecondPoll, serve_by_closure, serve_echo, serve_greeting,
+};

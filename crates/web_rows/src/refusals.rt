@@ -3,7 +3,7 @@ use crate::replies::words;
 use std::alloc::Global;
 use std::process::Abort;
 use std::test::Fail;
-use web_cli::{Input, MemInput, PlainOutput, ReadAnswer, Status, run};
+use web_cli::{DemoHandler, Input, MemInput, PlainOutput, ReadAnswer, Status, run};
 
 #[test]
 fn each_faulty_script_is_refused(rt: HostRuntime) -> Result<(), Fail> {
@@ -13,10 +13,7 @@ fn each_faulty_script_is_refused(rt: HostRuntime) -> Result<(), Fail> {
             "a segment that is not built",
             "exchange POST /json\nplan 0\n",
         ),
-        (
-            "a method that is not built",
-            "exchange GET /bytes\nplan 0\n",
-        ),
+        ("an exchange without a target", "exchange GET\nplan 0\n"),
         ("an unknown word", "exchange POST /bytes\ntexts a\nplan 0\n"),
         (
             "a word in upper case",
@@ -68,7 +65,13 @@ fn each_faulty_script_is_refused(rt: HostRuntime) -> Result<(), Fail> {
     ] {
         let mut input = MemInput::new(script.as_bytes(), 3, &[]);
         let mut output = PlainOutput::new(rt.alloc());
-        let status = run(rt.alloc(), &words, &mut input, &mut output);
+        let status = run(
+            rt.alloc(),
+            &words,
+            &mut input,
+            &mut output,
+            &mut DemoHandler,
+        );
         assert_eq!(rt; status, Status::Script, "{name}");
         assert!(rt; output.as_slice() == b"not built\n".as_slice(), "{name}");
     }
@@ -80,7 +83,7 @@ fn is_no_command(rt: &impl Abort, alloc: Global, texts: &[&str]) -> Result<(), F
     let words = words(alloc, texts)?;
     let mut input = MemInput::new(b"ab", 3, &[]);
     let mut output = PlainOutput::new(alloc);
-    let status = run(alloc, &words, &mut input, &mut output);
+    let status = run(alloc, &words, &mut input, &mut output, &mut DemoHandler);
     assert_eq!(rt; status, Status::Usage, "{texts:?}");
     let usage = b"usage: serve --pool=N | generate SEED COUNT | replay SEED COUNT\n";
     assert!(rt; output.as_slice() == usage.as_slice(), "{texts:?}");

@@ -1,7 +1,7 @@
 //! Scripts and what they are answered.
 use std::alloc::{AllocError, Global};
 use std::test::Fail;
-use web_cli::{MemInput, PlainOutput, Status, run};
+use web_cli::{DemoHandler, MemInput, PlainOutput, Status, run};
 
 /// Words of the command line.
 pub(crate) fn words(alloc: Global, texts: &[&str]) -> Result<Vec<String>, AllocError> {
@@ -62,10 +62,51 @@ fn each_script_has_its_answer_where_memory_is_ample(rt: HostRuntime) -> Result<(
             "exchange POST /bytes\ntext a\nstall\nexchange POST /bytes\ntext  b \nplan 1 0 0\n",
             "exchange 0\nstatus 200\ncontent-type: application/octet-stream\nbody text a\nexchange 1\nstatus 200\ncontent-type: application/octet-stream\nbody text  b \npool\nmade 2\n",
         ),
+        (
+            "an empty reply after a wait",
+            "exchange GET /wait\nparam delay 2\nplan 0 0 0\n",
+            "exchange 0\nstatus 204\nbody\npool\nmade 1\n",
+        ),
+        (
+            "a wait that the plan cuts off",
+            "exchange GET /wait\nparam delay 2\nplan 0 0\n",
+            "exchange 0\nunfinished\npool\nmade 1\n",
+        ),
+        (
+            "an empty reply to an unknown path",
+            "exchange POST /nothing\nplan 0\n",
+            "exchange 0\nstatus 404\nbody\npool\nmade 1\n",
+        ),
+        (
+            "a fault and a late refusal at once: the first argument's decides",
+            "exchange POST /both\nparam delay 1\nparam refuse 409\nstall\nfault\nplan 0 0\n",
+            "exchange 0\nstatus 400\ncontent-type: text/plain; charset=utf-8\nbody text payload read failed\npool\nmade 1\n",
+        ),
+        (
+            "a late refusal before a fault",
+            "exchange POST /both\nparam delay 1\nparam refuse 409\nstall\nstall\nfault\nplan 0 0\n",
+            "exchange 0\nstatus 409\ncontent-type: text/plain; charset=utf-8\nbody text late\npool\nmade 1\n",
+        ),
+        (
+            "a list of arguments that has not come",
+            "exchange POST /both\nparam delay 1\ntext ab\nplan 0\n",
+            "exchange 0\nunfinished\npool\nmade 1\n",
+        ),
+        (
+            "a list of arguments that waits for the late one",
+            "exchange POST /both\nparam delay 1\ntext ab\nplan 0 0\n",
+            "exchange 0\nstatus 200\ncontent-type: application/octet-stream\nbody text ab\npool\nmade 1\n",
+        ),
     ] {
         let mut input = MemInput::new(script.as_bytes(), 3, &[]);
         let mut output = PlainOutput::new(rt.alloc());
-        let status = run(rt.alloc(), &words, &mut input, &mut output);
+        let status = run(
+            rt.alloc(),
+            &words,
+            &mut input,
+            &mut output,
+            &mut DemoHandler,
+        );
         assert_eq!(rt; status, Status::Done, "{name}");
         assert!(rt; output.as_slice() == want.as_bytes(), "{name}");
     }

@@ -1,0 +1,5 @@
+-- Lemmas of the handlers.
+mod Echoing
+mod Greeting
+mod Listing
+mod Told

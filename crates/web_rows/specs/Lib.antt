@@ -1,0 +1,3 @@
+-- The definitions of the examples.
+pub mod Examples
+pub mod SecondPoll
