@@ -26,7 +26,13 @@ fn main(rt: HostRuntime) -> ExitCode {
         Ok(words) => {
             let mut input = StdInput::new(rt.stdin());
             let mut output = StdOutput::new(rt.stdout());
-            run(rt.alloc(), &words, &mut input, &mut output, &mut DemoHandler)
+            run(
+                rt.alloc(),
+                &words,
+                &mut input,
+                &mut output,
+                &mut DemoHandler,
+            )
         }
         Err(status) => status,
     };
