@@ -1,5 +1,8 @@
 //! Serves a script as the program rothveng does, in plain Rust, to measure against.
+mod arguments;
 mod printing;
+mod reply;
+mod request;
 mod script;
 mod serving;
 

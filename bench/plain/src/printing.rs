@@ -1,5 +1,6 @@
 //! The text of the replies.
-use crate::serving::{Flight, Reply};
+use crate::reply::Reply;
+use crate::serving::Flight;
 use std::io::Write;
 
 const HEX: &[u8; 16] = b"0123456789abcdef";
@@ -10,27 +11,25 @@ pub fn printed(flights: &[Flight<'_>], made: u64) -> Vec<u8> {
     for (number, flight) in flights.iter().enumerate() {
         writeln!(out, "exchange {number}").expect("writing to a vector does not fail");
         match flight {
-            Flight::Answered(Reply::Body(body)) => {
-                out.extend_from_slice(b"status 200\ncontent-type: application/octet-stream\n");
-                put_body(&mut out, body);
-            }
-            Flight::Answered(Reply::TooLong) => {
-                put_error(&mut out, b"status 413\n", b"payload reached its limit")
-            }
-            Flight::Answered(Reply::Failed) => {
-                put_error(&mut out, b"status 400\n", b"payload read failed")
-            }
-            Flight::Waiting(_) | Flight::Collecting(..) => out.extend_from_slice(b"unfinished\n"),
+            Flight::Answered(reply) => put_reply(&mut out, reply),
+            _ => out.extend_from_slice(b"unfinished\n"),
         }
     }
     writeln!(out, "pool\nmade {made}").expect("writing to a vector does not fail");
     out
 }
 
-fn put_error(out: &mut Vec<u8>, status: &[u8], text: &[u8]) {
-    out.extend_from_slice(status);
-    out.extend_from_slice(b"content-type: text/plain; charset=utf-8\n");
-    put_body(out, text);
+fn put_reply(out: &mut Vec<u8>, reply: &Reply) {
+    writeln!(out, "status {}", reply.status).expect("writing to a vector does not fail");
+    let mut headers: Vec<_> = reply.headers.iter().collect();
+    headers.sort_by_key(|header| header.0);
+    for (name, value) in headers {
+        out.extend_from_slice(name.as_bytes());
+        out.extend_from_slice(b": ");
+        out.extend_from_slice(value.as_bytes());
+        out.push(b'\n');
+    }
+    put_body(out, &reply.body);
 }
 
 fn put_body(out: &mut Vec<u8>, body: &[u8]) {

@@ -1,4 +1,5 @@
 //! Scripts: exchanges with the marks of their bodies, and the plan.
+use crate::request::{self, Request};
 use std::io::BufRead;
 
 /// One mark of a body.
@@ -11,9 +12,14 @@ pub enum Mark<'a> {
     Fault,
 }
 
+/// A request and the marks of its body.
+pub struct Exchange<'a> {
+    pub request: Request,
+    pub marks: Vec<Mark<'a>>,
+}
+
 pub struct Script<'a> {
-    /// The marks of each exchange.
-    pub exchanges: Vec<Vec<Mark<'a>>>,
+    pub exchanges: Vec<Exchange<'a>>,
     pub plan: Vec<u32>,
 }
 
@@ -41,14 +47,19 @@ pub fn read(bytes: &[u8]) -> Option<Script<'_>> {
             return None;
         }
         if word == b"exchange" {
-            if argument != b"POST /bytes" {
-                return None;
-            }
-            script.exchanges.push(Vec::new());
+            script.exchanges.push(Exchange {
+                request: request::read(argument)?,
+                marks: Vec::new(),
+            });
             faulty = false;
             continue;
         }
-        let marks = script.exchanges.last_mut()?;
+        let exchange = script.exchanges.last_mut()?;
+        if word == b"param" {
+            exchange.request.params.push(read_param(argument)?);
+            continue;
+        }
+        let marks = &mut exchange.marks;
         if faulty {
             return None;
         }
@@ -89,6 +100,12 @@ fn split_word(line: &[u8]) -> (&[u8], &[u8]) {
         Some(at) => (&line[..at], &line[at + 1..]),
         None => (line, b""),
     }
+}
+
+/// A name that is not empty, one space, and a value.
+fn read_param(argument: &[u8]) -> Option<(String, String)> {
+    let (name, value) = std::str::from_utf8(argument).ok()?.split_once(' ')?;
+    (!name.is_empty()).then(|| (name.to_owned(), value.to_owned()))
 }
 
 /// Adds the entries: none, or numbers with one space between.

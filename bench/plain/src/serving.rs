@@ -1,32 +1,25 @@
 //! One worker that polls the exchanges in the order of the plan.
-use crate::script::{Mark, Script};
-
-/// The most bytes that a body may have.
-const BODY_LIMIT: usize = 262_144;
-
-/// How an exchange was answered.
-pub enum Reply {
-    Body(Vec<u8>),
-    TooLong,
-    Failed,
-}
+use crate::arguments::{Arguments, Picked};
+use crate::reply::Reply;
+use crate::request::Request;
+use crate::script::{Exchange, Script};
 
 /// An exchange on its way.
 pub enum Flight<'a> {
     /// No entry of the plan has named it.
-    Waiting(std::vec::IntoIter<Mark<'a>>),
-    /// Its body is being collected.
-    Collecting(std::vec::IntoIter<Mark<'a>>, Vec<u8>),
+    Waiting(Exchange<'a>),
+    /// Its arguments are being made.
+    Extracting(Request, Arguments<'a>),
+    /// Its handler answers after so many more polls, and may read the request until then.
+    Handling(#[expect(dead_code)] Request, u64, Reply),
     Answered(Reply),
+    /// It is being polled.
+    Taken,
 }
 
 /// Polls each exchange as often as the plan names it, and counts those that were begun.
 pub fn serve(script: Script<'_>) -> (Vec<Flight<'_>>, u64) {
-    let mut flights: Vec<Flight> = script
-        .exchanges
-        .into_iter()
-        .map(|marks| Flight::Waiting(marks.into_iter()))
-        .collect();
+    let mut flights: Vec<Flight> = script.exchanges.into_iter().map(Flight::Waiting).collect();
     let mut made = 0;
     for entry in script.plan {
         if let Some(flight) = flights.get_mut(entry as usize) {
@@ -36,33 +29,48 @@ pub fn serve(script: Script<'_>) -> (Vec<Flight<'_>>, u64) {
     (flights, made)
 }
 
-/// Takes the marks up to the next stall, or to the answer.
+/// Polls what the exchange waits for.
 fn poll(flight: &mut Flight<'_>, made: &mut u64) {
-    if let Flight::Waiting(marks) = flight {
-        *made += 1;
-        *flight = Flight::Collecting(std::mem::take(marks), Vec::new());
-    }
-    let Flight::Collecting(marks, body) = flight else {
-        return;
-    };
-    let reply = loop {
-        match marks.next() {
-            Some(Mark::Text(piece)) => {
-                if body.len() + piece.len() > BODY_LIMIT {
-                    break Reply::TooLong;
-                }
-                body.extend_from_slice(piece);
-            }
-            Some(Mark::Piece(piece)) => {
-                if body.len() + piece.len() > BODY_LIMIT {
-                    break Reply::TooLong;
-                }
-                body.extend_from_slice(&piece);
-            }
-            Some(Mark::Stall) => return,
-            Some(Mark::Fault) => break Reply::Failed,
-            None => break Reply::Body(std::mem::take(body)),
+    match flight {
+        Flight::Waiting(_) => {
+            let Flight::Waiting(exchange) = std::mem::replace(flight, Flight::Taken) else {
+                return;
+            };
+            *made += 1;
+            let arguments = Arguments::of(&exchange.request, exchange.marks);
+            *flight = Flight::Extracting(exchange.request, arguments);
+            poll(flight, made);
         }
-    };
-    *flight = Flight::Answered(reply);
+        Flight::Extracting(_, arguments) => match arguments.poll() {
+            None => {}
+            Some(Err(refusal)) => *flight = Flight::Answered(refusal),
+            Some(Ok(picked)) => {
+                let Flight::Extracting(request, _) = std::mem::replace(flight, Flight::Taken)
+                else {
+                    return;
+                };
+                let (wait, reply) = handle(picked);
+                *flight = Flight::Handling(request, wait, reply);
+                poll(flight, made);
+            }
+        },
+        Flight::Handling(_, left, reply) => {
+            if *left > 0 {
+                *left -= 1;
+            } else {
+                let reply = std::mem::replace(reply, Reply::empty(200));
+                *flight = Flight::Answered(reply);
+            }
+        }
+        Flight::Answered(_) | Flight::Taken => {}
+    }
+}
+
+/// After how many polls the handler answers, and what.
+fn handle(picked: Picked) -> (u64, Reply) {
+    match picked {
+        Picked::Bytes(body) => (0, Reply::typed(200, "application/octet-stream", body)),
+        Picked::Wait(delay) => (delay, Reply::empty(204)),
+        Picked::Other => (0, Reply::empty(404)),
+    }
 }
