@@ -1,5 +1,5 @@
 -- The handler that answers the body.
-use Rattle.std.proofs.Common.{◌≡◌, ℕ, ◌<◌, List, arith, refl, sym, ap, ◌∙◌}
+use Rattle.std.proofs.Common.{◌≡◌, ℕ, ◌<◌, List, arith, ap, ◌∙◌}
 use Rattle.std.specs.Prelude.{Option, None, Some, Result, Ok, Err}
 use Rattle.web_request.specs.declared.source.Mark.{Mark}
 use Rattle.std.specs.Prelude.{slice_index_or}
@@ -12,7 +12,7 @@ use Rattle.web_body.specs.Collecting.{answer_of}
 use Rattle.web_body.specs.declared.message_body.PayloadError.{PayloadError}
 use Rattle.web_reply.specs.declared.cause.Cause.TheVariants.{Payload}
 use Rattle.web_reply.specs.Bodies.{Plain}
-use Rattle.web_reply.specs.Replies.{Fault, Reply, fault_of}
+use Rattle.web_reply.specs.Replies.{Reply, fault_of}
 use Rattle.web_reply.specs.Responds.{bytes_reply}
 use Rattle.web_extract.specs.Collected.{MeansBytes}
 use Rattle.web_extract.specs.Ready.{GivesHeld}

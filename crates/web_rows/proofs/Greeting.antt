@@ -1,5 +1,5 @@
 -- The handler that stalls once.
-use Rattle.std.proofs.Common.{◌≡◌, ℕ, ◌<◌, List, Bor, arith, refl, ap, ◌∙◌}
+use Rattle.std.proofs.Common.{◌≡◌, ℕ, ◌<◌, List, Bor, arith, ap, ◌∙◌}
 use Rattle.std.specs.Prelude.{Result, Ok, Err, codes}
 use Rattle.web_request.specs.declared.source.Mark.{Mark}
 use Rattle.std.specs.Prelude.{slice_index_or}

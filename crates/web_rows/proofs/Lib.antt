@@ -3,3 +3,4 @@ mod Echoing
 mod Greeting
 mod Listing
 mod Told
+mod Untold

@@ -1,6 +1,6 @@
 -- The handler that takes the body and the rest behind it.
 use Rattle.std.proofs.Common.{◌≡◌, ℕ, ◌<◌, List, [], arith, refl, sym, ap, ◌∙◌, inl, inr}
-use Rattle.std.specs.Prelude.{Option, None, Some, Result, Ok, Err, max, slice_index_or}
+use Rattle.std.specs.Prelude.{Option, Some, Result, Ok, Err, max, slice_index_or}
 use Rattle.std.specs.List.{All}
 use Rattle.std.specs.Result.{result_ok}
 use Rattle.web_request.specs.declared.source.Mark.{Mark}
@@ -15,7 +15,6 @@ use Rattle.web_reply.specs.Bodies.{Plain, whole_plain}
 use Rattle.web_reply.specs.Replies.{Fault, Reply, error_reply, fault_of, plain_reply}
 use Rattle.web_reply.specs.Responds.{bytes_reply}
 use Rattle.web_extract.specs.Collected.{MeansBytes}
-use Rattle.web_extract.specs.Joined.{Turned}
 use Rattle.web_extract.specs.Lists.{Means2, Member}
 use Rattle.web_extract.specs.Optional.{GivesOption, as_option}
 use Rattle.web_extract.specs.declared.never.Never.{Never}

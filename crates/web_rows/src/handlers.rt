@@ -1,5 +1,5 @@
 //! Three handlers, as a user of the library writes them, each served by a function with a contract of its own.
-ghost use Rattle.std.specs.Prelude.{◌≡◌, ◌+◌, ◌<◌, ◌^◌, ◌++◌, [], length, codes, false, IfOk, Ok, Some};
+ghost use Rattle.std.specs.Prelude.{◌≡◌, ◌+◌, ◌<◌, ◌^◌, ◌++◌, [], length, codes, false, IfOk};
 ghost use Rattle.std.specs.List.{All, list_any};
 ghost use Rattle.web_reply.specs.Responds.{text_reply};
 ghost use Rattle.web_worker.specs.Called.{calls_of};
@@ -89,10 +89,9 @@ pub fn serve_echo<A: App>(
     echo: &mut Echo,
 ) -> Outcomes<A>
     requires room { worker.old.made + length exchanges.items < 2 ^ 64 }
-    requires told { All (λ x. IsTold A.Source.feed x) exchanges.items }
-    ensures answered { IfOk result (λ os. AreAnswered (λ x. body_delay A.Source.feed x) (λ x. body_reply A.Source.feed x)
+    ensures answered { All (λ x. IsTold A.Source.feed x) exchanges.items → IfOk result (λ os. AreAnswered (λ x. body_delay A.Source.feed x) (λ x. body_reply A.Source.feed x)
         plan.now exchanges.items (endings A.Source.feed os.items)) }
-    ensures called { IfOk result (λ os. list_any lacks_memory (endings A.Source.feed os.items) ≡ false
+    ensures called { All (λ x. IsTold A.Source.feed x) exchanges.items → IfOk result (λ os. list_any lacks_memory (endings A.Source.feed os.items) ≡ false
         → echo.new ≡ echo.old ++ calls_of (λ x. body_and_rest A.Source.feed x) exchanges.items plan.now) }
 {
     serve_all(alloc, worker, exchanges, plan, echo)
@@ -109,15 +108,12 @@ pub fn serve_by_closure<A: App>(
     plan: &[usize],
 ) -> Outcomes<A>
     requires room { worker.old.made + length exchanges.items < 2 ^ 64 }
-    requires told { All (λ x. IsTold A.Source.feed x) exchanges.items }
-    ensures { IfOk result (λ os. AreAnswered (λ x. body_delay A.Source.feed x) (λ x. body_reply A.Source.feed x)
+    ensures { All (λ x. IsTold A.Source.feed x) exchanges.items → IfOk result (λ os. AreAnswered (λ x. body_delay A.Source.feed x) (λ x. body_reply A.Source.feed x)
         plan.now exchanges.items (endings A.Source.feed os.items)) }
 {
-    let mut handler = FnHandler(
-        |body: Bytes| -> Result<Ready<Bytes>, NoMemory>
-            ensures { result ≡ Ok (Some body) }
-        { Ok(Ready::new(body)) },
-    );
+    let mut handler = FnHandler(|body: Bytes| -> Result<Ready<Bytes>, NoMemory> {
+        Ok(Ready::new(body))
+    });
     let outcomes = serve_all(alloc, worker, exchanges, plan, &mut handler);
     let FnHandler(_) = handler;
     outcomes
@@ -192,8 +188,7 @@ pub fn serve_greeting<A: App>(
     plan: &[usize],
 ) -> Outcomes<A>
     requires room { worker.old.made + length exchanges.items < 2 ^ 64 }
-    requires told { All (λ x. IsTold A.Source.feed x) exchanges.items }
-    ensures { IfOk result (λ os. AreAnswered (λ x. 1) (λ x. text_reply (codes "hello"))
+    ensures { All (λ x. IsTold A.Source.feed x) exchanges.items → IfOk result (λ os. AreAnswered (λ x. 1) (λ x. text_reply (codes "hello"))
         plan.now exchanges.items (endings A.Source.feed os.items)) }
 {
     serve_all(alloc, worker, exchanges, plan, &mut Greeter)

@@ -1,5 +1,6 @@
-//! Tests of the whole, and handlers as a user of the library writes them: what each script is answered, inputs and outputs that fail at each call in turn,
-//! words that are no command, and one use of each public function that takes memory.
+//! Handlers as a user of the library writes them, and tests of the whole: what each script is answered, inputs and outputs
+//! that fail at each call in turn, words that are no command, the order of polls and calls, and one use of each public
+//! function that takes memory.
 //!
 //! The wanted texts are written by hand from what the program promises.
 #![tactic(auto)]

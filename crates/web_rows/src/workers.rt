@@ -1,7 +1,5 @@
 //! Workers and scripts, each by itself.
 ghost use Rattle.std.specs.Prelude.{◌≡◌, IfOk};
-ghost use Rattle.std.specs.List.{All};
-ghost use Rattle.web_rows.specs.Examples.{IsTold};
 
 use crate::bodies::{failing, hello};
 use crate::handlers::{Echo, serve_by_closure, serve_echo, serve_greeting};
@@ -25,9 +23,7 @@ fn worker(alloc: Global) -> Result<Worker<Demo>, NoMemory>
     Worker::new(alloc, root, config(alloc)?, 0)
 }
 
-fn exchange(alloc: Global, body: Payload<Marks>) -> Result<Exchange<Demo>, NoMemory>
-    ensures { IfOk result (λ x. x.body ≡ body) }
-{
+fn exchange(alloc: Global, body: Payload<Marks>) -> Result<Exchange<Demo>, NoMemory> {
     Ok(Exchange {
         head: head(alloc, "/bytes")?,
         params: Vec::new(alloc),
@@ -111,9 +107,7 @@ fn each_first_poll_makes_one_record(rt: HostRuntime) -> Result<(), Fail> {
 }
 
 /// `hello` with a stall, `ab` with a fault, and a whole body.
-fn told(alloc: Global) -> Result<Vec<Exchange<Demo>>, NoMemory>
-    ensures { IfOk result (λ xs. All (λ x. IsTold (λ feed. feed) x) xs.items) }
-{
+fn three(alloc: Global) -> Result<Vec<Exchange<Demo>>, NoMemory> {
     let first = exchange(alloc, Payload::Stream(Marks::new(hello(alloc)?)))?;
     let second = exchange(alloc, Payload::Stream(Marks::new(failing(alloc)?)))?;
     let third = exchange(alloc, Payload::Whole(Bytes::from_static(b"whole")))?;
@@ -146,18 +140,18 @@ fn each_handler_answers_in_its_own_way(rt: HostRuntime) -> Result<(), Fail> {
     let alloc = rt.alloc();
     let plan = [0, 2, 1, 0];
     let mut echo = Echo::new(alloc);
-    match serve_echo(alloc, &mut worker(alloc)?, told(alloc)?, &plan, &mut echo) {
+    match serve_echo(alloc, &mut worker(alloc)?, three(alloc)?, &plan, &mut echo) {
         Ok(outcomes) => are_bodies(&rt, &outcomes),
         Err(_) => panic!(rt; "no memory"),
     }
     assert_eq!(rt; echo.calls().len(), 2);
     assert!(rt; is_call(&echo.calls()[0], b"whole"));
     assert!(rt; is_call(&echo.calls()[1], b"hello"));
-    match serve_by_closure(alloc, &mut worker(alloc)?, told(alloc)?, &plan) {
+    match serve_by_closure(alloc, &mut worker(alloc)?, three(alloc)?, &plan) {
         Ok(outcomes) => are_bodies(&rt, &outcomes),
         Err(_) => panic!(rt; "no memory"),
     }
-    let Ok(outcomes) = serve_greeting(alloc, &mut worker(alloc)?, told(alloc)?, &plan) else {
+    let Ok(outcomes) = serve_greeting(alloc, &mut worker(alloc)?, three(alloc)?, &plan) else {
         panic!(rt; "no memory");
     };
     assert_eq!(rt; outcomes.len(), 3);

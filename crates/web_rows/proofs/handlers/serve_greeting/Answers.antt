@@ -7,8 +7,8 @@ use Rattle.web_rows.proofs.Told.{on_ok}
 use Rattle.web_rows.proofs.handlers.serve_greeting.Goals as goal
 
 pub returns : goal.returns
-returns g c =
+returns g c told =
     on_ok c.serve_all.result _ _
     (λ os served. served (λ x. 1) (λ x. text_reply (codes "hello"))
-    (each_greeted _ _ _ NeverGives (request_of c.args.worker.now) g.A.Source.Source.feed c.args.exchanges.items c.requires.told))
+    (each_greeted _ _ _ NeverGives (request_of c.args.worker.now) g.A.Source.Source.feed c.args.exchanges.items told))
     c.serve_all.ensures.functions
