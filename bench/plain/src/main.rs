@@ -5,6 +5,7 @@ mod reply;
 mod request;
 mod script;
 mod serving;
+mod target;
 
 use std::io::{Read, Write};
 use std::process::ExitCode;

@@ -1,11 +1,11 @@
 //! Requests, as a script asks for them.
+use crate::target::{self, Target};
 
 /// A request without its body.
 pub struct Request {
     #[expect(dead_code, reason = "no handler asks for it yet")]
     pub method: String,
-    /// A path that begins with a slash, with its query; or an asterisk.
-    pub target: String,
+    pub target: Target,
     /// As a router would match them, in their order.
     pub params: Vec<(String, String)>,
 }
@@ -18,14 +18,14 @@ const UNBUILT: [&str; 14] = [
 
 /// Reads a method, one space and a target, or answers `None` where they are none.
 pub fn read(argument: &[u8]) -> Option<Request> {
-    let text = std::str::from_utf8(argument).ok()?;
-    let (method, target) = text.split_once(' ')?;
-    if method.is_empty() || !method.bytes().all(is_token) || !is_target(target) {
+    let at = argument.iter().position(|byte| *byte == b' ')?;
+    let (method, target) = (&argument[..at], &argument[at + 1..]);
+    if method.is_empty() || !method.iter().copied().all(is_token) {
         return None;
     }
     let request = Request {
-        method: method.to_owned(),
-        target: target.to_owned(),
+        method: String::from_utf8(method.to_vec()).ok()?,
+        target: target::read(target)?,
         params: Vec::new(),
     };
     if UNBUILT.contains(&request.first_segment()) {
@@ -37,7 +37,12 @@ pub fn read(argument: &[u8]) -> Option<Request> {
 impl Request {
     /// The text between the first slash of the path and the next one.
     pub fn first_segment(&self) -> &str {
-        let path = self.target.split('?').next().unwrap_or_default();
+        let path = self
+            .target
+            .path_and_query
+            .split('?')
+            .next()
+            .unwrap_or_default();
         path.split('/').nth(1).unwrap_or_default()
     }
 
@@ -51,14 +56,6 @@ impl Request {
     }
 }
 
-fn is_target(text: &str) -> bool {
-    text == "*" || text.starts_with('/') && text.len() < 65535 && text.bytes().all(is_target_byte)
-}
-
 fn is_token(byte: u8) -> bool {
     byte.is_ascii_alphanumeric() || b"!#$%&'*+-.^_`|~".contains(&byte)
-}
-
-fn is_target_byte(byte: u8) -> bool {
-    byte > 0x20 && !b"\"<>\\^`#\x7F".contains(&byte)
 }

@@ -114,9 +114,7 @@ pub fn serve_by_closure<A: App>(
     let mut handler = FnHandler(|body: Bytes| -> Result<Ready<Bytes>, NoMemory> {
         Ok(Ready::new(body))
     });
-    let outcomes = serve_all(alloc, worker, exchanges, plan, &mut handler);
-    let FnHandler(_) = handler;
-    outcomes
+    serve_all(alloc, worker, exchanges, plan, &mut handler)
 }
 
 /// A value that is there at the second poll.

@@ -35,6 +35,7 @@ pub trait Handler<Args> {
 }
 
 /// A handler that calls a closure, and tells no list of its calls.
+#[derive(Drop)]
 pub struct FnHandler<F>(pub F);
 
 impl<Args, T: Drop, W: Poll<Output = T>, F: Fn(Args) -> Result<W, NoMemory>> Handler<Args>
