@@ -27,11 +27,11 @@ module _ (L D C : Type 0) (converts : Never → Fault → Type 0) where
 
   once : (q : Request L D C) (m : List Mark) (k : ℕ) (p : Reply Plain) → Replies greeting_rules q m k p → (k ≡ 1) × (p ≡ text_reply hello)
   once q m k p (rest, n, Ok v, (left, now, value), (j, y, (later, text), response, sum)) = (omega (arith, now, later, sum), response ∙ ap text_reply text)
-  once q m k p (rest, n, Err e, means, after) = elim e [ ]
+  once q m k p (rest, n, Err e, (left, now, value), after) = absurd (cc value)
 
   comes : (polls n : ℕ) (x : Result (Unit {0}) Never) → n ≡ 0 → 1 < polls → ComesBefore greeting_rules polls n x
   comes polls n (Ok v) now more = (omega (arith, now, more), λ k y answer. let later = answer.0 in omega (arith, now, more, later))
-  comes polls n (Err e) now more = elim e [ ]
+  comes polls n (Err e) now more = omega (arith, now, more)
 
   before : (q : Request L D C) (m : List Mark) (polls : ℕ) → 1 < polls → RepliesBefore greeting_rules q m polls
   before q m polls more rest n x means = comes polls n x means.1 more

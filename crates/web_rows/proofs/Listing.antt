@@ -60,6 +60,10 @@ value_of : (b : Result (List ℕ) PayloadError) (z : Result Arguments Fault) →
 value_of (Ok c) z e = ap result_ok e
 value_of (Err x) z e = ap result_ok e
 
+never_refused : {T E : Type 0} (y : Result T E) (e : Never) → Err e ≡ as_option y → ⊥
+never_refused (Ok v) e is = cc
+never_refused (Err x) e is = cc
+
 module _ (converts : PayloadError → Fault → Type 0) (turns : (e : PayloadError) (f : Fault) → converts e f → f ≡ fault_of (Payload e)) (never : Never → Fault → Type 0) where
   abbrev pub ListMeans : List Mark → List Mark → ℕ → Result Arguments Fault → Type 0
   ListMeans m rest n x = Means2 (Member converts (λ m rest n x. MeansBytes m rest n x)) (Member never (λ m rest n x. GivesOption (λ n y. MeansBytes m rest n y) n x)) m rest n x
@@ -75,7 +79,7 @@ module _ (converts : PayloadError → Fault → Type 0) (turns : (e : PayloadErr
   pub list_once : (m rest : List Mark) (n : ℕ) (x : Result Arguments Fault) → ListMeans m rest n x → (n ≡ (reading 262144 m).delay) × AsArguments (body_of m) x
   list_once m rest n (Ok (b, o)) (left, (n1, n2, first, second, both)) = let h = value m rest left n1 n2 b o first second in (both ∙ h.0, h.1)
   list_once m rest n (Err f) (left, inl ((e, (empty, delay, is), to), later)) = (delay, rw (← is) (ap Err (turns e f to)))
-  list_once m rest n (Err f) (left, inr ((e, means, to), later)) = elim e [ ]
+  list_once m rest n (Err f) (left, inr ((e, (y, given, is), to), later)) = absurd (never_refused y e is)
 
   module _ (L D C : Type 0) (same : Fault → Fault → Type 0) (is_same : (e f : Fault) → same e f → f ≡ e) where
     abbrev pub list_rules : Rules L D C Arguments Fault (List ℕ)

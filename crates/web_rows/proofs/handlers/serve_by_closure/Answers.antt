@@ -8,7 +8,7 @@ use Rattle.web_rows.proofs.handlers.serve_by_closure.Goals as goal
 pub returns : goal.returns
 returns g c told =
     let feed = g.A.Source.Source.feed in
-    on_ok c.serve_all-outcomes.result _ _
+    on_ok c.serve_all.result _ _
     (λ os served. served (λ x. body_delay feed x) (λ x. body_reply feed x)
     (each_echoed _ _ _ _ (λ body n y answer. held answer.0 body n y (search rules) answer.2) (request_of c.args.worker.now) feed c.args.exchanges.items told))
-    c.serve_all-outcomes.ensures.functions
+    c.serve_all.ensures.functions
