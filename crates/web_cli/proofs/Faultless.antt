@@ -4,7 +4,7 @@ use Rattle.std.proofs.lemmas.Bool.{not-true}
 use Rattle.std.proofs.lemmas.List.{append-nil}
 use Rattle.web_cli.specs.Line.{Line}
 use Rattle.web_cli.specs.Faults.{is_faulty}
-use Rattle.web_cli.specs.Script.{none_faulty, is_first_script, NoneFaulty}
+use Rattle.web_cli.specs.Script.{none_faulty, is_valid_script, NoneFaulty}
 
 both : (a b : Bool) → (a && b) ≡ true → (a ≡ true) × (b ≡ true)
 both true b e = (refl, e)
@@ -33,5 +33,5 @@ after_none before (x ∷ left) none =
     let first : is_faulty before x ≡ false = rw append-nil at (none [] x left refl) in
     rw first (after_none (before ++ x ∷ []) left (λ b l a is. rw (append_assoc before (x ∷ []) b) (none (x ∷ b) l a (ap (λ k. x ∷ k) is))))
 
-pub faultless : (lines : List Line) → (is_first_script lines ≡ true → NoneFaulty lines) × (NoneFaulty lines → is_first_script lines ≡ true)
+pub faultless : (lines : List Line) → (is_valid_script lines ≡ true → NoneFaulty lines) × (NoneFaulty lines → is_valid_script lines ≡ true)
 faultless lines = (none_after [] lines, after_none [] lines)

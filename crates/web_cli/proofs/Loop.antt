@@ -7,7 +7,7 @@ use Rattle.std.proofs.lemmas.Bool.{not-true, not-false}
 use Rattle.std.proofs.lemmas.List.{append-nil}
 use Rattle.web_cli.specs.Line.{Line, line_of}
 use Rattle.web_cli.specs.Faults.{is_faulty}
-use Rattle.web_cli.specs.Script.{is_newline, script_lines, none_faulty, is_first_script, said}
+use Rattle.web_cli.specs.Script.{is_newline, script_lines, none_faulty, is_valid_script, said}
 use Rattle.web_cli.specs.Kept.{Kept, nothing_read, refuses, added, close, Reads}
 use Rattle.web_cli.proofs.IsRead.{IsRead, read_more, refuses_is, exchanges_read}
 use Rattle.web_cli.proofs.Bodies.{IsSound, sound_start, sound_more}
@@ -17,7 +17,7 @@ pub record IsAt (lines left : List Line) (s : Kept) : Type 0 where
   pub before : List Line
   pub lines_are : lines ≡ before ++ left
   pub read : IsRead before s
-  pub faults : none_faulty before left ≡ is_first_script lines
+  pub faults : none_faulty before left ≡ is_valid_script lines
   pub sound : IsSound s
 
 pub at_start : (lines : List Line) → IsAt lines lines nothing_read
@@ -42,12 +42,12 @@ at_next lines x left s at fine = record {
   sound = sound_more s x.word x.argument fine at.sound;
 }
 
-pub at_fault : (lines : List Line) (x : Line) (left : List Line) (s : Kept) → IsAt lines (x ∷ left) s → refuses s x ≡ true → is_first_script lines ≡ false
+pub at_fault : (lines : List Line) (x : Line) (left : List Line) (s : Kept) → IsAt lines (x ∷ left) s → refuses s x ≡ true → is_valid_script lines ≡ false
 at_fault lines x left s at bad =
     let faulty : is_faulty at.before x ≡ true = sym (refuses_is at.before s x.word x.argument at.read) ∙ bad in
     sym at.faults ∙ rw faulty refl
 
-pub at_end : (lines : List Line) (s : Kept) → IsAt lines [] s → (is_first_script lines ≡ true) × (record { exchanges = close s.whole s.open_one; plan = s.plan } ≡ said lines)
+pub at_end : (lines : List Line) (s : Kept) → IsAt lines [] s → (is_valid_script lines ≡ true) × (record { exchanges = close s.whole s.open_one; plan = s.plan } ≡ said lines)
 at_end lines s at =
     let all : lines ≡ at.before = at.lines_are ∙ append-nil at.before in
     let read : IsRead lines s = rw (← all) at at.read in
@@ -73,7 +73,7 @@ line_read lines text first rest s t good cut reads is at =
     rw added_is (at_next lines (line_of (strip_carriage_return first)) (script_lines rest) s now (not-true _ fine))
 
 pub line_faulty : (lines : List Line) (text first rest : List ℕ) (s t : Kept) (good : Bool) → slice_split is_newline text ≡ first ∷ slice_split is_newline rest
-    → Reads s t (line_of (strip_carriage_return first)) good → good ≡ false → IsAt lines (script_lines text) s → is_first_script lines ≡ false
+    → Reads s t (line_of (strip_carriage_return first)) good → good ≡ false → IsAt lines (script_lines text) s → is_valid_script lines ≡ false
 line_faulty lines text first rest s t good cut reads is at =
     let now = subst (λ (l : List Line). IsAt lines l s) (first_line text first rest cut) at in
     let bad : not (refuses s (line_of (strip_carriage_return first))) ≡ false = sym reads.0 ∙ is in
@@ -90,7 +90,7 @@ last_read lines text n s t good cut size reads is at =
     rw added_is (at_next lines (line_of (strip_carriage_return text)) [] s now (not-true _ fine))
 
 pub last_faulty : (lines : List Line) (text : List ℕ) (n : ℕ) (s t : Kept) (good : Bool) → slice_split is_newline text ≡ text ∷ [] → n ≡ length text
-    → Reads s t (line_of (strip_carriage_return (take n text))) good → good ≡ false → IsAt lines (script_lines text) s → is_first_script lines ≡ false
+    → Reads s t (line_of (strip_carriage_return (take n text))) good → good ≡ false → IsAt lines (script_lines text) s → is_valid_script lines ≡ false
 last_faulty lines text n s t good cut size reads is at =
     let all : take n text ≡ text = rw size (take-length text) in
     let reads : Reads s t (line_of (strip_carriage_return text)) good = rw all at reads in

@@ -1,5 +1,7 @@
 -- The arguments of `exchange` and `param` lines, cut at their first space.
-use Rattle.std.proofs.Common.{◌≡◌, ◌==◌, ℕ, Bool, true, false, not, ◌&&◌, List, [], ◌∷◌, length, Option, Some, None, refl, ap, sym, ◌∙◌}
+use Rattle.std.proofs.Common.{◌≡◌, ◌==◌, ℕ, ◌+◌, ◌-◌, ◌≤◌, Bool, true, false, not, ◌&&◌, List, [], ◌∷◌, length, drop, Option, Some, None, refl, ap, sym, ◌∙◌, arith}
+use Rattle.std.proofs.Math.Seq.{drop-append-add}
+use Rattle.std.proofs.lemmas.List.{length-append}
 use Rattle.std.specs.Prelude.{IsUtf8}
 use Rattle.std.specs.Bool.{Decides}
 use Rattle.std.specs.List.{position_or_len}
@@ -73,6 +75,19 @@ cut_has : (text before after : List ℕ) → IsCut 32 text before after → has_
 cut_has text before after cut =
     let parts = cut_parts 32 text before after cut in
     rw (parts.text_is, list_any-append is_space before (32 ∷ after), parts.none) refl
+
+-- what stands behind the space is the end of the text
+cut_size : (text before after : List ℕ) → IsCut 32 text before after → length text ≡ length before + 1 + length after
+cut_size text before after cut = rw ((cut_parts 32 text before after cut).text_is, length-append before (32 ∷ after)) (omega arith)
+
+pub cut_short : (text before after : List ℕ) → IsCut 32 text before after → length after ≤ length text
+cut_short text before after cut = let size = cut_size text before after cut in omega (arith, size)
+
+pub cut_end : (text before after : List ℕ) → IsCut 32 text before after → after ≡ drop (length text - length after) text
+cut_end text before after cut =
+    let size = cut_size text before after cut in
+    let start : length text - length after ≡ length before + 1 = omega (arith, size) in
+    rw start (rw (cut_parts 32 text before after cut).text_is (sym (drop-append-add before (32 ∷ after) 1)))
 
 pub unspaced_request : (text : List ℕ) → position_or_len is_space text ≡ length text → is_request text ≡ false
 unfolding is_request

@@ -37,14 +37,14 @@ abbrev pub calls_to : {V : Type 0} → Arguments V → Said → List V
 calls_to a s = calls_of (arguments_of a) s.exchanges s.plan
 
 -- no line of the script is faulty
-abbrev pub is_first_script : List ℕ → Bool
-is_first_script bytes = script.is_first_script (script_lines bytes)
+abbrev pub is_valid_script : List ℕ → Bool
+is_valid_script bytes = script.is_valid_script (script_lines bytes)
 
--- the text of a first script's replies
+-- the text of a valid script's replies
 abbrev pub replies_text : {V : Type 0} → Arguments V → Handling V → List ℕ → List ℕ
 replies_text a h bytes = replies_to a h (said (script_lines bytes))
 
--- the calls of the handler for the plan of a first script
+-- the calls of the handler for the plan of a valid script
 abbrev pub calls_due : {V : Type 0} → Arguments V → List ℕ → List V
 calls_due a bytes = calls_to a (said (script_lines bytes))
 
@@ -52,21 +52,21 @@ calls_due a bytes = calls_to a (said (script_lines bytes))
 abbrev pub not_built : List ℕ
 not_built = codes "not built" ++ newline
 
--- the text that is due for the bytes of a script: its replies, or where it is too long or no first script, the refusal
+-- the text that is due for the bytes of a script: its replies, or where it is too long or no valid script, the refusal
 abbrev pub due_text : {V : Type 0} → Arguments V → Handling V → List ℕ → List ℕ
 due_text a h came =
     if nat_lt limit (length came) then not_built
-    else (if is_first_script came then replies_text a h came else not_built)
+    else (if is_valid_script came then replies_text a h came else not_built)
 
 -- what a script of at most the limit is answered, where arguments and handler meet these functions
 abbrev pub IsDue : {V : Type 0} → Arguments V → Handling V → Due → List ℕ → Type 0
-IsDue a h (due.Replies text) script = (is_first_script script ≡ true) × (text.items ≡ replies_text a h script)
-IsDue a h due.Refused script = is_first_script script ≡ false
+IsDue a h (due.Replies text) script = (is_valid_script script ≡ true) × (text.items ≡ replies_text a h script)
+IsDue a h due.Refused script = is_valid_script script ≡ false
 
--- there are replies to a first script, and to no other
-abbrev pub IsFirst : Due → List ℕ → Type 0
-IsFirst (due.Replies text) script = is_first_script script ≡ true
-IsFirst due.Refused script = is_first_script script ≡ false
+-- there are replies to a valid script, and to no other
+abbrev pub IsValid : Due → List ℕ → Type 0
+IsValid (due.Replies text) script = is_valid_script script ≡ true
+IsValid due.Refused script = is_valid_script script ≡ false
 
 -- a fact where there are replies, and one where the script is refused
 abbrev pub OnReplies : Due → Type 0 → Type 0

@@ -6,7 +6,7 @@ use Rattle.web_request.specs.declared.source.Mark.{Mark}
 use Rattle.web_reply.specs.Bodies.{Plain}
 use Rattle.web_reply.specs.Replies.{Fault, Reply}
 use Rattle.web_cli.specs.Demo.{DemoRequest}
-use Rattle.web_cli.specs.Due.{calls_due, is_first_script, not_built, replies_text}
+use Rattle.web_cli.specs.Due.{calls_due, is_valid_script, not_built, replies_text}
 use Rattle.web_cli.specs.Outside.{InputState, OutputState}
 use Rattle.web_cli.specs.Reading.{limit, IsAll, IsTooLong, IsFault}
 use Rattle.web_cli.specs.Service.{Arguments, ArgumentsMeet, HandlerMeets, Handling}
@@ -15,18 +15,18 @@ use Rattle.web_cli.specs.Words.{usage}
 use Rattle.web_cli.specs.declared.status.Status.{Status}
 use Rattle.web_cli.specs.declared.status.Status.TheVariants as status
 
--- for all functions that the arguments and the handler meet, the text is that of a first script's replies
+-- for all functions that the arguments and the handler meet, the text is that of a valid script's replies
 abbrev pub IsReplies : {V E Y : Type 0} → (DemoRequest → List Mark → List Mark → ℕ → Result V E → Type 0) → (E → Fault → Type 0) → (V → ℕ → Y → Type 0) → (Y → DemoRequest → Reply Plain → Type 0)
     → List ℕ → List ℕ → Type 0
 IsReplies {V} means converts answers responds script text = (a : Arguments V) (h : Handling V) → ArgumentsMeet means converts a → HandlerMeets answers responds h → text ≡ replies_text a h script
 
--- for all functions that the arguments meet, the list of calls, where told, grew by those of a first script's plan
+-- for all functions that the arguments meet, the list of calls, where told, grew by those of a valid script's plan
 abbrev pub IsCalled : {V E : Type 0} → (DemoRequest → List Mark → List Mark → ℕ → Result V E → Type 0) → (E → Fault → Type 0) → Option (List V) → Option (List V) → List ℕ → Type 0
 IsCalled {V} means converts told told_new script = (a : Arguments V) → ArgumentsMeet means converts a → told_new ≡ option_map (λ old. old ++ calls_due a script) told
 
--- a script is refused: more bytes than the limit came, or all was read and it is no first script
+-- a script is refused: more bytes than the limit came, or all was read and it is no valid script
 abbrev pub IsNoScript : List ℕ → InputState → InputState → Type 0
-IsNoScript came i j = IsTooLong came i j ⊎ (IsAll came i j × (is_first_script came ≡ false))
+IsNoScript came i j = IsTooLong came i j ⊎ (IsAll came i j × (is_valid_script came ≡ false))
 
 -- memory was wanting, no read had failed, and nothing was written
 pub record IsWanting (i j : InputState) (o p : OutputState) : Type 0 where
@@ -36,10 +36,10 @@ pub record IsWanting (i j : InputState) (o p : OutputState) : Type 0 where
 -- `replies` says which text may be the replies of a script, `called` what its service does to the handler, and `untouched`
 -- that nothing was done to it
 module _ (replies : List ℕ → List ℕ → Type 0) (called : List ℕ → Type 0) (untouched : Type 0) where
-  -- all was read, it is a first script, and its replies were written
+  -- all was read, it is a valid script, and its replies were written
   pub record IsServed (came : List ℕ) (i j : InputState) (o p : OutputState) : Type 0 where
     pub read : IsAll came i j
-    pub first : is_first_script came ≡ true
+    pub valid : is_valid_script came ≡ true
     pub text : List ℕ
     pub due : replies came text
     pub written : IsWritten text o p
@@ -57,10 +57,10 @@ module _ (replies : List ℕ → List ℕ → Type 0) (called : List ℕ → Typ
     pub nothing : p ≡ o
     pub handler : untouched
 
-  -- a write failed: a front of the replies of a first script was written, or a front of the refusal of another
+  -- a write failed: a front of the replies of a valid script was written, or a front of the refusal of another
   pub record IsCutReplies (came : List ℕ) (i j : InputState) (o p : OutputState) : Type 0 where
     pub read : IsAll came i j
-    pub first : is_first_script came ≡ true
+    pub valid : is_valid_script came ≡ true
     pub text : List ℕ
     pub due : replies came text
     pub cut : (sent : ℕ) × IsCutOff sent text o p
@@ -117,7 +117,7 @@ pub record HasNoMemory (answer : Status) (o p : OutputState) : Type 0 where
   pub answer_is : answer ≡ status.NoMemory
   pub nothing : p ≡ o
 
--- Every first script within the limit, with no fault of input or output, is served, unless memory is wanting.
+-- Every valid script within the limit, with no fault of input or output, is served, unless memory is wanting.
 abbrev pub Headline : (List ℕ → List ℕ → Type 0) → (List ℕ → Type 0) → Type 0 → Status → InputState → InputState → OutputState → OutputState → Type 0
-Headline replies called untouched answer i j o p = (script : List ℕ) → i.left ≡ Some script → length script ≤ limit → is_first_script script ≡ true
+Headline replies called untouched answer i j o p = (script : List ℕ) → i.left ≡ Some script → length script ≤ limit → is_valid_script script ≡ true
     → ¬ (Rose i.faults j.faults) → ¬ (Rose o.faults p.faults) → HasNoMemory answer o p ⊎ IsDone replies called untouched answer script j o p

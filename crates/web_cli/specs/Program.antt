@@ -18,10 +18,10 @@ picked_arguments = record { delay = picked_delay; answer = picked_answer }
 abbrev pub demo_handling : Handling Picked
 demo_handling = record { wait = wait_of; reply = λ p q. demo_reply p }
 
--- for all functions that the handler meets, the text is that of a first script's replies
+-- for all functions that the handler meets, the text is that of a valid script's replies
 abbrev pub IsRepliesBy : {Y : Type 0} → (Picked → ℕ → Y → Type 0) → (Y → DemoRequest → Reply Plain → Type 0) → List ℕ → List ℕ → Type 0
 IsRepliesBy answers responds script text = (h : Handling Picked) → HandlerMeets answers responds h → text ≡ replies_text picked_arguments h script
 
--- the list of calls, where told, grew by those of a first script's plan
+-- the list of calls, where told, grew by those of a valid script's plan
 abbrev pub IsCalledBy : Option (List Picked) → Option (List Picked) → List ℕ → Type 0
 IsCalledBy told told_new script = told_new ≡ option_map (λ old. old ++ calls_due picked_arguments script) told

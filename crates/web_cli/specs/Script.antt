@@ -20,8 +20,8 @@ none_faulty before [] = true
 none_faulty before (line ∷ left) = not (is_faulty before line) && none_faulty (before ++ line ∷ []) left
 
 -- a script that is built so far: no line is faulty
-abbrev pub is_first_script : List Line → Bool
-is_first_script lines = none_faulty [] lines
+abbrev pub is_valid_script : List Line → Bool
+is_valid_script lines = none_faulty [] lines
 
 -- no line is faulty, by the lines before it
 abbrev pub NoneFaulty : List Line → Type 0

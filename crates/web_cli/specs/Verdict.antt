@@ -3,13 +3,13 @@ use Rattle.std.specs.Prelude.{ℕ, ◌≡◌, ◌<◌, ◌≤◌, ◌^◌, true,
 use Rattle.std.specs.List.{All, AllPass, flat_map}
 use Rattle.web_request.specs.Body.{is_body, joined}
 use Rattle.web_cli.specs.Line.{Line}
-use Rattle.web_cli.specs.Script.{is_first_script, said}
+use Rattle.web_cli.specs.Script.{is_valid_script, said}
 use Rattle.web_cli.specs.declared.script.Verdict.{Verdict}
 use Rattle.web_cli.specs.declared.script.Verdict.TheVariants as verdict
 
 abbrev pub IsVerdict : List Line → Verdict → Type 0
-IsVerdict lines (verdict.Valid script) = (is_first_script lines ≡ true) × (script ≡ said lines)
-IsVerdict lines verdict.Refused = is_first_script lines ≡ false
+IsVerdict lines (verdict.Valid script) = (is_valid_script lines ≡ true) × (script ≡ said lines)
+IsVerdict lines verdict.Refused = is_valid_script lines ≡ false
 
 -- the marks of each exchange are a body
 abbrev pub AreBodies : Verdict → Type 0

@@ -4,8 +4,9 @@ ghost use Rattle.std.specs.Option.{option_map};
 ghost use Rattle.std.specs.List.{All, AllPass, list_any};
 ghost use Rattle.web_request.specs.Body.{is_body, joined};
 ghost use Rattle.web_worker.specs.Endings.{ending_of};
+ghost use Rattle.web_worker.specs.Handling.{Within};
 ghost use Rattle.web_worker.specs.Served.{lacks_memory};
-ghost use Rattle.web_cli.specs.Due.{IsDue, IsFirst, OnRefused, OnReplies, calls_due, calls_to, replies_to};
+ghost use Rattle.web_cli.specs.Due.{IsDue, IsValid, OnRefused, OnReplies, calls_due, calls_to, replies_to};
 ghost use Rattle.web_cli.specs.Service.{Arguments, ArgumentsMeet, HandlerMeets, Handling};
 
 use crate::demo::{Demo, exchanges, worker};
@@ -21,7 +22,7 @@ use web_worker::{Handler, Outcome, serve_all};
 /// What a script of at most the limit is answered.
 #[derive(Drop)]
 pub enum Due {
-    /// It is a first script, and this is the text of its replies.
+    /// It is a valid script, and this is the text of its replies.
     Replies(Vec<u8>),
     /// It is none.
     Refused,
@@ -47,6 +48,8 @@ where
     requires small { All (λ e. length (joined e.marks) < 2 ^ 63) script.exchanges }
     requires ready { H.ready handler.old }
     ensures ready { H.ready handler.new }
+    ensures kept { (x : Args) → Within (H.answers handler.new x) (H.answers handler.old x) }
+    ensures same { (x : Args) → Within (H.answers handler.old x) (H.answers handler.new x) }
     ensures text { IfOk result (λ text. (a : Arguments Args) (h : Handling Args) → ArgumentsMeet Args.means Args.Error.converts a
         → HandlerMeets (H.answers handler.old) H.Output.responds h → text.items ≡ replies_to a h script) }
     ensures calls { OnOk result ((a : Arguments Args) → ArgumentsMeet Args.means Args.Error.converts a
@@ -79,9 +82,11 @@ where
     H::Output: Responder<Demo>,
     requires ready { H.ready handler.old }
     ensures ready { H.ready handler.new }
+    ensures kept { (x : Args) → Within (H.answers handler.new x) (H.answers handler.old x) }
+    ensures same { (x : Args) → Within (H.answers handler.old x) (H.answers handler.new x) }
     ensures due { IfOk result (λ due. (a : Arguments Args) (h : Handling Args) → ArgumentsMeet Args.means Args.Error.converts a
         → HandlerMeets (H.answers handler.old) H.Output.responds h → IsDue a h due bytes.items) }
-    ensures first { IfOk result (λ due. IsFirst due bytes.items) }
+    ensures valid { IfOk result (λ due. IsValid due bytes.items) }
     ensures calls { IfOk result (λ due. OnReplies due ((a : Arguments Args) → ArgumentsMeet Args.means Args.Error.converts a
         → H.calls handler.new ≡ option_map (λ old. old ++ calls_due a bytes.items) (H.calls handler.old))) }
     ensures refused { IfOk result (λ due. OnRefused due (handler.new ≡ handler.old)) }

@@ -27,7 +27,7 @@ pub use memory_input::{MemInput, PlainInput};
 pub use memory_output::{MemOutput, PlainOutput};
 pub use output::{Output, WriteAnswer};
 pub use reading::{ReadWhole, SCRIPT_LIMIT, read_whole};
-pub use script::{Script, ScriptedExchange, Verdict, first_script_law, read_script, target_law};
+pub use script::{Script, ScriptedExchange, Verdict, read_script, target_law, valid_script_law};
 pub use serving::run;
 pub use standard::{StdInput, StdOutput};
 pub use status::Status;

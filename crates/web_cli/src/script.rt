@@ -13,7 +13,7 @@ mod reader;
 
 use bytes::Bytes;
 pub use exchange::ScriptedExchange;
-pub use law::{first_script_law, target_law};
+pub use law::{target_law, valid_script_law};
 use memchr::memchr;
 use reader::Reader;
 pub use reader::Script;

@@ -1,5 +1,6 @@
 //! The top call.
 ghost use Rattle.std.specs.Prelude.{◌≡◌, List, ℕ, map, string_bytes};
+ghost use Rattle.web_worker.specs.Handling.{Within};
 ghost use Rattle.web_cli.specs.Words.{IsServe};
 ghost use Rattle.web_cli.specs.Program.{IsCalledBy, IsRepliesBy};
 ghost use Rattle.web_cli.specs.Outcome.{FaultIsTold, Headline, IsCalled, IsNoCommand, IsReplies, Serves, TooLongIsTold, WriteFaultIsTold};
@@ -29,6 +30,8 @@ where
     H::Output: Responder<Demo>,
     requires ready { H.ready handler.old }
     ensures ready { H.ready handler.new }
+    ensures kept { (x : Args) → Within (H.answers handler.new x) (H.answers handler.old x) }
+    ensures same { (x : Args) → Within (H.answers handler.old x) (H.answers handler.new x) }
     ensures serves { (came : List ℕ) × Serves (IsReplies Args.means Args.Error.converts (H.answers handler.old) H.Output.responds)
         (IsCalled Args.means Args.Error.converts (H.calls handler.old) (H.calls handler.new)) (handler.new ≡ handler.old)
         result came (I.state input.old) (I.state input.new) (O.state output.old) (O.state output.new) }
@@ -57,6 +60,8 @@ where
     H::Output: Responder<Demo>,
     requires ready { H.ready handler.old }
     ensures ready { H.ready handler.new }
+    ensures kept { (x : Args) → Within (H.answers handler.new x) (H.answers handler.old x) }
+    ensures same { (x : Args) → Within (H.answers handler.old x) (H.answers handler.new x) }
     ensures no_command { ¬ (IsServe (map string_bytes words.now)) →
         IsNoCommand result (I.state input.old) (I.state input.new) (O.state output.old) (O.state output.new) }
     ensures uncalled { ¬ (IsServe (map string_bytes words.now)) → handler.new ≡ handler.old }
@@ -94,6 +99,8 @@ where
     H::Output: Responder<Demo>,
     requires ready { H.ready handler.old }
     ensures ready { H.ready handler.new }
+    ensures kept { (x : Picked) → Within (H.answers handler.new x) (H.answers handler.old x) }
+    ensures same { (x : Picked) → Within (H.answers handler.old x) (H.answers handler.new x) }
     ensures no_command { ¬ (IsServe (map string_bytes words.now)) →
         IsNoCommand result (I.state input.old) (I.state input.new) (O.state output.old) (O.state output.new) }
     ensures uncalled { ¬ (IsServe (map string_bytes words.now)) → handler.new ≡ handler.old }

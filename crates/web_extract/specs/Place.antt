@@ -4,7 +4,7 @@ use Rattle.web_body.specs.Polled.{GivesSome}
 use Rattle.web_reply.specs.Replies.{Fault}
 use Rattle.web_extract.specs.Joined.{Coming, Turned}
 use Rattle.web_extract.specs.declared.place.Stop.{Stop}
-use Rattle.web_extract.specs.declared.place.Stop.TheVariants.{Refused, NoRoom}
+use Rattle.web_extract.specs.declared.place.Stop.TheVariants.{Refused, NoMemory}
 use Rattle.web_extract.specs.declared.place.Place.{Place}
 use Rattle.web_extract.specs.declared.place.Place.TheVariants.{Waiting, Done, Taken}
 
@@ -36,7 +36,7 @@ Went {F} {T} {E} gives old false new = (n : ℕ) (x : Result T E) → place_give
 abbrev pub Advances : {F T E : Type 0} → (F → Bool) → (F → ℕ → Result T E → Type 0) → Place F T → Result Bool (Stop E) → Place F T → Type 0
 Advances finished gives old (Ok here) new = (place_finished finished new ≡ false) × Went gives old here new
 Advances finished gives old (Err (Refused e)) new = (place_finished finished new ≡ true) × place_gives gives old 0 (Err e)
-Advances finished gives old (Err NoRoom) new = place_finished finished new ≡ true
+Advances finished gives old (Err NoMemory) new = place_finished finished new ≡ true
 
 pub unfinished_some : {F T E : Type 0} (finished : F → Bool) (gives : F → ℕ → Result T E → Type 0)
     → ((f : F) → finished f ≡ false → GivesSome (gives f))

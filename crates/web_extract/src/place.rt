@@ -20,7 +20,7 @@ pub enum Place<Fut, T> {
 #[derive(Drop)]
 pub enum Stop<E> {
     Refused(E),
-    NoRoom,
+    NoMemory,
 }
 
 impl<T: Drop, E: Drop, Fut: Poll<Output = Result<T, E>>> Place<Fut, T> {
@@ -47,7 +47,7 @@ impl<T: Drop, E: Drop, Fut: Poll<Output = Result<T, E>>> Place<Fut, T> {
                     Ok(true)
                 }
                 Step::Ready(Err(e)) => Err(Stop::Refused(e)),
-                Step::NoMemory => Err(Stop::NoRoom),
+                Step::NoMemory => Err(Stop::NoMemory),
             },
             Place::Done(_) => Ok(true),
             Place::Taken => unreachable!(),

@@ -39,7 +39,7 @@ impl<P: App, A: FromRequest<P>> Poll for TupleFromRequest1<P, A> {
         let has_first = match self.first.advance(alloc) {
             Ok(has) => has,
             Err(Stop::Refused(e)) => return Step::Ready(Err(e.into())),
-            Err(Stop::NoRoom) => return Step::NoMemory,
+            Err(Stop::NoMemory) => return Step::NoMemory,
         };
         if !has_first {
             return Step::Pending;

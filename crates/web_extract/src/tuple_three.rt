@@ -49,17 +49,17 @@ impl<P: App, A: FromRequest<P>, B: FromRequest<P>, C: FromRequest<P>> Poll
         let has_first = match self.first.advance(alloc) {
             Ok(has) => has,
             Err(Stop::Refused(e)) => return Step::Ready(Err(e.into())),
-            Err(Stop::NoRoom) => return Step::NoMemory,
+            Err(Stop::NoMemory) => return Step::NoMemory,
         };
         let has_second = match self.second.advance(alloc) {
             Ok(has) => has,
             Err(Stop::Refused(e)) => return Step::Ready(Err(e.into())),
-            Err(Stop::NoRoom) => return Step::NoMemory,
+            Err(Stop::NoMemory) => return Step::NoMemory,
         };
         let has_third = match self.third.advance(alloc) {
             Ok(has) => has,
             Err(Stop::Refused(e)) => return Step::Ready(Err(e.into())),
-            Err(Stop::NoRoom) => return Step::NoMemory,
+            Err(Stop::NoMemory) => return Step::NoMemory,
         };
         if !(has_first & has_second & has_third) {
             return Step::Pending;

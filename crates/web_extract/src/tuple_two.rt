@@ -43,12 +43,12 @@ impl<P: App, A: FromRequest<P>, B: FromRequest<P>> Poll for TupleFromRequest2<P,
         let has_first = match self.first.advance(alloc) {
             Ok(has) => has,
             Err(Stop::Refused(e)) => return Step::Ready(Err(e.into())),
-            Err(Stop::NoRoom) => return Step::NoMemory,
+            Err(Stop::NoMemory) => return Step::NoMemory,
         };
         let has_second = match self.second.advance(alloc) {
             Ok(has) => has,
             Err(Stop::Refused(e)) => return Step::Ready(Err(e.into())),
-            Err(Stop::NoRoom) => return Step::NoMemory,
+            Err(Stop::NoMemory) => return Step::NoMemory,
         };
         if !(has_first & has_second) {
             return Step::Pending;

@@ -4,6 +4,7 @@ pub mod Calls
 pub mod Counting
 pub mod Eaches
 pub mod Flying
+mod Going
 pub mod Isolating
 pub mod Outcomes
 pub mod Places

@@ -9,5 +9,6 @@ pub mod Handling
 pub mod Isolation
 pub mod Polls
 pub mod Pooled
+pub mod Progress
 pub mod Served
 pub mod Told

@@ -8,7 +8,7 @@ use web_extract::FromRequest;
 use web_reply::Responder;
 use web_request::{App, HttpRequest, HttpRequestPool};
 
-/// A request in its record, with a future that is not finished.
+/// A request in its record, with the future that it waits for.
 #[derive(Drop)]
 pub struct InFlight<A: App, F: Poll> {
     pub request: HttpRequest<A>,
@@ -16,14 +16,11 @@ pub struct InFlight<A: App, F: Poll> {
 }
 
 impl<A: App, F: Poll> Model for InFlight<A, F> {
-    ghost use Rattle.std.specs.Prelude.{◌≡◌, false};
     ghost use Rattle.web_worker.specs.Exchanges.{Held};
 
     ghost Value = { Held A.Layer A.Local A.Conn F };
 
     ghost view = { λ h. record { record_of = h.request; future = h.future } };
-
-    ghost invariant = { λ h. F.is_finished h.future ≡ false };
 }
 
 /// How far an exchange has come.
@@ -38,31 +35,36 @@ pub enum Stage<X, U, W, O> {
     Answered(O),
 }
 
-/// An exchange under way. Contracts see it as its stage.
+/// The stage of an exchange with these arguments and this handler.
+pub type StageOf<A, Args, H> = Stage<
+    Exchange<A>,
+    InFlight<A, <Args as FromRequest<A>>::Future>,
+    InFlight<A, <H as Handler<Args>>::Future>,
+    Outcome<A>,
+>;
+
+/// An exchange under way, whose future is not finished. Contracts see it as its stage.
 #[derive(Drop)]
 pub struct Flight<A: App, Args: FromRequest<A>, H: Handler<Args>> {
-    pub(crate) stage: Stage<
-        Exchange<A>,
-        InFlight<A, Args::Future>,
-        InFlight<A, H::Future>,
-        Outcome<A>,
-    >,
+    pub(crate) stage: StageOf<A, Args, H>,
 }
 
 impl<A: App, Args: FromRequest<A>, H: Handler<Args>> Model for Flight<A, Args, H> {
     ghost use Rattle.web_worker.specs.Endings.{stage_view};
-    ghost use Rattle.web_worker.specs.Exchanges.{FlightView};
+    ghost use Rattle.web_worker.specs.Exchanges.{FlightView, IsUnfinished};
 
     ghost Value = { FlightView A.Source A.Layer A.Local A.Conn Args.Future H.Future };
 
     ghost view = { λ f. stage_view A.Source.feed f.stage };
+
+    ghost invariant = { λ f. IsUnfinished Args.Future.is_finished H.Future.is_finished f.stage };
 }
 
 impl<A: App, Args: FromRequest<A>, H: Handler<Args>> Flight<A, Args, H> {
     ghost use Rattle.std.specs.Prelude.{◌≡◌};
     ghost use Rattle.web_request.specs.Pool.{Pool};
     ghost use Rattle.web_worker.specs.Answers.{rules_of};
-    ghost use Rattle.web_worker.specs.Endings.{Ending.NoMemory as lost, ending_of};
+    ghost use Rattle.web_worker.specs.Endings.{ending_of};
     ghost use Rattle.web_worker.specs.Exchanges.{request_of};
     ghost use Rattle.web_worker.specs.Flown.{Lands};
     ghost use Rattle.web_worker.specs.Polls.{is_open};
@@ -84,15 +86,6 @@ impl<A: App, Args: FromRequest<A>, H: Handler<Args>> Flight<A, Args, H> {
         match &self.stage {
             Stage::Waiting(_) | Stage::Extracting(_) | Stage::Handling(_) => true,
             Stage::Answered(_) => false,
-        }
-    }
-
-    /// A flight that found no memory.
-    pub(crate) fn lost() -> Flight<A, Args, H>
-        ensures { result ≡ Stage.Answered lost }
-    {
-        Flight {
-            stage: Stage::Answered(Outcome::NoMemory),
         }
     }
 

@@ -8,6 +8,7 @@ mod handler;
 mod laws;
 mod outcome;
 mod polling;
+mod progress;
 mod serving;
 mod worker;
 

@@ -1,105 +1,105 @@
 //! One poll of one exchange.
-ghost use Rattle.std.specs.Prelude.{◌≡◌, ◌+◌, ◌<◌, ◌^◌, Some, slice_get};
+ghost use Rattle.std.specs.Prelude.{◌≡◌, ◌+◌, ◌<◌, ◌^◌, Some, false, slice_get};
+ghost use Rattle.web_request.specs.Pool.{Pool};
 ghost use Rattle.web_worker.specs.Answers.{rules_of};
-ghost use Rattle.web_worker.specs.Exchanges.{request_of};
-ghost use Rattle.web_worker.specs.Flights.{Moves, Polled};
+ghost use Rattle.web_worker.specs.Endings.{stage_view};
+ghost use Rattle.web_worker.specs.Exchanges.{Held, IsUnfinished, request_of};
+ghost use Rattle.web_worker.specs.Flights.{Polled};
 ghost use Rattle.web_worker.specs.Handling.{Within};
 ghost use Rattle.web_worker.specs.Polls.{EffectAt, IsIdle, PollsAt, Steps};
 ghost use Rattle.web_worker.specs.Pooled.{KeepsNone, Makes, may_make};
+ghost use Rattle.web_worker.specs.Progress.{arguments_after, handler_after};
 ghost use Rattle.web_worker.specs.Told.{Calls, IsPast};
 
 use crate::answering::{answer, refuse};
 use crate::exchange::Exchange;
-use crate::flight::{Flight, InFlight, Stage};
+use crate::flight::{Flight, InFlight, Stage, StageOf};
 use crate::handler::Handler;
+use crate::outcome::Outcome;
+use crate::progress::Progress;
 use crate::worker::Worker;
 use std::alloc::Global;
 use std::mem;
 use web_body::{Poll, Step};
 use web_extract::FromRequest;
 use web_reply::Responder;
-use web_request::{App, HttpRequestPool};
+use web_request::{App, HttpRequest, HttpRequestPool};
 
-/// Polls the handler, and answers where its value is there. The record is given back then.
+/// Polls the handler's future, and gives the outcome where its value is there or memory is wanting.
 fn poll_handler<A: App, Args: FromRequest<A>, H: Handler<Args>>(
     alloc: Global,
-    pool: &mut HttpRequestPool<A>,
-    held: InFlight<A, H::Future>,
-) -> Flight<A, Args, H>
+    request: &HttpRequest<A>,
+    future: &mut H::Future,
+) -> Option<Outcome<A>>
 where
     H::Output: Responder<A>,
-    requires { KeepsNone pool.old }
-    ensures pool { pool.new ≡ pool.old }
-    ensures past { IsPast result }
-    ensures polled { (handler : H) → Polled (rules_of Args.means Args.Error.converts (H.answers handler) H.Output.responds)
-        (request_of pool.old) A.Source.feed Args.Future.gives H.Future.gives (Stage.Handling held) result }
+    requires unfinished { H.Future.is_finished future.old ≡ false }
+    ensures unfinished { IsUnfinished Args.Future.is_finished H.Future.is_finished (handler_after A.Source.feed request.now future.new result) }
+    ensures past { IsPast (handler_after {U = Args.Future} A.Source.feed request.now future.new result) }
+    ensures polled { (handler : H) (worker : Pool A.Layer) → Polled (rules_of Args.means Args.Error.converts (H.answers handler) H.Output.responds)
+        (request_of worker) A.Source.feed Args.Future.gives H.Future.gives (Stage.Handling (record { record_of = request.now; future = future.old }))
+        (handler_after A.Source.feed request.now future.new result) }
 {
-    let InFlight {
-        request,
-        mut future,
-    } = held;
     match future.poll(alloc) {
-        Step::Pending => Flight {
-            stage: Stage::Handling(InFlight { request, future }),
-        },
-        Step::Ready(value) => {
-            let outcome = answer(alloc, value, &request);
-            pool.give_back(request);
-            Flight {
-                stage: Stage::Answered(outcome),
-            }
-        }
-        Step::NoMemory => {
-            pool.give_back(request);
-            Flight::lost()
-        }
+        Step::Pending => None,
+        Step::Ready(value) => Some(answer(alloc, value, request)),
+        Step::NoMemory => Some(Outcome::NoMemory),
     }
 }
 
-/// Polls the arguments, and calls and polls the handler where they are there. The record is given back with an answer.
+/// Polls the arguments, and calls and polls the handler where they are there.
 fn poll_arguments<A: App, Args: FromRequest<A>, H: Handler<Args>>(
     alloc: Global,
-    pool: &mut HttpRequestPool<A>,
     handler: &mut H,
-    held: InFlight<A, Args::Future>,
-) -> Flight<A, Args, H>
+    request: &HttpRequest<A>,
+    future: &mut Args::Future,
+) -> Progress<H::Future, Outcome<A>>
 where
     H::Output: Responder<A>,
-    requires none_kept { KeepsNone pool.old }
+    requires unfinished { Args.Future.is_finished future.old ≡ false }
     requires ready { H.ready handler.old }
-    ensures pool { pool.new ≡ pool.old }
     ensures ready { H.ready handler.new }
     ensures kept { (x : Args) → Within (H.answers handler.new x) (H.answers handler.old x) }
     ensures same { (x : Args) → Within (H.answers handler.old x) (H.answers handler.new x) }
-    ensures told { Calls (rules_of Args.means Args.Error.converts (H.answers handler.old) H.Output.responds)
-        (request_of pool.old) A.Source.feed Args.Future.gives (Stage.Extracting held) result (H.calls handler.old) (H.calls handler.new) }
-    ensures polled { Polled (rules_of Args.means Args.Error.converts (H.answers handler.old) H.Output.responds)
-        (request_of pool.old) A.Source.feed Args.Future.gives H.Future.gives (Stage.Extracting held) result }
+    ensures unfinished { IsUnfinished Args.Future.is_finished H.Future.is_finished (arguments_after A.Source.feed request.now future.new result) }
+    ensures told { (worker : Pool A.Layer) → Calls (rules_of Args.means Args.Error.converts (H.answers handler.old) H.Output.responds)
+        (request_of worker) A.Source.feed Args.Future.gives (Stage.Extracting (record { record_of = request.now; future = future.old }))
+        (arguments_after A.Source.feed request.now future.new result) (H.calls handler.old) (H.calls handler.new) }
+    ensures polled { (worker : Pool A.Layer) → Polled (rules_of Args.means Args.Error.converts (H.answers handler.old) H.Output.responds)
+        (request_of worker) A.Source.feed Args.Future.gives H.Future.gives (Stage.Extracting (record { record_of = request.now; future = future.old }))
+        (arguments_after A.Source.feed request.now future.new result) }
 {
-    let InFlight {
-        request,
-        mut future,
-    } = held;
     match future.poll(alloc) {
-        Step::Pending => Flight {
-            stage: Stage::Extracting(InFlight { request, future }),
-        },
+        Step::Pending => Progress::Pending,
         Step::Ready(Ok(args)) => match handler.call(alloc, args) {
-            Ok(future) => poll_handler(alloc, pool, InFlight { request, future }),
-            Err(_) => {
-                pool.give_back(request);
-                Flight::lost()
-            }
+            Ok(mut answer) => match poll_handler::<A, Args, H>(alloc, request, &mut answer) {
+                None => Progress::Called(answer),
+                Some(outcome) => Progress::Done(outcome),
+            },
+            Err(_) => Progress::Done(Outcome::NoMemory),
         },
-        Step::Ready(Err(refusal)) => {
+        Step::Ready(Err(refusal)) => Progress::Done(refuse(alloc, refusal)),
+        Step::NoMemory => Progress::Done(Outcome::NoMemory),
+    }
+}
+
+/// The stage after a poll of arguments. The record is given back with an outcome.
+fn moved_on<A: App, U: Poll, W: Poll>(
+    pool: &mut HttpRequestPool<A>,
+    request: HttpRequest<A>,
+    future: U,
+    progress: Progress<W, Outcome<A>>,
+) -> Stage<Exchange<A>, InFlight<A, U>, InFlight<A, W>, Outcome<A>>
+    requires { KeepsNone pool.old }
+    ensures pool { pool.new ≡ pool.old }
+    ensures stage { stage_view A.Source.feed result ≡ arguments_after A.Source.feed request future progress }
+{
+    match progress {
+        Progress::Pending => Stage::Extracting(InFlight { request, future }),
+        Progress::Called(future) => Stage::Handling(InFlight { request, future }),
+        Progress::Done(outcome) => {
             pool.give_back(request);
-            Flight {
-                stage: Stage::Answered(refuse(alloc, refusal)),
-            }
-        }
-        Step::NoMemory => {
-            pool.give_back(request);
-            Flight::lost()
+            Stage::Answered(outcome)
         }
     }
 }
@@ -110,87 +110,124 @@ fn take_off<A: App, Args: FromRequest<A>, H: Handler<Args>>(
     pool: &mut HttpRequestPool<A>,
     handler: &mut H,
     exchange: Exchange<A>,
-) -> Flight<A, Args, H>
+) -> StageOf<A, Args, H>
 where
     H::Output: Responder<A>,
     requires none_kept { KeepsNone pool.old }
     requires room { pool.old.made + 1 < 2 ^ 64 }
     requires ready { H.ready handler.old }
-    ensures makes { Makes (Stage.Waiting exchange) result pool.old pool.new }
+    ensures unfinished { IsUnfinished Args.Future.is_finished H.Future.is_finished result }
+    ensures makes { Makes (Stage.Waiting exchange) (stage_view A.Source.feed result) pool.old pool.new }
     ensures ready { H.ready handler.new }
     ensures kept { (x : Args) → Within (H.answers handler.new x) (H.answers handler.old x) }
     ensures same { (x : Args) → Within (H.answers handler.old x) (H.answers handler.new x) }
     ensures told { Calls (rules_of Args.means Args.Error.converts (H.answers handler.old) H.Output.responds)
-        (request_of pool.old) A.Source.feed Args.Future.gives (Stage.Waiting exchange) result (H.calls handler.old) (H.calls handler.new) }
+        (request_of pool.old) A.Source.feed Args.Future.gives (Stage.Waiting exchange) (stage_view A.Source.feed result) (H.calls handler.old) (H.calls handler.new) }
     ensures polled { Polled (rules_of Args.means Args.Error.converts (H.answers handler.old) H.Output.responds)
-        (request_of pool.old) A.Source.feed Args.Future.gives H.Future.gives (Stage.Waiting exchange) result }
+        (request_of pool.old) A.Source.feed Args.Future.gives H.Future.gives (Stage.Waiting exchange) (stage_view A.Source.feed result) }
 {
     let (parts, mut payload) = exchange.into_parts();
     match pool.start(alloc, parts) {
         Ok(request) => match Args::from_request(alloc, &request, &mut payload) {
-            Ok(future) => poll_arguments(alloc, pool, handler, InFlight { request, future }),
+            Ok(mut future) => {
+                let progress = poll_arguments::<A, Args, H>(alloc, handler, &request, &mut future);
+                moved_on(pool, request, future, progress)
+            }
             Err(_) => {
                 pool.give_back(request);
-                Flight::lost()
+                Stage::Answered(Outcome::NoMemory)
             }
         },
-        Err(_) => Flight::lost(),
+        Err(_) => Stage::Answered(Outcome::NoMemory),
     }
 }
 
-/// One poll of a flight.
+/// Brings an exchange on in its place, after a poll of its arguments.
+fn go_on<A: App, U: Poll, W: Poll>(
+    pool: &mut HttpRequestPool<A>,
+    stage: &mut Stage<Exchange<A>, InFlight<A, U>, InFlight<A, W>, Outcome<A>>,
+    progress: Progress<W, Outcome<A>>,
+)
+    requires { KeepsNone pool.old }
+    ensures pool { pool.new ≡ pool.old }
+    ensures stage { (h : Held A.Layer A.Local A.Conn U) → stage.old ≡ Stage.Extracting h
+        → stage_view A.Source.feed stage.new ≡ arguments_after A.Source.feed h.record_of h.future progress }
+{
+    match progress {
+        Progress::Pending => {}
+        progress => {
+            let extracting = mem::replace(stage, Stage::Answered(Outcome::NoMemory));
+            if let Stage::Extracting(held) = extracting {
+                let InFlight { request, future } = held;
+                *stage = moved_on(pool, request, future, progress);
+            }
+        }
+    }
+}
+
+/// Answers an exchange in its place, after a poll of its handler.
+fn settle<A: App, U: Poll, W: Poll>(
+    pool: &mut HttpRequestPool<A>,
+    stage: &mut Stage<Exchange<A>, InFlight<A, U>, InFlight<A, W>, Outcome<A>>,
+    outcome: Option<Outcome<A>>,
+)
+    requires { KeepsNone pool.old }
+    ensures pool { pool.new ≡ pool.old }
+    ensures stage { (h : Held A.Layer A.Local A.Conn W) → stage.old ≡ Stage.Handling h
+        → stage_view A.Source.feed stage.new ≡ handler_after A.Source.feed h.record_of h.future outcome }
+{
+    if let Some(outcome) = outcome {
+        let handling = mem::replace(stage, Stage::Answered(outcome));
+        if let Stage::Handling(held) = handling {
+            let InFlight { request, future: _ } = held;
+            pool.give_back(request);
+        }
+    }
+}
+
+/// One poll of an exchange in its place.
 fn advance<A: App, Args: FromRequest<A>, H: Handler<Args>>(
     alloc: Global,
     pool: &mut HttpRequestPool<A>,
     handler: &mut H,
-    flight: Flight<A, Args, H>,
-) -> Flight<A, Args, H>
-where
-    H::Output: Responder<A>,
-    requires none_kept { KeepsNone pool.old }
-    requires room { pool.old.made + may_make (Some flight) < 2 ^ 64 }
-    requires ready { H.ready handler.old }
-    ensures ready { H.ready handler.new }
-    ensures kept { (x : Args) → Within (H.answers handler.new x) (H.answers handler.old x) }
-    ensures same { (x : Args) → Within (H.answers handler.old x) (H.answers handler.new x) }
-    ensures makes { Makes flight result pool.old pool.new }
-    ensures told { Calls (rules_of Args.means Args.Error.converts (H.answers handler.old) H.Output.responds)
-        (request_of pool.old) A.Source.feed Args.Future.gives flight result (H.calls handler.old) (H.calls handler.new) }
-    ensures moves { Moves (rules_of Args.means Args.Error.converts (H.answers handler.old) H.Output.responds)
-        (request_of pool.old) A.Source.feed Args.Future.gives H.Future.gives flight result }
-{
-    let Flight { stage } = flight;
-    match stage {
-        Stage::Waiting(exchange) => take_off(alloc, pool, handler, exchange),
-        Stage::Extracting(held) => poll_arguments(alloc, pool, handler, held),
-        Stage::Handling(held) => poll_handler(alloc, pool, held),
-        Stage::Answered(outcome) => Flight {
-            stage: Stage::Answered(outcome),
-        },
-    }
-}
-
-/// One poll of a flight in its place.
-#[inline(never)]
-fn advance_at<A: App, Args: FromRequest<A>, H: Handler<Args>>(
-    alloc: Global,
-    pool: &mut HttpRequestPool<A>,
-    handler: &mut H,
-    place: &mut Flight<A, Args, H>,
+    stage: &mut StageOf<A, Args, H>,
 )
 where
     H::Output: Responder<A>,
     requires none_kept { KeepsNone pool.old }
-    requires room { pool.old.made + may_make (Some place.old) < 2 ^ 64 }
+    requires room { pool.old.made + may_make (Some (stage_view A.Source.feed stage.old)) < 2 ^ 64 }
     requires ready { H.ready handler.old }
+    requires unfinished { IsUnfinished Args.Future.is_finished H.Future.is_finished stage.old }
     ensures ready { H.ready handler.new }
     ensures kept { (x : Args) → Within (H.answers handler.new x) (H.answers handler.old x) }
     ensures same { (x : Args) → Within (H.answers handler.old x) (H.answers handler.new x) }
+    ensures unfinished { IsUnfinished Args.Future.is_finished H.Future.is_finished stage.new }
     ensures steps { Steps (rules_of Args.means Args.Error.converts (H.answers handler.old) H.Output.responds)
-        (request_of pool.old) A.Source.feed Args.Future.gives H.Future.gives place.old place.new pool.old pool.new (H.calls handler.old) (H.calls handler.new) }
+        (request_of pool.old) A.Source.feed Args.Future.gives H.Future.gives (stage_view A.Source.feed stage.old) (stage_view A.Source.feed stage.new)
+        pool.old pool.new (H.calls handler.old) (H.calls handler.new) }
 {
-    let flight = mem::replace(place, Flight::lost());
-    drop(mem::replace(place, advance(alloc, pool, handler, flight)));
+    match stage {
+        Stage::Waiting(_) => {
+            let waiting = mem::replace(stage, Stage::Answered(Outcome::NoMemory));
+            if let Stage::Waiting(exchange) = waiting {
+                *stage = take_off::<A, Args, H>(alloc, pool, handler, exchange);
+            }
+        }
+        Stage::Extracting(held) => {
+            let progress = poll_arguments::<A, Args, H>(
+                alloc,
+                handler,
+                &held.request,
+                &mut held.future,
+            );
+            go_on(pool, stage, progress);
+        }
+        Stage::Handling(held) => {
+            let outcome = poll_handler::<A, Args, H>(alloc, &held.request, &mut held.future);
+            settle(pool, stage, outcome);
+        }
+        Stage::Answered(_) => {}
+    }
 }
 
 /// Polls the flight of this number, where it is there.
@@ -216,7 +253,7 @@ where
     if k < flights.len() {
         let place = &mut flights[k];
         if place.is_open() {
-            advance_at(alloc, pool, handler, place);
+            advance(alloc, pool, handler, &mut place.stage);
         }
     }
 }

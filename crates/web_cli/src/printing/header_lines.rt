@@ -15,7 +15,7 @@ fn sorted_names(
 ) -> Result<Vec<&HeaderName>, NoMemory>
     ensures { IfOk result (λ names. map (λ n. n.now) names.items ≡ sorted (keys headers.now)) }
 {
-    let mut names = Vec::new(alloc);
+    let mut names = Vec::with_capacity(alloc, headers.keys_len())?;
     for name in headers.keys() {
         names.push(name)?;
     }

@@ -1,15 +1,16 @@
 //! An exchange of a script, and what an `exchange` line asks for.
-ghost use Rattle.std.specs.Prelude.{◌≡◌, Some, None, true, false, IfOk, MatchOption};
+ghost use Rattle.std.specs.Prelude.{◌≡◌, ◌-◌, ◌≤◌, Some, None, true, false, drop, length, IfOk, MatchOption};
 ghost use Rattle.std.specs.Str.{bytes_eq};
 ghost use Rattle.web_cli.specs.Requested.{is_method, is_request, is_unbuilt, is_built, has_space};
 ghost use Rattle.web_cli.specs.Targets.{parts_of, target_of};
 ghost use Rattle.web_cli.specs.Kept.{fresh};
 
 use crate::segment::first_segment;
+use bytes::Bytes;
 use http::Method;
 use http::method::MethodError;
 use http_uri::{Uri, UriError};
-use std::alloc::Global;
+use std::alloc::{AllocError, Global};
 use std::marker::Model;
 use web_request::Mark;
 use web_texts::{NoMemory, Pair, split_first};
@@ -84,22 +85,32 @@ fn read_method(alloc: Global, text: &[u8]) -> Result<Option<Method>, NoMemory>
     }
 }
 
-/// The target of these bytes, if they have a form of one.
-fn read_target(alloc: Global, text: &[u8]) -> Result<Option<Uri>, NoMemory>
-    ensures { IfOk result (λ read. MatchOption read (target_of text.now ≡ None) (λ uri. target_of text.now ≡ Some (parts_of uri))) }
+/// The target of these bytes, if they have a form of one. None of them is copied.
+fn read_target(text: Bytes) -> Result<Option<Uri>, NoMemory>
+    ensures { IfOk result (λ read. MatchOption read (target_of text ≡ None) (λ uri. target_of text ≡ Some (parts_of uri))) }
 {
-    match Uri::from_bytes(alloc, text) {
+    match Uri::from_shared(text) {
         Ok(uri) => Ok(Some(uri)),
         Err(UriError::Invalid(_)) => Ok(None),
         Err(UriError::OutOfMemory) => Err(NoMemory),
     }
 }
 
-/// The exchange that the argument of an `exchange` line asks for, with no body yet: a method, one space and a target.
-pub fn read_request(alloc: Global, text: &[u8]) -> Result<Option<ScriptedExchange>, NoMemory>
+/// The end of a text, as a part of it.
+fn end_of(text: &Bytes, end: &[u8]) -> Result<Bytes, AllocError>
+    requires end { end.now ≡ drop (length text.now - length end.now) text.now }
+    requires short { length end.now ≤ length text.now }
+    ensures { IfOk result (λ part. part ≡ end.now) }
+{
+    text.slice(text.len() - end.len()..text.len())
+}
+
+/// The exchange that the argument of an `exchange` line asks for, with no body yet: a method, one space and a target. The
+/// target is a part of the argument, which is not copied.
+pub fn read_request(alloc: Global, text: &Bytes) -> Result<Option<ScriptedExchange>, NoMemory>
     ensures { IfOk result (λ read. MatchOption read (is_request text.now ≡ false) (λ asked. (is_request text.now ≡ true) × (asked ≡ fresh text.now))) }
 {
-    let Some((method, target)) = split_first(text, b' ') else {
+    let Some((method, target)) = split_first(text.as_slice(), b' ') else {
         return Ok(None);
     };
     if has_space(target) {
@@ -108,7 +119,7 @@ pub fn read_request(alloc: Global, text: &[u8]) -> Result<Option<ScriptedExchang
     let Some(method) = read_method(alloc, method)? else {
         return Ok(None);
     };
-    let Some(uri) = read_target(alloc, target)? else {
+    let Some(uri) = read_target(end_of(text, target)?)? else {
         return Ok(None);
     };
     if !is_built(&uri) {

@@ -4,7 +4,7 @@ ghost use Rattle.std.specs.Bool.{OnTrue};
 ghost use Rattle.std.specs.Option.{option_map};
 ghost use Rattle.std.specs.Result.{is_ok, result_unwrap_or};
 ghost use Rattle.hex.specs.Hex.{decode_of};
-ghost use Rattle.web_cli.specs.declared.script.line.Word.TheVariants.{Text};
+ghost use Rattle.web_cli.specs.declared.script.line.Word.TheVariants.{Exchange, Text};
 ghost use Rattle.std.specs.Str.Lines.{strip_carriage_return};
 
 use crate::script::entries::read_entries;
@@ -141,7 +141,7 @@ impl Reader {
     }
 
     /// Begins the exchange of a head, and closes the one before.
-    fn begin(&mut self, alloc: Global, head: &[u8]) -> Result<bool, NoMemory>
+    fn begin(&mut self, alloc: Global, head: &Bytes) -> Result<bool, NoMemory>
         ensures { IfOk result (λ good. (good ≡ is_request head.now)
             × OnTrue good (self.new ≡ record self.old { whole = close self.old.whole self.old.open_one; open_one = Some (fresh head.now); has_fault = false })) }
     {
@@ -155,13 +155,13 @@ impl Reader {
         Ok(true)
     }
 
-    /// Takes a line of another word than `text`, if its argument fits.
+    /// Takes a line of another word than `text` and `exchange`, if its argument fits.
     fn add(&mut self, alloc: Global, word: Word, argument: &[u8]) -> Result<bool, NoMemory>
-        requires { word ≢ Text }
+        requires no_text { word ≢ Text }
+        requires no_exchange { word ≢ Exchange }
         ensures { IfOk result (λ good. (good ≡ not (is_unfit word argument.now)) × OnTrue good (self.new ≡ added self.old word argument.now)) }
     {
         match word {
-            Word::Exchange => return self.begin(alloc, argument),
             Word::Param => return self.add_param(alloc, argument),
             Word::Piece => return self.add_digits(alloc, argument),
             Word::Stall => {
@@ -183,7 +183,7 @@ impl Reader {
                 }
                 self.has_plan = true;
             }
-            Word::Text | Word::Skipped | Word::Unknown => {}
+            Word::Text | Word::Exchange | Word::Skipped | Word::Unknown => {}
         }
         Ok(true)
     }
@@ -203,11 +203,14 @@ impl Reader {
         if self.refuses_word(word) {
             return Ok(false);
         }
-        if word != Word::Text {
-            return self.add(alloc, word, argument);
+        match word {
+            Word::Exchange => self.begin(alloc, &part_of(script, line, argument)?),
+            Word::Text => {
+                self.add_piece(part_of(script, line, argument)?)?;
+                Ok(true)
+            }
+            word => self.add(alloc, word, argument),
         }
-        self.add_piece(part_of(script, line, argument)?)?;
-        Ok(true)
     }
 
     /// What was read, where no line is left.

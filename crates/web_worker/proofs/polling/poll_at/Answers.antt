@@ -1,5 +1,6 @@
 use Rattle.std.proofs.Common.{◌∙◌, sym}
 use Rattle.web_worker.specs.Answers.{rules_of}
+use Rattle.web_worker.specs.Endings.{stage_view}
 use Rattle.web_worker.specs.Exchanges.{request_of}
 use Rattle.web_worker.proofs.Places.{names_answered, names_none, names_open}
 use Rattle.web_worker.proofs.polling.poll_at.Goals as goal
@@ -18,6 +19,6 @@ returns-else-k-flights-clause-polls g c =
 pub returns-then-is_open-clause-polls : goal.returns-then-is_open-clause-polls
 returns-then-is_open-clause-polls g c =
     names_open (rules_of g.Args.FromRequest.means g.Args.Error.Into.converts (g.H.Handler.answers c.args.handler.now) g.H.Output.Responder.responds) (request_of c.args.pool.now) g.A.Source.Source.feed g.Args.Future.Poll.gives g.H.Future.Poll.gives
-    c.args.flights.now c.args.k c.index-flights-k.result c.advance_at.new.place c.args.pool.now c.advance_at.new.pool
-    (g.H.Handler.calls c.args.handler.now) (g.H.Handler.calls c.advance_at.new.handler)
-    c.if-k-flights.true c.advance_at.ensures.steps
+    c.args.flights.now c.args.k c.index-flights-k.result (stage_view g.A.Source.Source.feed c.advance.new.stage) c.args.pool.now c.advance.new.pool
+    (g.H.Handler.calls c.args.handler.now) (g.H.Handler.calls c.advance.new.handler)
+    c.if-k-flights.true (rw (← c.place.view_is) c.advance.ensures.steps)

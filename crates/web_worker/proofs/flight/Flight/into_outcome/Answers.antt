@@ -10,10 +10,10 @@ pub returns-in-Extracting-clause-lands : goal.returns-in-Extracting-clause-lands
 returns-in-Extracting-clause-lands g c = λ handler worker.
     subst (λ (f : _). Lands (rules_of g.Args.FromRequest.means g.Args.Error.Into.converts (g.H.Handler.answers handler) g.H.Output.Responder.responds) (request_of worker) g.A.Source.Source.feed g.Args.Future.Poll.gives g.H.Future.Poll.gives f Unfinished)
     (ap (λ s. stage_view g.A.Source.Source.feed s) (sym c.in-Extracting.is) ∙ c.self.view_is)
-    (lands_extracting (rules_of g.Args.FromRequest.means g.Args.Error.Into.converts (g.H.Handler.answers handler) g.H.Output.Responder.responds) (request_of worker) g.A.Source.Source.feed g.Args.Future.Poll.gives g.H.Future.Poll.gives c.in-Extracting.held (g.met.Args.Future.Poll.some c.in-Extracting.held.future (rw (← c.held.view_is) c.held.invariant)))
+    (lands_extracting (rules_of g.Args.FromRequest.means g.Args.Error.Into.converts (g.H.Handler.answers handler) g.H.Output.Responder.responds) (request_of worker) g.A.Source.Source.feed g.Args.Future.Poll.gives g.H.Future.Poll.gives c.in-Extracting.held (g.met.Args.Future.Poll.some c.in-Extracting.held.future (rw c.in-Extracting.is at c.self.invariant)))
 
 pub returns-in-Handling-clause-lands : goal.returns-in-Handling-clause-lands
 returns-in-Handling-clause-lands g c = λ handler worker.
     subst (λ (f : _). Lands (rules_of g.Args.FromRequest.means g.Args.Error.Into.converts (g.H.Handler.answers handler) g.H.Output.Responder.responds) (request_of worker) g.A.Source.Source.feed g.Args.Future.Poll.gives g.H.Future.Poll.gives f Unfinished)
     (ap (λ s. stage_view g.A.Source.Source.feed s) (sym c.in-Handling.is) ∙ c.self.view_is)
-    (lands_handling (rules_of g.Args.FromRequest.means g.Args.Error.Into.converts (g.H.Handler.answers handler) g.H.Output.Responder.responds) (request_of worker) g.A.Source.Source.feed g.Args.Future.Poll.gives g.H.Future.Poll.gives c.in-Handling.held (g.met.H.Future.Poll.some c.in-Handling.held.future (rw (← c.held-in-Handling.view_is) c.held-in-Handling.invariant)))
+    (lands_handling (rules_of g.Args.FromRequest.means g.Args.Error.Into.converts (g.H.Handler.answers handler) g.H.Output.Responder.responds) (request_of worker) g.A.Source.Source.feed g.Args.Future.Poll.gives g.H.Future.Poll.gives c.in-Handling.held (g.met.H.Future.Poll.some c.in-Handling.held.future (rw c.in-Handling.is at c.self.invariant)))

@@ -19,8 +19,8 @@ use Rattle.web_extract.specs.Ready.{GivesHeld}
 use Rattle.web_worker.specs.Answers.{Rules, rules_of, Replies, ComesBefore, RepliesBefore}
 use Rattle.web_worker.specs.Exchanges.{Asked}
 use Rattle.web_worker.specs.Function.{AnswersOnce}
-use Rattle.web_rows.specs.Examples.{IsTold, body_delay, body_reply, content_reply, marks_or_none}
-use Rattle.web_rows.proofs.Told.{is_told, once_told}
+use Rattle.web_handlers.specs.Examples.{IsTold, body_delay, body_reply, content_reply, marks_or_none}
+use Rattle.web_handlers.proofs.Told.{is_told, once_told}
 
 -- a future that holds the body gives it at once, and nothing else
 pub held : (f : Option (List ℕ)) (body : List ℕ) (n : ℕ) (y : List ℕ) → f ≡ Some body → GivesHeld f n y → (n ≡ 0) × (y ≡ body)

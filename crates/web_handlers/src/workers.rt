@@ -1,9 +1,9 @@
-//! Workers and scripts, each by itself.
+//! Workers, each by itself.
 ghost use Rattle.std.specs.Prelude.{◌≡◌, IfOk};
 
 use crate::bodies::{failing, hello};
 use crate::handlers::{Echo, serve_by_closure, serve_echo, serve_greeting};
-use crate::records::{config, head};
+use crate::site::{Site, SiteLayer, config, head};
 use bytes::Bytes;
 use http::StatusCode;
 use std::alloc::Global;
@@ -11,19 +11,18 @@ use std::process::Abort;
 use std::rc::Rc;
 use std::test::Fail;
 use web_body::{Marks, Payload};
-use web_cli::{Demo, DemoLayer, Script, Verdict, read_script};
 use web_reply::BoxBody;
-use web_request::{Mark, NoMemory};
+use web_request::NoMemory;
 use web_worker::{Exchange, Flight, Outcome, Worker, poll_one, serve_all};
 
-fn worker(alloc: Global) -> Result<Worker<Demo>, NoMemory>
+fn worker(alloc: Global) -> Result<Worker<Site>, NoMemory>
     ensures { IfOk result (λ w. w.made ≡ 0) }
 {
-    let root = Rc::new(alloc, DemoLayer)?;
+    let root = Rc::new(alloc, SiteLayer)?;
     Worker::new(alloc, root, config(alloc)?, 0)
 }
 
-fn exchange(alloc: Global, body: Payload<Marks>) -> Result<Exchange<Demo>, NoMemory> {
+fn exchange(alloc: Global, body: Payload<Marks>) -> Result<Exchange<Site>, NoMemory> {
     Ok(Exchange {
         head: head(alloc, "/bytes")?,
         params: Vec::new(alloc),
@@ -35,7 +34,7 @@ fn exchange(alloc: Global, body: Payload<Marks>) -> Result<Exchange<Demo>, NoMem
 }
 
 /// `hello` with a stall, `ab` with a fault, and `hello` once more.
-fn exchanges(alloc: Global) -> Result<Vec<Exchange<Demo>>, NoMemory> {
+fn exchanges(alloc: Global) -> Result<Vec<Exchange<Site>>, NoMemory> {
     let mut exchanges = Vec::new(alloc);
     for body in [
         Payload::Stream(Marks::new(hello(alloc)?)),
@@ -48,7 +47,7 @@ fn exchanges(alloc: Global) -> Result<Vec<Exchange<Demo>>, NoMemory> {
     Ok(exchanges)
 }
 
-fn is_reply(outcome: &Outcome<Demo>, status: StatusCode, body: &[u8]) -> bool {
+fn is_reply(outcome: &Outcome<Site>, status: StatusCode, body: &[u8]) -> bool {
     match outcome {
         Outcome::Reply(reply) => match reply.body() {
             BoxBody::Bytes(bytes) => reply.status() == status && bytes.as_slice() == body,
@@ -94,7 +93,7 @@ fn exchanges_are_served_in_the_order_of_the_plan(rt: HostRuntime) -> Result<(), 
 fn each_first_poll_makes_one_record(rt: HostRuntime) -> Result<(), Fail> {
     let mut worker = worker(rt.alloc())?;
     let mut echo = Echo::new(rt.alloc());
-    let mut flights: Vec<Flight<Demo, (Bytes, Option<Bytes>), Echo>> = Vec::new(rt.alloc());
+    let mut flights: Vec<Flight<Site, (Bytes, Option<Bytes>), Echo>> = Vec::new(rt.alloc());
     for exchange in exchanges(rt.alloc())? {
         flights.push(Flight::new(exchange))?;
     }
@@ -107,7 +106,7 @@ fn each_first_poll_makes_one_record(rt: HostRuntime) -> Result<(), Fail> {
 }
 
 /// `hello` with a stall, `ab` with a fault, and a whole body.
-fn three(alloc: Global) -> Result<Vec<Exchange<Demo>>, NoMemory> {
+fn three(alloc: Global) -> Result<Vec<Exchange<Site>>, NoMemory> {
     let first = exchange(alloc, Payload::Stream(Marks::new(hello(alloc)?)))?;
     let second = exchange(alloc, Payload::Stream(Marks::new(failing(alloc)?)))?;
     let third = exchange(alloc, Payload::Whole(Bytes::from_static(b"whole")))?;
@@ -115,7 +114,7 @@ fn three(alloc: Global) -> Result<Vec<Exchange<Demo>>, NoMemory> {
 }
 
 /// Sees that the first is answered `hello`, the second the fault and the third its body.
-fn are_bodies(rt: &impl Abort, outcomes: &[Outcome<Demo>]) {
+fn are_bodies(rt: &impl Abort, outcomes: &[Outcome<Site>]) {
     assert_eq!(rt; outcomes.len(), 3);
     assert!(rt; is_reply(&outcomes[0], StatusCode::OK, b"hello"));
     assert!(rt;
@@ -158,39 +157,5 @@ fn each_handler_answers_in_its_own_way(rt: HostRuntime) -> Result<(), Fail> {
     assert!(rt; is_reply(&outcomes[0], StatusCode::OK, b"hello"));
     assert!(rt; matches!(outcomes[1], Outcome::Unfinished));
     assert!(rt; matches!(outcomes[2], Outcome::Unfinished));
-    Ok(())
-}
-
-/// The script that these bytes say.
-fn script_of(rt: &impl Abort, alloc: Global, text: &'static [u8]) -> Result<Script, NoMemory> {
-    match read_script(alloc, Bytes::from_static(text))? {
-        Verdict::Valid(script) => Ok(script),
-        Verdict::Refused => panic!(rt; "refused"),
-    }
-}
-
-fn is_piece(mark: &Mark, want: &[u8]) -> bool {
-    match mark {
-        Mark::Piece(bytes) => bytes.as_slice() == want,
-        Mark::Stall | Mark::Fault => false,
-    }
-}
-
-#[test]
-fn a_script_is_read(rt: HostRuntime) -> Result<(), Fail> {
-    let text =
-        b"exchange POST /bytes\ntext a b\nstall\npiece 6A\nfault\nexchange POST /bytes\nplan 1\nplan 0 7";
-    let script = script_of(&rt, rt.alloc(), text)?;
-    assert!(rt; script.plan.as_slice() == [1, 0, 7].as_slice());
-    assert_eq!(rt; script.exchanges.len(), 2);
-    let marks = script.exchanges[0].marks.as_slice();
-    assert_eq!(rt; marks.len(), 4);
-    assert!(rt; is_piece(&marks[0], b"a b"));
-    assert!(rt; matches!(marks[1], Mark::Stall));
-    assert!(rt; is_piece(&marks[2], b"j"));
-    assert!(rt; matches!(marks[3], Mark::Fault));
-    assert!(rt; script.exchanges[1].marks.is_empty());
-    let refused = read_script(rt.alloc(), Bytes::from_static(b"plan 0\nstall\n"))?;
-    assert!(rt; matches!(refused, Verdict::Refused));
     Ok(())
 }

@@ -10,7 +10,7 @@ use Rattle.web_reply.specs.Replies.{Reply}
 use Rattle.web_worker.specs.Answers.{Rules, Replies, RepliesBefore}
 use Rattle.web_worker.specs.Exchanges.{Asked}
 use Rattle.web_worker.specs.Function.{AnswersOnce}
-use Rattle.web_rows.specs.Examples.{marks_or_none}
+use Rattle.web_handlers.specs.Examples.{marks_or_none}
 
 pub is_told : (m : Option (List Mark)) → IsSome m → m ≡ Some (marks_or_none m)
 is_told None h = absurd cc

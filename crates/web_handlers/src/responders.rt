@@ -1,8 +1,8 @@
 //! Responses, what answers them, and the replies to errors.
+use crate::site::{Site, SiteLayer, config, head};
 use bytes::{Bytes, BytesMut};
-use http::{Method, StatusCode, Version};
-use http_header::{CONTENT_TYPE, HeaderMap, HeaderValue};
-use http_uri::Uri;
+use http::{StatusCode, Version};
+use http_header::{CONTENT_TYPE, HeaderValue};
 use std::alloc::Global;
 use std::process::Abort;
 use std::rc::Rc;
@@ -12,72 +12,14 @@ use web_reply::{
     BodySize, BoxBody, ByteStr, Cause, ConnectionType, CowStr, Done, EitherBody, Error, HttpError,
     HttpResponse, IoKind, MessageBody, Reason, Responder, ResponseError, ResponseHead, WholeBody,
 };
-use web_request::{
-    App, AppConfig, Configured, Duplicate, HttpRequest, HttpRequestPool, IpAddr, NoMemory,
-    RequestHead, RequestParts, SocketAddr, Text,
-};
-
-/// An application whose records hold nothing.
-#[derive(Drop)]
-struct Site;
-
-#[derive(Drop)]
-struct SiteLayer;
-
-#[derive(Drop)]
-struct SiteLocal;
-
-#[derive(Drop)]
-struct SiteConn;
-
-impl Configured for SiteLayer {}
-
-impl Duplicate for SiteLocal {
-    fn duplicate(&self, _alloc: Global) -> Result<SiteLocal, NoMemory> {
-        Ok(SiteLocal)
-    }
-}
-
-impl App for Site {
-    type Layer = SiteLayer;
-
-    type Local = SiteLocal;
-
-    type Conn = SiteConn;
-
-    type Source = Marks;
-}
-
-fn config(alloc: Global) -> Result<AppConfig, NoMemory> {
-    Ok(AppConfig {
-        host: Text::of(alloc, "localhost:8080")?,
-        secure: false,
-        local_addr: SocketAddr {
-            ip: IpAddr::V4([127, 0, 0, 1]),
-            port: 8080,
-        },
-    })
-}
-
-fn request_head(alloc: Global) -> Result<RequestHead, NoMemory> {
-    let Ok(uri) = Uri::from_static("/") else {
-        return Err(NoMemory);
-    };
-    Ok(RequestHead {
-        uri,
-        method: Method::GET,
-        version: Version::HTTP_11,
-        headers: HeaderMap::new(alloc),
-        peer_addr: None,
-    })
-}
+use web_request::{App, HttpRequest, HttpRequestPool, NoMemory, RequestParts, Text};
 
 /// A request that asks for nothing in particular.
 fn request(alloc: Global) -> Result<HttpRequest<Site>, NoMemory> {
     let root = Rc::new(alloc, SiteLayer)?;
     let mut pool = HttpRequestPool::with_capacity(alloc, root, config(alloc)?, 0)?;
     let parts = RequestParts {
-        head: request_head(alloc)?,
+        head: head(alloc, "/")?,
         params: Vec::new(alloc),
         layers: Vec::new(alloc),
         conn: None,

@@ -22,8 +22,8 @@ use Rattle.web_worker.specs.Answers.{Rules, rules_of, Replies, ComesBefore, Repl
 use Rattle.web_worker.specs.Called.{ArgsOnce}
 use Rattle.web_worker.specs.Exchanges.{Asked}
 use Rattle.web_worker.specs.Function.{AnswersOnce}
-use Rattle.web_rows.specs.Examples.{IsTold, body_and_rest, body_delay, body_reply, content_reply, marks_or_none, with_rest}
-use Rattle.web_rows.proofs.Told.{is_told, once_told}
+use Rattle.web_handlers.specs.Examples.{IsTold, body_and_rest, body_delay, body_reply, content_reply, marks_or_none, with_rest}
+use Rattle.web_handlers.proofs.Told.{is_told, once_told}
 
 abbrev Arguments : Type 0
 Arguments = List ℕ × Option (List ℕ)

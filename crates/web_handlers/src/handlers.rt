@@ -5,7 +5,7 @@ ghost use Rattle.web_reply.specs.Responds.{text_reply};
 ghost use Rattle.web_worker.specs.Called.{calls_of};
 ghost use Rattle.web_worker.specs.Endings.{endings};
 ghost use Rattle.web_worker.specs.Served.{lacks_memory};
-ghost use Rattle.web_rows.specs.Examples.{AreAnswered, IsTold, body_and_rest, body_delay, body_reply};
+ghost use Rattle.web_handlers.specs.Examples.{AreAnswered, IsTold, body_and_rest, body_delay, body_reply};
 
 use bytes::Bytes;
 use std::alloc::Global;
@@ -129,7 +129,7 @@ pub enum SecondPoll<T> {
 }
 
 impl<T: Drop> Poll for SecondPoll<T> {
-    ghost use Rattle.web_rows.specs.SecondPoll.{is_given, second_gives, second_some};
+    ghost use Rattle.web_handlers.specs.SecondPoll.{is_given, second_gives, second_some};
 
     type Output = T;
 

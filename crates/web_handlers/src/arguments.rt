@@ -1,20 +1,20 @@
 //! Arguments, alone and in lists.
 use crate::bodies::{answer_of, hello, value_alone, value_of};
 use crate::records::{pool, started};
+use crate::site::Site;
 use bytes::Bytes;
 use std::alloc::Global;
 use std::process::Abort;
 use std::test::Fail;
 use web_body::{Marks, Payload, PayloadError};
-use web_cli::Demo;
 use web_extract::{Error, FromRequest, Never, Ready};
 use web_request::{HttpRequest, Mark, NoMemory};
 
 /// Makes a value of a request and `hello` with a stall.
-fn of_hello<T: FromRequest<Demo>>(
+fn of_hello<T: FromRequest<Site>>(
     rt: &impl Abort,
     alloc: Global,
-    request: &HttpRequest<Demo>,
+    request: &HttpRequest<Site>,
 ) -> Result<(usize, Result<T, T::Error>), NoMemory> {
     value_of(
         rt,
@@ -25,10 +25,10 @@ fn of_hello<T: FromRequest<Demo>>(
 }
 
 /// Makes a value of a request and a stall before a fault.
-fn of_fault<T: FromRequest<Demo>>(
+fn of_fault<T: FromRequest<Site>>(
     rt: &impl Abort,
     alloc: Global,
-    request: &HttpRequest<Demo>,
+    request: &HttpRequest<Site>,
 ) -> Result<(usize, Result<T, T::Error>), NoMemory> {
     let marks = vec![in alloc; Mark::Stall, Mark::Fault]?;
     value_of(rt, alloc, request, &mut Payload::Stream(Marks::new(marks)))

@@ -4,12 +4,12 @@ ghost use Rattle.web_request.specs.Body.{is_body, joined};
 ghost use Rattle.web_body.specs.Bodies.{without_empty};
 
 use crate::records::{pool, started};
+use crate::site::Site;
 use bytes::Bytes;
 use std::alloc::Global;
 use std::process::Abort;
 use std::test::Fail;
 use web_body::{HttpMessageBody, Marks, Payload, PayloadError, Poll, Step};
-use web_cli::Demo;
 use web_extract::FromRequest;
 use web_request::{HttpRequest, Mark, NoMemory, Source, Turn};
 
@@ -103,7 +103,7 @@ fn is_answer(
 fn collected(
     rt: &impl Abort,
     alloc: Global,
-    request: &HttpRequest<Demo>,
+    request: &HttpRequest<Site>,
     mut payload: Payload<Marks>,
     limit: usize,
 ) -> (usize, Result<Bytes, PayloadError>) {
@@ -158,10 +158,10 @@ fn a_body_is_collected_up_to_its_limit(rt: HostRuntime) -> Result<(), Fail> {
 }
 
 /// Makes a value of a request and its payload, by the trait alone.
-pub(crate) fn value_of<T: FromRequest<Demo>>(
+pub(crate) fn value_of<T: FromRequest<Site>>(
     rt: &impl Abort,
     alloc: Global,
-    request: &HttpRequest<Demo>,
+    request: &HttpRequest<Site>,
     payload: &mut Payload<Marks>,
 ) -> Result<(usize, Result<T, T::Error>), NoMemory> {
     let future = T::from_request(alloc, request, payload)?;
@@ -169,10 +169,10 @@ pub(crate) fn value_of<T: FromRequest<Demo>>(
 }
 
 /// Makes a value of a request alone, by the trait alone.
-pub(crate) fn value_alone<T: FromRequest<Demo>>(
+pub(crate) fn value_alone<T: FromRequest<Site>>(
     rt: &impl Abort,
     alloc: Global,
-    request: &HttpRequest<Demo>,
+    request: &HttpRequest<Site>,
 ) -> Result<(usize, Result<T, T::Error>), NoMemory> {
     let future = T::extract(alloc, request)?;
     Ok(answer_of(rt, alloc, future))

@@ -3,10 +3,10 @@ use Rattle.web_reply.specs.declared.cause.Cause.TheVariants.{Payload}
 use Rattle.web_reply.specs.Replies.{fault_of}
 use Rattle.web_extract.specs.Never.{NeverGives}
 use Rattle.web_worker.specs.Exchanges.{request_of}
-use Rattle.web_rows.specs.Examples.{body_and_rest, body_delay, body_reply}
-use Rattle.web_rows.proofs.Listing.{each_answered, each_argued, some_same}
-use Rattle.web_rows.proofs.Told.{on_ok}
-use Rattle.web_rows.proofs.handlers.serve_echo.Goals as goal
+use Rattle.web_handlers.specs.Examples.{body_and_rest, body_delay, body_reply}
+use Rattle.web_handlers.proofs.Listing.{each_answered, each_argued, some_same}
+use Rattle.web_handlers.proofs.Told.{on_ok}
+use Rattle.web_handlers.proofs.handlers.serve_echo.Goals as goal
 
 pub returns-clause-answered : goal.returns-clause-answered
 returns-clause-answered g c told =

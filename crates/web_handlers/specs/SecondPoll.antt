@@ -1,8 +1,8 @@
 -- A value that is there at the second poll.
 use Rattle.std.specs.Prelude.{◌≡◌, ℕ, Bool, true, false, refl}
 use Rattle.web_body.specs.Polled.{GivesSome}
-use Rattle.web_rows.specs.declared.handlers.SecondPoll.{SecondPoll}
-use Rattle.web_rows.specs.declared.handlers.SecondPoll.TheVariants.{New, Stalled, Given}
+use Rattle.web_handlers.specs.declared.handlers.SecondPoll.{SecondPoll}
+use Rattle.web_handlers.specs.declared.handlers.SecondPoll.TheVariants.{New, Stalled, Given}
 
 -- its value was given away
 abbrev pub is_given : {T : Type 0} → SecondPoll T → Bool

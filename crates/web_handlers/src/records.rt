@@ -1,43 +1,14 @@
 //! Requests in their records.
+use crate::site::{Site, SiteConn, SiteLayer, SiteLocal, config, head};
 use http::{Method, Version};
-use http_header::HeaderMap;
-use http_uri::Uri;
 use std::alloc::Global;
 use std::process::Abort;
 use std::rc::Rc;
 use std::test::Fail;
-use web_cli::{Demo, DemoConn, DemoLayer, DemoLocal};
-use web_request::{
-    AppConfig, HttpRequest, HttpRequestPool, IpAddr, NoMemory, Pair, RequestHead, RequestParts,
-    SocketAddr, Text,
-};
+use web_request::{HttpRequest, HttpRequestPool, NoMemory, Pair, RequestParts, Text};
 
-pub(crate) fn config(alloc: Global) -> Result<AppConfig, NoMemory> {
-    Ok(AppConfig {
-        host: Text::of(alloc, "localhost:8080")?,
-        secure: false,
-        local_addr: SocketAddr {
-            ip: IpAddr::V4([127, 0, 0, 1]),
-            port: 8080,
-        },
-    })
-}
-
-pub(crate) fn head(alloc: Global, target: &'static str) -> Result<RequestHead, NoMemory> {
-    let Ok(uri) = Uri::from_static(target) else {
-        return Err(NoMemory);
-    };
-    Ok(RequestHead {
-        uri,
-        method: Method::POST,
-        version: Version::HTTP_11,
-        headers: HeaderMap::new(alloc),
-        peer_addr: None,
-    })
-}
-
-pub(crate) fn pool(alloc: Global, capacity: usize) -> Result<HttpRequestPool<Demo>, NoMemory> {
-    let root = Rc::new(alloc, DemoLayer)?;
+pub(crate) fn pool(alloc: Global, capacity: usize) -> Result<HttpRequestPool<Site>, NoMemory> {
+    let root = Rc::new(alloc, SiteLayer)?;
     HttpRequestPool::with_capacity(alloc, root, config(alloc)?, capacity)
 }
 
@@ -45,22 +16,22 @@ pub(crate) fn pool(alloc: Global, capacity: usize) -> Result<HttpRequestPool<Dem
 pub(crate) fn started(
     rt: &impl Abort,
     alloc: Global,
-    pool: &mut HttpRequestPool<Demo>,
+    pool: &mut HttpRequestPool<Site>,
     target: &'static str,
-) -> Result<HttpRequest<Demo>, NoMemory> {
+) -> Result<HttpRequest<Site>, NoMemory> {
     let mut params = Vec::new(alloc);
     params.push(Pair {
         name: Text::of(alloc, "name")?,
         value: Text::of(alloc, "value")?,
     })?;
     let mut layers = Vec::new(alloc);
-    layers.push(Rc::new(alloc, DemoLayer)?)?;
+    layers.push(Rc::new(alloc, SiteLayer)?)?;
     let parts = RequestParts {
         head: head(alloc, target)?,
         params,
         layers,
-        conn: Some(Rc::new(alloc, DemoConn)?),
-        local: Some(DemoLocal),
+        conn: Some(Rc::new(alloc, SiteConn)?),
+        local: Some(SiteLocal),
     };
     assert!(rt; pool.made() < 9);
     match pool.start(alloc, parts) {

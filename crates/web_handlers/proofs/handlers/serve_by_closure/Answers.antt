@@ -1,9 +1,9 @@
 use Rattle.std.proofs.Common.{rules}
 use Rattle.web_worker.specs.Exchanges.{request_of}
-use Rattle.web_rows.specs.Examples.{body_delay, body_reply}
-use Rattle.web_rows.proofs.Echoing.{each_echoed, held}
-use Rattle.web_rows.proofs.Told.{on_ok}
-use Rattle.web_rows.proofs.handlers.serve_by_closure.Goals as goal
+use Rattle.web_handlers.specs.Examples.{body_delay, body_reply}
+use Rattle.web_handlers.proofs.Echoing.{each_echoed, held}
+use Rattle.web_handlers.proofs.Told.{on_ok}
+use Rattle.web_handlers.proofs.handlers.serve_by_closure.Goals as goal
 
 pub returns : goal.returns
 returns g c told =

@@ -2,9 +2,9 @@ use Rattle.std.proofs.Common.{codes}
 use Rattle.web_extract.specs.Never.{NeverGives}
 use Rattle.web_reply.specs.Responds.{text_reply}
 use Rattle.web_worker.specs.Exchanges.{request_of}
-use Rattle.web_rows.proofs.Greeting.{each_greeted}
-use Rattle.web_rows.proofs.Told.{on_ok}
-use Rattle.web_rows.proofs.handlers.serve_greeting.Goals as goal
+use Rattle.web_handlers.proofs.Greeting.{each_greeted}
+use Rattle.web_handlers.proofs.Told.{on_ok}
+use Rattle.web_handlers.proofs.handlers.serve_greeting.Goals as goal
 
 pub returns : goal.returns
 returns g c told =

@@ -15,8 +15,8 @@ use Rattle.web_extract.specs.declared.never.Never.{Never}
 use Rattle.web_worker.specs.Answers.{Rules, rules_of, Replies, ComesBefore, RepliesBefore}
 use Rattle.web_worker.specs.Exchanges.{Asked}
 use Rattle.web_worker.specs.Function.{AnswersOnce}
-use Rattle.web_rows.specs.Examples.{IsTold, marks_or_none}
-use Rattle.web_rows.proofs.Told.{is_told, once_told}
+use Rattle.web_handlers.specs.Examples.{IsTold, marks_or_none}
+use Rattle.web_handlers.proofs.Told.{is_told, once_told}
 
 abbrev hello : List ℕ
 hello = codes "hello"
