@@ -137,6 +137,7 @@ impl<A: App> HttpRequest<A> {
     }
 
     /// Makes a clean record one with these parts. Where there is no memory, they are handed back and it stays clean.
+    #[inline(never)]
     pub(crate) fn fill(
         &mut self,
         alloc: Global,

@@ -4,7 +4,7 @@ use Rattle.std.specs.Prelude.{Option, None, Some, Result, MatchOption, slice_get
 use Rattle.std.specs.List.{list_any}
 use Rattle.std.proofs.lemmas.Bool.Decides.{nat_tests}
 use Rattle.web_request.specs.Feed.{Feed}
-use Rattle.web_request.specs.Pool.{Pool, given_back}
+use Rattle.web_request.specs.Pool.{Pool, given_back, taken}
 use Rattle.web_request.specs.Request.{Request}
 use Rattle.web_worker.specs.Endings.{Ending, Ending.Replied, Ending.Unfinished, Ending.NoMemory}
 use Rattle.web_worker.specs.declared.flight.Stage.TheVariants.{Waiting, Extracting, Handling, Answered}
@@ -26,6 +26,13 @@ dropped p n none =
     let full : nat_lt (length p.serials) p.capacity ≡ false = grind (arith, nat_tests, none.capacity) in
     let off : (p.enabled && nat_lt (length p.serials) p.capacity) ≡ false = rw full (and-false p.enabled) in
     rw off refl
+
+-- a record that is taken from it and given back is made, and not kept
+pub taken_back : {L : Type 0} (p q r : Pool L) (n : ℕ) → KeepsNone p → q ≡ taken p → r ≡ given_back n q → r ≡ having_made (p.made + 1) p
+taken_back p q r n none took gave =
+    let keeps : KeepsNone (taken p) = record { capacity = none.capacity; serials = rw none.serials refl } in
+    let made : taken p ≡ having_made (p.made + 1) p = rw none.serials refl in
+    gave ∙ rw took (dropped (taken p) n keeps) ∙ made
 
 -- and a poll leaves it one that keeps none
 pub still_none : {S L D C U W : Type 0} (f g : FlightView S L D C U W) (p q : Pool L) → KeepsNone p → Makes f g p q → KeepsNone q

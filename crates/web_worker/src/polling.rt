@@ -1,13 +1,13 @@
 //! One poll of one exchange.
-ghost use Rattle.std.specs.Prelude.{◌≡◌, ◌+◌, ◌<◌, ◌^◌, Some, false, slice_get};
+ghost use Rattle.std.specs.Prelude.{◌≡◌, ◌+◌, ◌<◌, ◌^◌, Some, false, true, slice_get};
 ghost use Rattle.web_request.specs.Pool.{Pool};
 ghost use Rattle.web_worker.specs.Answers.{rules_of};
-ghost use Rattle.web_worker.specs.Endings.{stage_view};
+ghost use Rattle.web_worker.specs.Endings.{Ending.NoMemory as lost, stage_view};
 ghost use Rattle.web_worker.specs.Exchanges.{Held, IsUnfinished, request_of};
 ghost use Rattle.web_worker.specs.Flights.{Polled};
 ghost use Rattle.web_worker.specs.Handling.{Within};
 ghost use Rattle.web_worker.specs.Polls.{EffectAt, IsIdle, PollsAt, Steps};
-ghost use Rattle.web_worker.specs.Pooled.{KeepsNone, Makes, may_make};
+ghost use Rattle.web_worker.specs.Pooled.{KeepsNone, Makes, is_waiting, may_make};
 ghost use Rattle.web_worker.specs.Progress.{arguments_after, handler_after};
 ghost use Rattle.web_worker.specs.Told.{Calls, IsPast};
 
@@ -83,66 +83,52 @@ where
     }
 }
 
-/// The stage after a poll of arguments. The record is given back with an outcome.
-fn moved_on<A: App, U: Poll, W: Poll>(
-    pool: &mut HttpRequestPool<A>,
-    request: HttpRequest<A>,
-    future: U,
-    progress: Progress<W, Outcome<A>>,
-) -> Stage<Exchange<A>, InFlight<A, U>, InFlight<A, W>, Outcome<A>>
-    requires { KeepsNone pool.old }
-    ensures pool { pool.new ≡ pool.old }
-    ensures stage { stage_view A.Source.feed result ≡ arguments_after A.Source.feed request future progress }
-{
-    match progress {
-        Progress::Pending => Stage::Extracting(InFlight { request, future }),
-        Progress::Called(future) => Stage::Handling(InFlight { request, future }),
-        Progress::Done(outcome) => {
-            pool.give_back(request);
-            Stage::Answered(outcome)
-        }
-    }
-}
-
-/// Takes a record for an exchange, and polls its arguments for the first time.
+/// Takes a record for an exchange, and polls its arguments for the first time. Where memory is wanting, the stage stays as
+/// it is.
 fn take_off<A: App, Args: FromRequest<A>, H: Handler<Args>>(
     alloc: Global,
     pool: &mut HttpRequestPool<A>,
     handler: &mut H,
     exchange: Exchange<A>,
-) -> StageOf<A, Args, H>
+    stage: &mut StageOf<A, Args, H>,
+)
 where
     H::Output: Responder<A>,
+    requires lost { stage_view A.Source.feed stage.old ≡ Stage.Answered lost }
     requires none_kept { KeepsNone pool.old }
     requires room { pool.old.made + 1 < 2 ^ 64 }
     requires ready { H.ready handler.old }
-    ensures unfinished { IsUnfinished Args.Future.is_finished H.Future.is_finished result }
-    ensures makes { Makes (Stage.Waiting exchange) (stage_view A.Source.feed result) pool.old pool.new }
+    ensures unfinished { IsUnfinished Args.Future.is_finished H.Future.is_finished stage.new }
+    ensures makes { Makes (Stage.Waiting exchange) (stage_view A.Source.feed stage.new) pool.old pool.new }
     ensures ready { H.ready handler.new }
     ensures kept { (x : Args) → Within (H.answers handler.new x) (H.answers handler.old x) }
     ensures same { (x : Args) → Within (H.answers handler.old x) (H.answers handler.new x) }
     ensures told { Calls (rules_of Args.means Args.Error.converts (H.answers handler.old) H.Output.responds)
-        (request_of pool.old) A.Source.feed Args.Future.gives (Stage.Waiting exchange) (stage_view A.Source.feed result) (H.calls handler.old) (H.calls handler.new) }
+        (request_of pool.old) A.Source.feed Args.Future.gives (Stage.Waiting exchange) (stage_view A.Source.feed stage.new) (H.calls handler.old) (H.calls handler.new) }
     ensures polled { Polled (rules_of Args.means Args.Error.converts (H.answers handler.old) H.Output.responds)
-        (request_of pool.old) A.Source.feed Args.Future.gives H.Future.gives (Stage.Waiting exchange) (stage_view A.Source.feed result) }
+        (request_of pool.old) A.Source.feed Args.Future.gives H.Future.gives (Stage.Waiting exchange) (stage_view A.Source.feed stage.new) }
 {
     let (parts, mut payload) = exchange.into_parts();
-    match pool.start(alloc, parts) {
-        Ok(request) => match Args::from_request(alloc, &request, &mut payload) {
-            Ok(mut future) => {
-                let progress = poll_arguments::<A, Args, H>(alloc, handler, &request, &mut future);
-                moved_on(pool, request, future, progress)
+    let Ok(request) = pool.start(alloc, parts) else {
+        return;
+    };
+    match Args::from_request(alloc, &request, &mut payload) {
+        Ok(mut future) => {
+            match poll_arguments::<A, Args, H>(alloc, handler, &request, &mut future) {
+                Progress::Pending => *stage = Stage::Extracting(InFlight { request, future }),
+                Progress::Called(future) => *stage = Stage::Handling(InFlight { request, future }),
+                Progress::Done(outcome) => {
+                    pool.give_back(request);
+                    *stage = Stage::Answered(outcome);
+                }
             }
-            Err(_) => {
-                pool.give_back(request);
-                Stage::Answered(Outcome::NoMemory)
-            }
-        },
-        Err(_) => Stage::Answered(Outcome::NoMemory),
+        }
+        Err(_) => pool.give_back(request),
     }
 }
 
 /// Brings an exchange on in its place, after a poll of its arguments.
+#[inline(never)]
 fn go_on<A: App, U: Poll, W: Poll>(
     pool: &mut HttpRequestPool<A>,
     stage: &mut Stage<Exchange<A>, InFlight<A, U>, InFlight<A, W>, Outcome<A>>,
@@ -155,17 +141,25 @@ fn go_on<A: App, U: Poll, W: Poll>(
 {
     match progress {
         Progress::Pending => {}
-        progress => {
+        Progress::Called(future) => {
             let extracting = mem::replace(stage, Stage::Answered(Outcome::NoMemory));
             if let Stage::Extracting(held) = extracting {
-                let InFlight { request, future } = held;
-                *stage = moved_on(pool, request, future, progress);
+                let InFlight { request, future: _ } = held;
+                *stage = Stage::Handling(InFlight { request, future });
+            }
+        }
+        Progress::Done(outcome) => {
+            let extracting = mem::replace(stage, Stage::Answered(outcome));
+            if let Stage::Extracting(held) = extracting {
+                let InFlight { request, future: _ } = held;
+                pool.give_back(request);
             }
         }
     }
 }
 
 /// Answers an exchange in its place, after a poll of its handler.
+#[inline(never)]
 fn settle<A: App, U: Poll, W: Poll>(
     pool: &mut HttpRequestPool<A>,
     stage: &mut Stage<Exchange<A>, InFlight<A, U>, InFlight<A, W>, Outcome<A>>,
@@ -182,6 +176,34 @@ fn settle<A: App, U: Poll, W: Poll>(
             let InFlight { request, future: _ } = held;
             pool.give_back(request);
         }
+    }
+}
+
+/// The first poll of an exchange in its place. It is kept out of the later ones, which then need little of the stack.
+#[inline(never)]
+fn depart<A: App, Args: FromRequest<A>, H: Handler<Args>>(
+    alloc: Global,
+    pool: &mut HttpRequestPool<A>,
+    handler: &mut H,
+    stage: &mut StageOf<A, Args, H>,
+)
+where
+    H::Output: Responder<A>,
+    requires waiting { is_waiting (stage_view A.Source.feed stage.old) ≡ true }
+    requires none_kept { KeepsNone pool.old }
+    requires room { pool.old.made + 1 < 2 ^ 64 }
+    requires ready { H.ready handler.old }
+    ensures ready { H.ready handler.new }
+    ensures kept { (x : Args) → Within (H.answers handler.new x) (H.answers handler.old x) }
+    ensures same { (x : Args) → Within (H.answers handler.old x) (H.answers handler.new x) }
+    ensures unfinished { IsUnfinished Args.Future.is_finished H.Future.is_finished stage.new }
+    ensures steps { Steps (rules_of Args.means Args.Error.converts (H.answers handler.old) H.Output.responds)
+        (request_of pool.old) A.Source.feed Args.Future.gives H.Future.gives (stage_view A.Source.feed stage.old) (stage_view A.Source.feed stage.new)
+        pool.old pool.new (H.calls handler.old) (H.calls handler.new) }
+{
+    let waiting = mem::replace(stage, Stage::Answered(Outcome::NoMemory));
+    if let Stage::Waiting(exchange) = waiting {
+        take_off::<A, Args, H>(alloc, pool, handler, exchange, stage);
     }
 }
 
@@ -207,12 +229,7 @@ where
         pool.old pool.new (H.calls handler.old) (H.calls handler.new) }
 {
     match stage {
-        Stage::Waiting(_) => {
-            let waiting = mem::replace(stage, Stage::Answered(Outcome::NoMemory));
-            if let Stage::Waiting(exchange) = waiting {
-                *stage = take_off::<A, Args, H>(alloc, pool, handler, exchange);
-            }
-        }
+        Stage::Waiting(_) => depart::<A, Args, H>(alloc, pool, handler, stage),
         Stage::Extracting(held) => {
             let progress = poll_arguments::<A, Args, H>(
                 alloc,
@@ -220,7 +237,10 @@ where
                 &held.request,
                 &mut held.future,
             );
-            go_on(pool, stage, progress);
+            match progress {
+                Progress::Pending => {}
+                progress => go_on(pool, stage, progress),
+            }
         }
         Stage::Handling(held) => {
             let outcome = poll_handler::<A, Args, H>(alloc, &held.request, &mut held.future);

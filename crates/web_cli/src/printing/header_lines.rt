@@ -59,7 +59,17 @@ fn put_names(
     Ok(())
 }
 
-/// The lines of all headers, in the order of their names' bytes.
+/// The lines of all headers, in the order in which the map has their names.
+fn put_keys(out: &mut Vec<u8>, headers: &HeaderMap<HeaderValue>) -> Result<(), NoMemory>
+    ensures { OnOk result (out.new.items ≡ out.old.items ++ flat_map (lines_of headers.now) (keys headers.now)) }
+{
+    for name in headers.keys() {
+        put_values(out, headers, name)?;
+    }
+    Ok(())
+}
+
+/// The lines of all headers, in the order of their names' bytes. A single name is not sorted, which would take memory.
 pub(crate) fn put_headers(
     alloc: Global,
     out: &mut Vec<u8>,
@@ -67,6 +77,9 @@ pub(crate) fn put_headers(
 ) -> Result<(), NoMemory>
     ensures { OnOk result (out.new.items ≡ out.old.items ++ header_lines headers.now) }
 {
+    if headers.keys_len() < 2 {
+        return put_keys(out, headers);
+    }
     let names = sorted_names(alloc, headers)?;
     put_names(out, headers, names)
 }
