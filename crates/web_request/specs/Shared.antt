@@ -1,5 +1,5 @@
 -- What counted pointers lead to.
-use Rattle.std.specs.Prelude.{List, Option, None, Some, map}
+use Rattle.std.specs.Prelude.{List, ◌∷◌, Option, None, Some, map}
 use Rattle.std.specs.declared.rc.Rc.{Rc}
 
 module _ {X Z : Type 0} where
@@ -9,3 +9,8 @@ module _ {X Z : Type 0} where
   abbrev pub value_of : Option (Rc X Z) → Option X
   value_of None = None
   value_of (Some r) = Some r.value
+
+  -- the first, if there is one, and those behind it
+  abbrev pub values_behind : Option (Rc X Z) → List (Rc X Z) → List X
+  values_behind None rs = values rs
+  values_behind (Some r) rs = r.value ∷ values rs

@@ -20,6 +20,8 @@ use web_texts::{NoMemory, Pair};
 pub struct HttpRequest<A: App> {
     head: Rc<RequestHead>,
     params: Vec<Pair>,
+    /// It stands alone, so that a request without layers of its own needs no list.
+    root: Option<Rc<A::Layer>>,
     layers: Vec<Rc<A::Layer>>,
     conn: Option<Rc<A::Conn>>,
     local: Option<A::Local>,
@@ -28,16 +30,16 @@ pub struct HttpRequest<A: App> {
 }
 
 impl<A: App> Model for HttpRequest<A> {
-    ghost use Rattle.web_request.specs.Shared.{value_of, values};
+    ghost use Rattle.web_request.specs.Shared.{value_of, values_behind};
     ghost use Rattle.web_request.specs.Head.{head_view};
     ghost use Rattle.web_request.specs.Ready.{AllReady};
     ghost use Rattle.web_request.specs.Request.{Record};
 
     ghost Value = { Record A.Layer A.Local A.Conn };
 
-    ghost view = { λ r. record { request = record { head = head_view r.head.value; params = r.params.items; layers = values r.layers.items; conn = value_of r.conn; local = r.local; config = r.config.value }; serial = r.serial } };
+    ghost view = { λ r. record { request = record { head = head_view r.head.value; params = r.params.items; layers = values_behind r.root r.layers.items; conn = value_of r.conn; local = r.local; config = r.config.value }; serial = r.serial } };
 
-    ghost invariant = { λ r. AllReady A.Layer.ready (values r.layers.items) };
+    ghost invariant = { λ r. AllReady A.Layer.ready (values_behind r.root r.layers.items) };
 }
 
 impl<A: App> HttpRequest<A> {
@@ -75,7 +77,7 @@ impl<A: App> HttpRequest<A> {
         root: &Rc<A::Layer>,
         config: &Rc<AppConfig>,
         serial: u64,
-        mut parts: RequestParts<A>,
+        parts: RequestParts<A>,
     ) -> Result<HttpRequest<A>, (NoMemory, RequestParts<A>)>
         requires ready { A.Layer.ready root.now.value }
         ensures ok { IfOk result (λ r. r ≡ started root.now.value config.now.value serial parts) }
@@ -87,13 +89,10 @@ impl<A: App> HttpRequest<A> {
         let Ok(config) = config.clone() else {
             return Err((NoMemory, parts));
         };
-        if parts.layers.reserve(1).is_err() {
-            return Err((NoMemory, parts));
-        }
         let RequestParts {
             head,
             params,
-            mut layers,
+            layers,
             conn,
             local,
         } = parts;
@@ -110,13 +109,10 @@ impl<A: App> HttpRequest<A> {
                 return Err((NoMemory, parts));
             }
         };
-        match layers.insert(0, root) {
-            Ok(()) => {}
-            Err(_) => unreachable!(),
-        }
         Ok(HttpRequest {
             head,
             params,
+            root: Some(root),
             layers,
             conn,
             local,
@@ -131,6 +127,7 @@ impl<A: App> HttpRequest<A> {
         ensures serial { self.new.serial ≡ self.old.serial }
     {
         self.params.clear();
+        self.root = None;
         self.layers.clear();
         self.conn = None;
         self.local = None;
@@ -160,7 +157,7 @@ impl<A: App> HttpRequest<A> {
         if self.params.reserve(parts.params.len()).is_err() {
             return Err((NoMemory, parts));
         }
-        if self.layers.reserve(parts.layers.len() + 1).is_err() {
+        if self.layers.reserve(parts.layers.len()).is_err() {
             return Err((NoMemory, parts));
         }
         let RequestParts {
@@ -183,10 +180,7 @@ impl<A: App> HttpRequest<A> {
                 return Err((NoMemory, parts));
             }
         }
-        match self.layers.push(root) {
-            Ok(()) => {}
-            Err(_) => unreachable!(),
-        }
+        self.root = Some(root);
         move_into(&mut self.layers, layers);
         move_into(&mut self.params, params);
         self.conn = conn;

@@ -1,5 +1,6 @@
 -- Facts of each number and of the items there of two lists, and how often a plan names a number.
-use Rattle.std.proofs.Common.{◌≡◌, ◌==◌, ℕ, zero, suc, ◌+◌, ◌≤◌, ◌≢◌, true, false, cond, List, [], ◌∷◌, ◌++◌, sym, arith, subst, refl}
+use Rattle.std.proofs.Common.{◌≡◌, ◌==◌, ℕ, zero, suc, ◌+◌, ◌<◌, ◌≤◌, ◌≢◌, true, false, cond, List, [], ◌∷◌, ◌++◌, drop, length, get_or, sym, ◌∙◌, arith, subst, refl}
+use Rattle.std.proofs.Math.Seq.{drop-cons}
 use Rattle.std.specs.Prelude.{None, Some, slice_get, slice_set}
 use Rattle.std.proofs.lemmas.Bool.Decides.{nat_tests}
 use Rattle.web_worker.specs.Served.{polls, EachFrom}
@@ -57,3 +58,11 @@ polls_here p k = let h = polls_end p k k in let e : (k == k) ≡ true = grind (a
 
 pub polls_other : (p : List ℕ) (j k : ℕ) → k ≢ j → polls (p ++ j ∷ []) k ≡ polls p k
 polls_other p j k ne = let h = polls_end p j k in let e : (j == k) ≡ false = grind (arith, nat_tests) in let r : cond {A = ℕ} (j == k) 1 0 ≡ 0 = rw e refl in omega (arith, h)
+
+-- where two lists agree from k on, they agree at k, and behind it
+pub agree_behind : {X : Type 0} (xs ys : List X) (k : ℕ) (d : X) → k < length xs → length xs ≡ length ys → drop k xs ≡ drop k ys
+    → (get_or xs k d ≡ get_or ys k d) × (drop (k + 1) xs ≡ drop (k + 1) ys)
+agree_behind xs ys k d lt size same =
+    let next : k + 1 ≡ suc k = omega arith in
+    let both : get_or xs k d ∷ drop (suc k) xs ≡ get_or ys k d ∷ drop (suc k) ys = sym (drop-cons xs k d lt) ∙ same ∙ drop-cons ys k d (omega (arith, lt, size)) in
+    (cc, rw next cc)

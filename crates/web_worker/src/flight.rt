@@ -1,8 +1,12 @@
 //! How far an exchange has come.
+ghost use Rattle.std.specs.Prelude.{◌≡◌};
+ghost use Rattle.web_worker.specs.Pooled.{KeepsNone};
+
 use crate::exchange::Exchange;
 use crate::handler::Handler;
 use crate::outcome::Outcome;
 use std::marker::Model;
+use std::mem;
 use web_body::Poll;
 use web_extract::FromRequest;
 use web_reply::Responder;
@@ -90,28 +94,47 @@ impl<A: App, Args: FromRequest<A>, H: Handler<Args>> Flight<A, Args, H> {
     }
 
     /// What the flight came to, where the plan is at its end. A record that it still holds is given back.
-    pub(crate) fn into_outcome(self, pool: &mut HttpRequestPool<A>) -> Outcome<A>
+    pub(crate) fn take_outcome(&mut self, pool: &mut HttpRequestPool<A>) -> Outcome<A>
     where
         H::Output: Responder<A>,
         requires { KeepsNone pool.old }
         ensures pool { pool.new ≡ pool.old }
         ensures lands { (handler : H) (worker : Pool A.Layer) → Lands (rules_of Args.means Args.Error.converts (H.answers handler) H.Output.responds)
-            (request_of worker) A.Source.feed Args.Future.gives H.Future.gives self (ending_of A.Source.feed result) }
+            (request_of worker) A.Source.feed Args.Future.gives H.Future.gives self.old (ending_of A.Source.feed result) }
     {
-        let Flight { stage } = self;
-        match stage {
+        match &mut self.stage {
             Stage::Waiting(_) => Outcome::Unfinished,
-            Stage::Extracting(held) => {
-                let InFlight { request, future: _ } = held;
-                pool.give_back(request);
+            Stage::Answered(outcome) => mem::replace(outcome, Outcome::NoMemory),
+            Stage::Extracting(_) => {
+                give_back(&mut self.stage, pool);
                 Outcome::Unfinished
             }
-            Stage::Handling(held) => {
-                let InFlight { request, future: _ } = held;
-                pool.give_back(request);
+            Stage::Handling(_) => {
+                give_back(&mut self.stage, pool);
                 Outcome::Unfinished
             }
-            Stage::Answered(outcome) => outcome,
         }
+    }
+}
+
+/// Gives back the record that a stage holds.
+fn give_back<A: App, U: Poll, W: Poll>(
+    stage: &mut Stage<Exchange<A>, InFlight<A, U>, InFlight<A, W>, Outcome<A>>,
+    pool: &mut HttpRequestPool<A>,
+)
+    requires { KeepsNone pool.old }
+    ensures pool { pool.new ≡ pool.old }
+    ensures stage { stage.new ≡ Stage.Answered Outcome.NoMemory }
+{
+    match mem::replace(stage, Stage::Answered(Outcome::NoMemory)) {
+        Stage::Extracting(held) => {
+            let InFlight { request, future: _ } = held;
+            pool.give_back(request);
+        }
+        Stage::Handling(held) => {
+            let InFlight { request, future: _ } = held;
+            pool.give_back(request);
+        }
+        Stage::Waiting(_) | Stage::Answered(_) => {}
     }
 }

@@ -85,6 +85,7 @@ where
 
 /// Takes a record for an exchange, and polls its arguments for the first time. Where memory is wanting, the stage stays as
 /// it is.
+#[inline(always)]
 fn take_off<A: App, Args: FromRequest<A>, H: Handler<Args>>(
     alloc: Global,
     pool: &mut HttpRequestPool<A>,

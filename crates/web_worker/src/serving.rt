@@ -71,19 +71,19 @@ where
 fn land<A: App, Args: FromRequest<A>, H: Handler<Args>>(
     pool: &mut HttpRequestPool<A>,
     outcomes: &mut Vec<Outcome<A>>,
-    flights: Vec<Flight<A, Args, H>>,
+    flights: &mut [Flight<A, Args, H>],
 )
 where
     H::Output: Responder<A>,
     requires none_kept { KeepsNone pool.old }
-    requires room { length flights.items ≤ vec_capacity outcomes.old }
+    requires room { length flights.old ≤ vec_capacity outcomes.old }
     requires none { outcomes.old.items ≡ [] }
     ensures pool { pool.new ≡ pool.old }
     ensures landed { (handler : H) (worker : Pool A.Layer) → Landed (rules_of Args.means Args.Error.converts (H.answers handler) H.Output.responds)
-        (request_of worker) A.Source.feed Args.Future.gives H.Future.gives flights.items (endings A.Source.feed outcomes.new.items) }
+        (request_of worker) A.Source.feed Args.Future.gives H.Future.gives flights.old (endings A.Source.feed outcomes.new.items) }
 {
-    for flight in flights {
-        match outcomes.push(flight.into_outcome(pool)) {
+    for flight in flights.iter_mut() {
+        match outcomes.push(flight.take_outcome(pool)) {
             Ok(()) => {}
             Err(_) => unreachable!(),
         }
@@ -132,7 +132,8 @@ where
         Err(_) => return Err((NoMemory, exchanges)),
     };
     board::<A, Args, H>(&mut flights, exchanges);
-    fly(alloc, worker, handler, flights.as_mut_slice(), plan);
+    let flights = flights.as_mut_slice();
+    fly(alloc, worker, handler, flights, plan);
     land(&mut worker.pool, &mut outcomes, flights);
     Ok(outcomes)
 }
