@@ -12,7 +12,7 @@ use web_reply::{
     BodySize, BoxBody, ByteStr, Cause, ConnectionType, CowStr, Done, EitherBody, Error, HttpError,
     HttpResponse, IoKind, MessageBody, Reason, Responder, ResponseError, ResponseHead, WholeBody,
 };
-use web_request::{App, HttpRequest, HttpRequestPool, NoMemory, RequestParts, Text};
+use web_request::{App, Duplicate, HttpRequest, HttpRequestPool, NoMemory, RequestParts, Text};
 
 /// A request that asks for nothing in particular.
 fn request(alloc: Global) -> Result<HttpRequest<Site>, NoMemory> {
