@@ -36,8 +36,8 @@ fn main() -> ExitCode {
     let Some(script) = script::read(&bytes) else {
         return say(NOT_BUILT, 2);
     };
-    let (flights, made) = serving::serve(script);
-    say(&printing::printed(&flights, made), 0)
+    let (mut flights, made) = serving::serve(script);
+    say(&printing::printed(&mut flights, made), 0)
 }
 
 /// Writes the text, and gives the status, or that writing failed.

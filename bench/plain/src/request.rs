@@ -1,51 +1,67 @@
-//! Requests, as a script asks for them.
+//! Requests, as a script asks for them. They borrow from its bytes.
 use crate::target::{self, Target};
 
 /// A request without its body.
-pub struct Request {
+pub struct Request<'a> {
     #[expect(dead_code, reason = "no handler asks for it yet")]
-    pub method: String,
-    pub target: Target,
+    pub method: &'a str,
+    #[expect(dead_code, reason = "no handler asks for it yet")]
+    pub target: Target<'a>,
     /// As a router would match them, in their order.
-    pub params: Vec<(String, String)>,
+    pub params: Vec<(&'a str, &'a str)>,
+    pub segment: Segment,
 }
 
-/// The first segments that no handler knows yet.
-const UNBUILT: [&str; 14] = [
-    "text", "json", "form", "option", "result", "either", "path", "query", "data", "raw", "header",
-    "who", "cookies", "lines",
-];
+/// What the first segment of a path asks for.
+pub enum Segment {
+    Bytes,
+    Both,
+    Wait,
+    Other,
+}
 
 /// Reads a method, one space and a target, or answers `None` where they are none.
-pub fn read(argument: &[u8]) -> Option<Request> {
-    let at = argument.iter().position(|byte| *byte == b' ')?;
-    let (method, target) = (&argument[..at], &argument[at + 1..]);
-    if method.is_empty() || !method.iter().copied().all(is_token) {
+pub fn read(argument: &[u8]) -> Option<Request<'_>> {
+    let at = argument.iter().position(|byte| !is_token(*byte))?;
+    if at == 0 || argument[at] != b' ' {
         return None;
     }
-    let request = Request {
-        method: String::from_utf8(method.to_vec()).ok()?,
-        target: target::read(target)?,
+    let target = &argument[at + 1..];
+    if target.contains(&b' ') {
+        return None;
+    }
+    let target = target::read(target)?;
+    Some(Request {
+        method: std::str::from_utf8(&argument[..at]).ok()?,
+        segment: Segment::of(target.path_and_query)?,
+        target,
         params: Vec::new(),
-    };
-    if UNBUILT.contains(&request.first_segment()) {
-        return None;
-    }
-    Some(request)
+    })
 }
 
-impl Request {
-    /// The text between the first slash of the path and the next one.
-    pub fn first_segment(&self) -> &str {
-        let path = self
-            .target
-            .path_and_query
-            .split('?')
-            .next()
-            .unwrap_or_default();
-        path.split('/').nth(1).unwrap_or_default()
+impl Segment {
+    /// What a path with its query asks for, or `None` where no handler knows the segment yet.
+    fn of(path_and_query: &str) -> Option<Segment> {
+        let path = path_and_query.as_bytes();
+        let start = match path {
+            [b'/', ..] => 1,
+            _ => return Some(Segment::Other),
+        };
+        let end = path[start..]
+            .iter()
+            .position(|byte| matches!(byte, b'/' | b'?'));
+        match &path[start..end.map_or(path.len(), |end| start + end)] {
+            b"bytes" => Some(Segment::Bytes),
+            b"both" => Some(Segment::Both),
+            b"wait" => Some(Segment::Wait),
+            b"text" | b"json" | b"form" | b"option" | b"result" | b"either" | b"path"
+            | b"query" | b"data" | b"raw" | b"header" | b"who" | b"cookies" | b"lines" => None,
+            _ => Some(Segment::Other),
+        }
     }
+}
 
+impl Request<'_> {
     /// The number that the first parameter of this name has, where it is digits alone and at most `most`.
     pub fn number(&self, name: &str, most: u64) -> Option<u64> {
         let (_, value) = self.params.iter().find(|param| param.0 == name)?;
@@ -57,5 +73,6 @@ impl Request {
 }
 
 fn is_token(byte: u8) -> bool {
-    byte.is_ascii_alphanumeric() || b"!#$%&'*+-.^_`|~".contains(&byte)
+    matches!(byte, b'a'..=b'z' | b'A'..=b'Z' | b'0'..=b'9' | b'!' | b'#'..=b'\'' | b'*' | b'+'
+        | b'-' | b'.' | b'^'..=b'`' | b'|' | b'~')
 }

@@ -6,15 +6,15 @@ use std::io::BufRead;
 pub enum Mark<'a> {
     /// Bytes, at least one, as they stand in the script.
     Text(&'a [u8]),
-    /// Bytes, at least one, that the script has in hexadecimal.
-    Piece(Vec<u8>),
+    /// Bytes, at least one, by their hexadecimal digits in the script.
+    Piece(&'a [u8]),
     Stall,
     Fault,
 }
 
 /// A request and the marks of its body.
 pub struct Exchange<'a> {
-    pub request: Request,
+    pub request: Request<'a>,
     pub marks: Vec<Mark<'a>>,
 }
 
@@ -66,12 +66,8 @@ pub fn read(bytes: &[u8]) -> Option<Script<'_>> {
         match word {
             b"text" if argument.is_empty() => {}
             b"text" => marks.push(Mark::Text(argument)),
-            b"piece" => {
-                let piece = decode(argument)?;
-                if !piece.is_empty() {
-                    marks.push(Mark::Piece(piece));
-                }
-            }
+            b"piece" if argument.is_empty() => {}
+            b"piece" if is_piece(argument) => marks.push(Mark::Piece(argument)),
             b"stall" if argument.is_empty() => marks.push(Mark::Stall),
             b"fault" if argument.is_empty() => {
                 marks.push(Mark::Fault);
@@ -103,9 +99,9 @@ fn split_word(line: &[u8]) -> (&[u8], &[u8]) {
 }
 
 /// A name that is not empty, one space, and a value.
-fn read_param(argument: &[u8]) -> Option<(String, String)> {
-    let (name, value) = std::str::from_utf8(argument).ok()?.split_once(' ')?;
-    (!name.is_empty()).then(|| (name.to_owned(), value.to_owned()))
+fn read_param(argument: &[u8]) -> Option<(&str, &str)> {
+    let param = std::str::from_utf8(argument).ok()?.split_once(' ')?;
+    (!param.0.is_empty()).then_some(param)
 }
 
 /// Adds the entries: none, or numbers with one space between.
@@ -113,42 +109,44 @@ fn read_plan(argument: &[u8], plan: &mut Vec<u32>) -> Option<()> {
     if argument.is_empty() {
         return Some(());
     }
-    for digits in argument.split(|byte| *byte == b' ') {
-        plan.push(number(digits)?);
-    }
-    Some(())
-}
-
-fn number(digits: &[u8]) -> Option<u32> {
-    if digits.is_empty() {
-        return None;
-    }
-    let mut value = 0u32;
-    for digit in digits {
-        if !digit.is_ascii_digit() {
-            return None;
+    let (mut value, mut digits) = (0u64, 0);
+    for byte in argument {
+        match byte {
+            b'0'..=b'9' => {
+                value = value * 10 + u64::from(byte - b'0');
+                digits += 1;
+                if value > u64::from(u32::MAX) {
+                    return None;
+                }
+            }
+            b' ' if digits > 0 => {
+                plan.push(value as u32);
+                (value, digits) = (0, 0);
+            }
+            _ => return None,
         }
-        value = value
-            .checked_mul(10)?
-            .checked_add(u32::from(digit - b'0'))?;
     }
-    Some(value)
+    (digits > 0).then(|| plan.push(value as u32))
 }
 
-fn decode(text: &[u8]) -> Option<Vec<u8>> {
-    if text.len() % 2 != 0 {
-        return None;
-    }
-    text.chunks_exact(2)
-        .map(|pair| Some(nibble(pair[0])? << 4 | nibble(pair[1])?))
-        .collect()
+fn is_piece(digits: &[u8]) -> bool {
+    digits.len() % 2 == 0 && digits.iter().all(u8::is_ascii_hexdigit)
 }
 
-fn nibble(digit: u8) -> Option<u8> {
+/// Adds the bytes that an even number of hexadecimal digits stands for.
+pub fn decode_into(bytes: &mut Vec<u8>, digits: &[u8]) {
+    bytes.extend(
+        digits
+            .chunks_exact(2)
+            .map(|pair| nibble(pair[0]) << 4 | nibble(pair[1])),
+    );
+}
+
+/// What a hexadecimal digit stands for.
+fn nibble(digit: u8) -> u8 {
     match digit {
-        b'0'..=b'9' => Some(digit - b'0'),
-        b'a'..=b'f' => Some(digit - b'a' + 10),
-        b'A'..=b'F' => Some(digit - b'A' + 10),
-        _ => None,
+        b'0'..=b'9' => digit - b'0',
+        b'a'..=b'f' => digit - b'a' + 10,
+        _ => digit - b'A' + 10,
     }
 }

@@ -2,75 +2,80 @@
 use crate::arguments::{Arguments, Picked};
 use crate::reply::Reply;
 use crate::request::Request;
-use crate::script::{Exchange, Script};
+use crate::script::{Mark, Script};
 
 /// An exchange on its way.
-pub enum Flight<'a> {
+pub struct Flight<'a> {
+    /// Arguments and handlers may read it until the answer.
+    request: Request<'a>,
+    pub stage: Stage<'a>,
+}
+
+pub enum Stage<'a> {
     /// No entry of the plan has named it.
-    Waiting(Exchange<'a>),
+    Waiting(Vec<Mark<'a>>),
     /// Its arguments are being made.
-    Extracting(Request, Arguments<'a>),
-    /// Its handler answers after so many more polls, and may read the request until then.
-    Handling(#[expect(dead_code)] Request, u64, Reply),
-    Answered(Reply),
-    /// It is being polled.
-    Taken,
+    Extracting(Arguments<'a>),
+    /// Its handler answers after so many more polls.
+    Handling(u64, Reply<'a>),
+    Answered(Reply<'a>),
 }
 
 /// Polls each exchange as often as the plan names it, and counts those that were begun.
 pub fn serve(script: Script<'_>) -> (Vec<Flight<'_>>, u64) {
-    let mut flights: Vec<Flight> = script.exchanges.into_iter().map(Flight::Waiting).collect();
+    let mut flights: Vec<Flight> = script
+        .exchanges
+        .into_iter()
+        .map(|exchange| Flight {
+            request: exchange.request,
+            stage: Stage::Waiting(exchange.marks),
+        })
+        .collect();
     let mut made = 0;
     for entry in script.plan {
         if let Some(flight) = flights.get_mut(entry as usize) {
-            poll(flight, &mut made);
+            flight.poll(&mut made);
         }
     }
     (flights, made)
 }
 
-/// Polls what the exchange waits for.
-fn poll(flight: &mut Flight<'_>, made: &mut u64) {
-    match flight {
-        Flight::Waiting(_) => {
-            let Flight::Waiting(exchange) = std::mem::replace(flight, Flight::Taken) else {
-                return;
-            };
-            *made += 1;
-            let arguments = Arguments::of(&exchange.request, exchange.marks);
-            *flight = Flight::Extracting(exchange.request, arguments);
-            poll(flight, made);
-        }
-        Flight::Extracting(_, arguments) => match arguments.poll() {
-            None => {}
-            Some(Err(refusal)) => *flight = Flight::Answered(refusal),
-            Some(Ok(picked)) => {
-                let Flight::Extracting(request, _) = std::mem::replace(flight, Flight::Taken)
-                else {
-                    return;
+impl<'a> Flight<'a> {
+    /// Polls what the exchange waits for.
+    fn poll(&mut self, made: &mut u64) {
+        match &mut self.stage {
+            Stage::Waiting(marks) => {
+                *made += 1;
+                let mut arguments = Arguments::of(&self.request, std::mem::take(marks));
+                self.stage = match arguments.poll() {
+                    None => Stage::Extracting(arguments),
+                    Some(picked) => picked.map_or_else(Stage::Answered, handle),
                 };
-                let (wait, reply) = handle(picked);
-                *flight = Flight::Handling(request, wait, reply);
-                poll(flight, made);
             }
-        },
-        Flight::Handling(_, left, reply) => {
-            if *left > 0 {
-                *left -= 1;
-            } else {
-                let reply = std::mem::replace(reply, Reply::empty(200));
-                *flight = Flight::Answered(reply);
+            Stage::Extracting(arguments) => {
+                if let Some(picked) = arguments.poll() {
+                    self.stage = picked.map_or_else(Stage::Answered, handle);
+                }
             }
+            Stage::Handling(left, reply) => {
+                if *left > 0 {
+                    *left -= 1;
+                } else {
+                    let reply = std::mem::replace(reply, Reply::empty(200));
+                    self.stage = Stage::Answered(reply);
+                }
+            }
+            Stage::Answered(_) => {}
         }
-        Flight::Answered(_) | Flight::Taken => {}
     }
 }
 
-/// After how many polls the handler answers, and what.
-fn handle(picked: Picked) -> (u64, Reply) {
+/// What a handler does in its first poll: it answers, or tells after how many more polls it will.
+fn handle(picked: Picked<'_>) -> Stage<'_> {
     match picked {
-        Picked::Bytes(body) => (0, Reply::typed(200, "application/octet-stream", body)),
-        Picked::Wait(delay) => (delay, Reply::empty(204)),
-        Picked::Other => (0, Reply::empty(404)),
+        Picked::Bytes(body) => Stage::Answered(Reply::typed(200, "application/octet-stream", body)),
+        Picked::Wait(0) => Stage::Answered(Reply::empty(204)),
+        Picked::Wait(delay) => Stage::Handling(delay - 1, Reply::empty(204)),
+        Picked::Other => Stage::Answered(Reply::empty(404)),
     }
 }

@@ -3,17 +3,18 @@
 /// Longer targets are none.
 const MOST: usize = 65_534;
 
-pub struct Target {
+pub struct Target<'a> {
+    /// As it was written: schemes are compared without regard to case.
     #[expect(dead_code, reason = "no handler asks for it yet")]
-    pub scheme: Option<String>,
+    pub scheme: Option<&'a str>,
     #[expect(dead_code, reason = "no handler asks for it yet")]
-    pub authority: Option<String>,
+    pub authority: Option<&'a str>,
     /// With the query where there is one.
-    pub path_and_query: String,
+    pub path_and_query: &'a str,
 }
 
 /// Reads a target, or answers `None` where the bytes are none. A fragment may be any bytes, and is dropped.
-pub fn read(bytes: &[u8]) -> Option<Target> {
+pub fn read(bytes: &[u8]) -> Option<Target<'_>> {
     if bytes.len() > MOST {
         return None;
     }
@@ -23,14 +24,14 @@ pub fn read(bytes: &[u8]) -> Option<Target> {
         return Some(Target {
             scheme: None,
             authority: None,
-            path_and_query: path_and_query(text)?.to_owned(),
+            path_and_query: path_and_query(text)?,
         });
     }
     if fragment.is_none() && is_authority(text) {
         return Some(Target {
             scheme: None,
-            authority: Some(text.to_owned()),
-            path_and_query: String::new(),
+            authority: Some(text),
+            path_and_query: "",
         });
     }
     let (scheme, rest) = text.split_once("://")?;
@@ -40,13 +41,12 @@ pub fn read(bytes: &[u8]) -> Option<Target> {
         return None;
     }
     Some(Target {
-        scheme: Some(scheme.to_ascii_lowercase()),
-        authority: Some(authority.to_owned()),
+        scheme: Some(scheme),
+        authority: Some(authority),
         path_and_query: match tail {
             "" if fragment.is_none() => "/",
             tail => path_and_query(tail)?,
-        }
-        .to_owned(),
+        },
     })
 }
 
