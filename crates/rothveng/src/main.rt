@@ -1,38 +1,34 @@
 //! Serves the exchanges of a script, in the order of its plan.
 //!
-//! `rothveng serve --pool=0` reads a script from standard input and writes the replies to standard output. It ends with
-//! status 0 where all was served and written, 2 where the script is refused, 3 where reading failed, 4 where writing
-//! failed, 5 where memory was wanting and 64 where the words are no command.
+//! `rothveng serve --pool=0` reads a script from standard input and writes the replies to standard
+//! output. The exit status is 0 where all was served and written, 2 where the script is refused, 3
+//! where a read failed, 4 where a write failed, 5 where allocation failed, and 64 where the
+//! arguments are no command.
 #![tactic(auto)]
 
 use std::env;
 use std::io::ErrorKind;
 use std::process::ExitCode;
-use web_cli::{DemoHandler, Status, StdInput, StdOutput, run};
+use web_cli::{Status, StdInput, StdOutput, run_program};
 
-/// The words without the program's name, or how the program ends where they can't be had.
-fn words(rt: &HostRuntime) -> Result<Vec<String>, Status> {
-    let mut words = match env::args(rt) {
-        Ok(words) => words,
+/// The arguments without the program's name, or the status where they are no UTF-8 or allocation
+/// failed.
+fn arguments(rt: &HostRuntime) -> Result<Vec<String>, Status> {
+    let mut arguments = match env::args(rt) {
+        Ok(arguments) => arguments,
         Err(e) if e.kind() == ErrorKind::InvalidData => return Err(Status::Usage),
         Err(_) => return Err(Status::NoMemory),
     };
-    let _name = words.next();
-    words.collect(rt.alloc()).map_err(|_| Status::NoMemory)
+    let _name = arguments.next();
+    arguments.collect(rt.alloc()).map_err(|_| Status::NoMemory)
 }
 
 fn main(rt: HostRuntime) -> ExitCode {
-    let status = match words(&rt) {
-        Ok(words) => {
+    let status = match arguments(&rt) {
+        Ok(arguments) => {
             let mut input = StdInput::new(rt.stdin());
             let mut output = StdOutput::new(rt.stdout());
-            run(
-                rt.alloc(),
-                &words,
-                &mut input,
-                &mut output,
-                &mut DemoHandler,
-            )
+            run_program(rt.alloc(), &arguments, &mut input, &mut output)
         }
         Err(status) => status,
     };

@@ -1,7 +1,7 @@
-pub mod Bodies
-pub mod Collected
-pub mod Collecting
-pub mod Held
+pub mod MemoryBodies
+pub mod CollectorPolls
+pub mod Collector
+pub mod HeldBytes
 pub mod Payload
-pub mod Polled
-pub mod Texts
+pub mod PollSteps
+pub mod ErrorTexts

@@ -1,13 +1,19 @@
--- What a payload tells of itself, and what it gave between two moments.
+-- The state of a payload as contracts see it, and what it gave between two states.
 use Rattle.std.specs.Prelude.{◌≡◌, ℕ, ◌+◌, ◌-◌, ◌≤◌, List, [], Some, length, ⊤}
 use Rattle.web_request.specs.Body.{whole}
 use Rattle.web_request.specs.Feed.{Feed}
 use Rattle.web_body.specs.declared.payload.Payload.{Payload}
 use Rattle.web_body.specs.declared.payload.Payload.TheVariants as payload
 
--- bytes in memory: their counts are 0, and a payload that was given has no answer left
+-- Bytes in memory, or none. All counts are 0.
 abbrev pub plain_feed : List ℕ → Feed
-plain_feed b = record { marks = Some (whole b); faults = 0; stalls = 0; given = 0; answers = length b }
+plain_feed b = record {
+  marks = Some (whole b);
+  faults = 0;
+  stalls = 0;
+  given = 0;
+  answers = length b;
+}
 
 abbrev pub payload_feed : {S : Type 0} → (S → Feed) → Payload S → Feed
 payload_feed feed payload.None = plain_feed []

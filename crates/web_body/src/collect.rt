@@ -1,8 +1,10 @@
 //! The loop that collects a body under a limit.
 ghost use Rattle.std.specs.Prelude.{◌≡◌, ◌≤◌, length};
-ghost use Rattle.web_body.specs.Held.{held_bytes};
+ghost use Rattle.web_body.specs.HeldBytes.{held_bytes};
 ghost use Rattle.web_body.specs.Payload.{payload_feed};
-ghost use Rattle.web_body.specs.Collected.{Collects, Counted};
+ghost use Rattle.web_body.specs.Collector.{NeedsNoMemory};
+ghost use Rattle.web_body.specs.CollectorPolls.{Collects, PollCounts};
+ghost use Rattle.web_body.specs.PollSteps.{NeverNoMemory};
 
 use crate::held::Held;
 use crate::message_body::PayloadError;
@@ -12,7 +14,7 @@ use bytes::Bytes;
 use std::alloc::Global;
 use web_request::{Source, Turn};
 
-/// Reads on until the payload stalls, fails or ends, or more than `limit` bytes came.
+/// Reads until the payload stalls, fails or ends, or until it has given more than `limit` bytes.
 pub fn collect<S: Source>(
     alloc: Global,
     payload: &mut Payload<S>,
@@ -21,9 +23,13 @@ pub fn collect<S: Source>(
 ) -> Step<Result<Bytes, PayloadError>>
     requires within { length (held_bytes held.old) ≤ limit }
     ensures within { length (held_bytes held.new) ≤ limit }
-    ensures reads { Collects limit (payload_feed S.feed payload.old).marks (held_bytes held.old) result
+    ensures reads { Collects limit
+        (payload_feed S.feed payload.old).marks (held_bytes held.old) result
         (payload_feed S.feed payload.new).marks (held_bytes held.new) }
-    ensures counted { Counted S.feed limit payload.old (held_bytes held.old) result payload.new (held_bytes held.new) }
+    ensures counts { PollCounts S.feed limit
+        payload.old (held_bytes held.old) result payload.new (held_bytes held.new) }
+    ensures memory { NeedsNoMemory (payload_feed S.feed payload.old).marks (held_bytes held.old)
+        → NeverNoMemory result }
 {
     loop {
         match payload.poll_next() {

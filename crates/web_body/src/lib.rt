@@ -1,4 +1,4 @@
-//! Payloads, polls, bodies in memory, and what collects a body.
+//! Payloads, polled values, bodies in memory, and the collector of a whole body.
 #![tactic(auto)]
 
 mod collect;
@@ -11,5 +11,5 @@ mod poll;
 pub use marks::Marks;
 pub use message_body::{DEFAULT_LIMIT, HttpMessageBody, PayloadError};
 pub use payload::Payload;
-pub use poll::{Poll, Step, left_law};
+pub use poll::{Poll, Step, pending_count_law};
 pub use web_request::Mark;

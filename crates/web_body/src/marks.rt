@@ -1,18 +1,18 @@
-//! Bodies in memory, cut into pieces as a script says.
+//! Bodies in memory, in pieces.
 ghost use Rattle.std.specs.Prelude.{◌≡◌, ◌<◌, ◌^◌, ◌++◌, [], Some, true, length};
 ghost use Rattle.std.specs.Option.{IfNone, option_to_list};
-ghost use Rattle.web_request.specs.Body.{is_body, joined};
-ghost use Rattle.web_body.specs.Bodies.{is_empty_piece, without_empty, marks_feed};
+ghost use Rattle.web_request.specs.Body.{is_body, piece_bytes};
+ghost use Rattle.web_body.specs.MemoryBodies.{is_empty_piece, without_empty, marks_feed};
 
 use std::collections::VecDeque;
 use std::marker::Model;
 use web_request::{Mark, Source, Turn};
 
-/// A body in memory that gives its marks, one at each call, and takes no memory. It skips empty pieces, and tells the
-/// other marks.
+/// A body in memory, as a `Source` that gives its marks in order and allocates nothing. It skips
+/// empty pieces.
 ///
-/// Contracts see it as the marks that are left, without empty pieces, and the counts of what it gave. The counts of stalls
-/// and of faults stay at the last value of a `u64` once they stand there.
+/// Contracts see the marks that are left, without empty pieces, and the counts of what it gave. The
+/// counts of stalls and of faults stop at the greatest `u64`.
 #[derive(Drop)]
 pub struct Marks {
     left: VecDeque<Mark>,
@@ -23,23 +23,31 @@ pub struct Marks {
 
 impl Model for Marks {
     ghost use Rattle.std.specs.Prelude.{◌≡◌, ◌+◌, ◌<◌, ◌^◌, Some, true, length};
-    ghost use Rattle.web_request.specs.Body.{is_body, joined};
+    ghost use Rattle.web_request.specs.Body.{is_body, piece_bytes};
     ghost use Rattle.web_request.specs.Feed.{Feed};
-    ghost use Rattle.web_body.specs.Bodies.{without_empty};
+    ghost use Rattle.web_body.specs.MemoryBodies.{without_empty};
 
     ghost Value = { Feed };
 
-    ghost view = { λ m. record { marks = Some (without_empty m.left.items); faults = m.faults; stalls = m.stalls; given = m.given; answers = length (without_empty m.left.items) } };
+    ghost view = { λ m. record {
+      marks = Some (without_empty m.left.items);
+      faults = m.faults;
+      stalls = m.stalls;
+      given = m.given;
+      answers = length (without_empty m.left.items);
+    } };
 
-    ghost invariant = { λ m. (is_body (without_empty m.left.items) ≡ true) × (m.given + length (joined (without_empty m.left.items)) < 2 ^ 63) };
+    ghost invariant = { λ m.
+        (is_body (without_empty m.left.items) ≡ true)
+        × (m.given + length (piece_bytes (without_empty m.left.items)) < 2 ^ 63) };
 }
 
 impl Marks {
-    /// The body of these marks, of which nothing was given yet. By condition nothing but empty pieces stands behind a
-    /// fault, and the pieces total below 2^63 bytes.
+    /// Makes a body of these marks. Only empty pieces may follow a fault, and the pieces must total
+    /// less than 2^63 bytes. It allocates nothing.
     pub fn new(marks: Vec<Mark>) -> Marks
         requires body { is_body (without_empty marks.items) ≡ true }
-        requires small { length (joined marks.items) < 2 ^ 63 }
+        requires small { length (piece_bytes marks.items) < 2 ^ 63 }
         ensures { result ≡ marks_feed marks.items }
     {
         Marks {
@@ -50,8 +58,8 @@ impl Marks {
         }
     }
 
-    /// The marks that are left, in two parts of which the second follows the first. Where they are cut is not said, and
-    /// empty pieces may be among them.
+    /// The marks that are left, in two parts, with empty pieces among them. Where the first part
+    /// ends is unspecified.
     pub fn left(&self) -> (&[Mark], &[Mark])
         ensures { self.now.marks ≡ Some (without_empty (result.0.now ++ result.1.now)) }
     {
@@ -81,9 +89,10 @@ impl Source for Marks {
     }
 }
 
-/// Takes the first mark that is no empty piece, and the empty pieces before it.
+/// Takes the first mark that is not an empty piece, and drops the empty pieces before it.
 fn pop_nonempty(left: &mut VecDeque<Mark>) -> Option<Mark>
-    ensures first { without_empty left.old.items ≡ option_to_list result ++ without_empty left.new.items }
+    ensures first { without_empty left.old.items
+        ≡ option_to_list result ++ without_empty left.new.items }
     ensures none { IfNone result (left.new.items ≡ []) }
 {
     while let Some(mark) = left.pop_front() {

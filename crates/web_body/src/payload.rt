@@ -1,4 +1,4 @@
-//! What a request's body is read from.
+//! Payloads of requests.
 ghost use Rattle.std.specs.Prelude.{◌≡◌};
 ghost use Rattle.web_request.specs.Feed.{Next, bytes_given};
 ghost use Rattle.web_body.specs.Payload.{payload_feed, Gave};
@@ -6,19 +6,19 @@ ghost use Rattle.web_body.specs.Payload.{payload_feed, Gave};
 use bytes::Bytes;
 use web_request::{Source, Turn};
 
-/// What a request's body is read from.
+/// The body of a request that is still to be read.
 #[derive(Drop)]
 pub enum Payload<S> {
-    /// No bytes, or a payload that was taken.
+    /// No body, or a payload that was taken.
     None,
-    /// The whole body in memory, as one piece where it is not empty.
+    /// The whole body in memory. It is one piece where it is not empty.
     Whole(Bytes),
-    /// What gives the body piece by piece.
+    /// A source that gives the body piece by piece.
     Stream(S),
 }
 
 impl<S> Payload<S> {
-    /// Takes what is there and leaves `None`.
+    /// Takes the payload and leaves `None`.
     pub fn take(&mut self) -> Payload<S>
         ensures value { result ≡ self.old }
         ensures after { self.new ≡ Payload.None }
@@ -26,7 +26,7 @@ impl<S> Payload<S> {
         std::mem::replace(self, Payload::None)
     }
 
-    /// The payload itself.
+    /// Returns the payload. It stands for upstream's conversion to an inner type.
     pub fn into_inner(self) -> Payload<S>
         ensures { result ≡ self }
     {
@@ -35,8 +35,8 @@ impl<S> Payload<S> {
 }
 
 impl<S: Source> Payload<S> {
-    /// The next piece, stall, fault or end. A stream gives what its source gives; bytes in memory are one piece, and are
-    /// gone then. `NoMemory` comes from a stream alone.
+    /// The next piece, stall, fault or end: of a stream what its source gives, of a body in memory
+    /// its one piece and then the end. `NoMemory` comes only from a stream.
     pub fn poll_next(&mut self) -> Turn
         ensures next { Next result (payload_feed S.feed self.old) (payload_feed S.feed self.new) }
         ensures gave { Gave S.feed self.old (bytes_given result) self.new }

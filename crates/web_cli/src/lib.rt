@@ -1,35 +1,26 @@
-//! The command of Rothveng: a script in, the text of its replies out.
+//! The command of Rothveng: it reads a script, serves its exchanges and writes their replies.
+//!
+//! What it stands on is re-exported here, so that a program needs this crate alone.
 #![tactic(auto)]
 
-mod demo;
-mod due;
-mod failing;
-mod input;
-mod memory_input;
-mod memory_output;
-mod output;
-mod printing;
-mod reading;
-mod script;
-mod segment;
+mod script_answer;
 mod serving;
-mod standard;
 mod status;
 mod words;
 mod writing;
 
-pub use demo::{
-    Answer, Answering, Delayed, Demo, DemoConn, DemoHandler, DemoLayer, DemoLocal, Late,
-    LateFuture, Picked, PickedFuture, Wait, demo_law, picked_law,
-};
-pub use input::{Input, ReadAnswer};
-pub use memory_input::{MemInput, PlainInput};
-pub use memory_output::{MemOutput, PlainOutput};
-pub use output::{Output, WriteAnswer};
-pub use reading::{ReadWhole, SCRIPT_LIMIT, read_whole};
-pub use script::{Script, ScriptedExchange, Verdict, read_script, target_law, valid_script_law};
-pub use serving::run;
-pub use standard::{StdInput, StdOutput};
+pub use serving::{run, run_program};
 pub use status::Status;
+pub use web_demo::{
+    Answer, Answering, Delayed, Demo, DemoConn, DemoFlights, DemoHandler, DemoLayer, DemoLocal,
+    Late, LateFuture, Picked, PickedFuture, Wait, demo_law, picked_law,
+};
+pub use web_io::{
+    Input, MemInput, MemOutput, Output, PlainInput, PlainOutput, ReadAnswer, ReadWhole,
+    SCRIPT_LIMIT, StdInput, StdOutput, WriteAnswer, read_whole, write_whole,
+};
+pub use web_script::{
+    ExchangeSink, InvalidScript, Script, ScriptedExchange, read_script, read_script_into,
+    target_law, valid_script_law,
+};
 pub use words::is_serve;
-pub use writing::write_whole;

@@ -1,25 +1,28 @@
-//! The top call.
-ghost use Rattle.std.specs.Prelude.{◌≡◌, List, ℕ, map, string_bytes};
-ghost use Rattle.web_worker.specs.Handling.{Within};
-ghost use Rattle.web_cli.specs.Words.{IsServe};
-ghost use Rattle.web_cli.specs.Program.{IsCalledBy, IsRepliesBy};
-ghost use Rattle.web_cli.specs.Outcome.{FaultIsTold, Headline, IsCalled, IsNoCommand, IsReplies, Serves, TooLongIsTold, WriteFaultIsTold};
+//! The command: its words, its input and its output.
+ghost use Rattle.std.specs.Prelude.{◌≡◌, List, ℕ, map, string_bytes, ⊤};
+ghost use Rattle.web_worker.specs.HandlerPromises.{SamePromises};
+ghost use Rattle.web_demo.specs.DemoExchanges.{demo_pool};
+ghost use Rattle.web_cli.specs.CommandWords.{IsServe};
+ghost use Rattle.web_cli.specs.DemoScripts.{AppendsPickedCalls, ArePickedReplies, IsDemoText};
+ghost use Rattle.web_cli.specs.Run.{Headline, ReadFaultIsReported, RefusesWords, ServeResult};
+ghost use Rattle.web_cli.specs.Run.{TooLongIsReported, WriteFaultIsReported};
+ghost use Rattle.web_cli.specs.ScriptAnswers.{AppendsScriptCalls, AreReplies};
 
-use crate::demo::{Demo, Picked};
-use crate::due::{Due, due_of};
-use crate::input::Input;
-use crate::output::Output;
-use crate::reading::{ReadWhole, read_whole};
+use crate::script_answer::{ScriptAnswer, answer_script};
 use crate::status::Status;
 use crate::words::{USAGE, is_serve};
-use crate::writing::say;
+use crate::writing::write_or_fault;
 use std::alloc::Global;
+use web_demo::{Demo, DemoHandler, Picked};
 use web_extract::FromRequest;
+use web_io::{Input, Output, ReadWhole, read_whole};
 use web_reply::Responder;
-use web_worker::Handler;
+use web_worker::{Handler, Serves};
 
+/// The text that is written where a script is refused.
 const NOT_BUILT: &[u8] = b"not built\n";
 
+/// Reads a script, serves it and writes the replies.
 fn serve<I: Input, O: Output, Args: FromRequest<Demo>, H: Handler<Args>>(
     alloc: Global,
     input: &mut I,
@@ -30,25 +33,27 @@ where
     H::Output: Responder<Demo>,
     requires ready { H.ready handler.old }
     ensures ready { H.ready handler.new }
-    ensures kept { (x : Args) → Within (H.answers handler.new x) (H.answers handler.old x) }
-    ensures same { (x : Args) → Within (H.answers handler.old x) (H.answers handler.new x) }
-    ensures serves { (came : List ℕ) × Serves (IsReplies Args.means Args.Error.converts (H.answers handler.old) H.Output.responds)
-        (IsCalled Args.means Args.Error.converts (H.calls handler.old) (H.calls handler.new)) (handler.new ≡ handler.old)
-        result came (I.state input.old) (I.state input.new) (O.state output.old) (O.state output.new) }
+    ensures same_promises { SamePromises (H.answers handler.old) (H.answers handler.new) }
+    ensures serves { (came : List ℕ) × ServeResult
+        (AreReplies (⟦<H as Serves<Demo, Args>>⟧.setting handler.old demo_pool))
+        (AppendsScriptCalls (⟦<H as Serves<Demo, Args>>⟧.setting handler.old demo_pool)
+        (H.calls handler.old) (H.calls handler.new))
+        (handler.new ≡ handler.old) result came
+        (I.state input.old) (I.state input.new) (O.state output.old) (O.state output.new) }
 {
     match read_whole(alloc, input) {
         Err(_) => Status::NoMemory,
         Ok(ReadWhole::Failed) => Status::ReadFault,
-        Ok(ReadWhole::TooLong) => say(output, NOT_BUILT, Status::Script),
-        Ok(ReadWhole::All(bytes)) => match due_of::<Args, H>(alloc, bytes, handler) {
+        Ok(ReadWhole::TooLong) => write_or_fault(output, NOT_BUILT, Status::Script),
+        Ok(ReadWhole::All(bytes)) => match answer_script::<Args, H>(alloc, bytes, handler) {
             Err(_) => Status::NoMemory,
-            Ok(Due::Refused) => say(output, NOT_BUILT, Status::Script),
-            Ok(Due::Replies(text)) => say(output, &text, Status::Done),
+            Ok(ScriptAnswer::Refused) => write_or_fault(output, NOT_BUILT, Status::Script),
+            Ok(ScriptAnswer::Replies(text)) => write_or_fault(output, &text, Status::Done),
         },
     }
 }
 
-/// Does what the words say, for any list of arguments.
+/// `run`, for any argument of a handler.
 fn run_over<I: Input, O: Output, Args: FromRequest<Demo>, H: Handler<Args>>(
     alloc: Global,
     words: &[String],
@@ -60,34 +65,39 @@ where
     H::Output: Responder<Demo>,
     requires ready { H.ready handler.old }
     ensures ready { H.ready handler.new }
-    ensures kept { (x : Args) → Within (H.answers handler.new x) (H.answers handler.old x) }
-    ensures same { (x : Args) → Within (H.answers handler.old x) (H.answers handler.new x) }
-    ensures no_command { ¬ (IsServe (map string_bytes words.now)) →
-        IsNoCommand result (I.state input.old) (I.state input.new) (O.state output.old) (O.state output.new) }
+    ensures same_promises { SamePromises (H.answers handler.old) (H.answers handler.new) }
+    ensures no_command { ¬ (IsServe (map string_bytes words.now)) → RefusesWords result
+        (I.state input.old) (I.state input.new) (O.state output.old) (O.state output.new) }
     ensures uncalled { ¬ (IsServe (map string_bytes words.now)) → handler.new ≡ handler.old }
-    ensures serves { IsServe (map string_bytes words.now) → (came : List ℕ)
-        × Serves (IsReplies Args.means Args.Error.converts (H.answers handler.old) H.Output.responds)
-        (IsCalled Args.means Args.Error.converts (H.calls handler.old) (H.calls handler.new)) (handler.new ≡ handler.old)
-        result came (I.state input.old) (I.state input.new) (O.state output.old) (O.state output.new) }
-    ensures headline { IsServe (map string_bytes words.now) →
-        Headline (IsReplies Args.means Args.Error.converts (H.answers handler.old) H.Output.responds)
-        (IsCalled Args.means Args.Error.converts (H.calls handler.old) (H.calls handler.new)) (handler.new ≡ handler.old)
-        result (I.state input.old) (I.state input.new) (O.state output.old) (O.state output.new) }
-    ensures read_fault { FaultIsTold result (I.state input.old) (I.state input.new) }
-    ensures write_fault { WriteFaultIsTold result (O.state output.old) (O.state output.new) }
-    ensures too_long { TooLongIsTold result (I.state input.old) (I.state input.new) }
+    ensures serves { IsServe (map string_bytes words.now) → (came : List ℕ) × ServeResult
+        (AreReplies (⟦<H as Serves<Demo, Args>>⟧.setting handler.old demo_pool))
+        (AppendsScriptCalls (⟦<H as Serves<Demo, Args>>⟧.setting handler.old demo_pool)
+        (H.calls handler.old) (H.calls handler.new))
+        (handler.new ≡ handler.old) result came
+        (I.state input.old) (I.state input.new) (O.state output.old) (O.state output.new) }
+    ensures headline { IsServe (map string_bytes words.now) → Headline
+        (AreReplies (⟦<H as Serves<Demo, Args>>⟧.setting handler.old demo_pool))
+        (AppendsScriptCalls (⟦<H as Serves<Demo, Args>>⟧.setting handler.old demo_pool)
+        (H.calls handler.old) (H.calls handler.new)) result
+        (I.state input.old) (I.state input.new) (O.state output.old) (O.state output.new) }
+    ensures read_fault { ReadFaultIsReported result (I.state input.old) (I.state input.new) }
+    ensures write_fault { WriteFaultIsReported result (O.state output.old) (O.state output.new) }
+    ensures too_long { TooLongIsReported result (I.state input.old) (I.state input.new) }
 {
     if is_serve(words) {
         serve::<I, O, Args, H>(alloc, input, output, handler)
     } else {
-        say(output, USAGE, Status::Usage)
+        write_or_fault(output, USAGE, Status::Usage)
     }
 }
 
-/// Does what the words say.
+/// Runs the command that `words`, the arguments without the program's name, ask for.
 ///
-/// `serve --pool=0` reads a script of at most 16,777,216 bytes, serves it by the handler, and writes the replies. The
-/// arguments of each exchange are those that the first segment of its path asks for. Other words write the usage.
+/// `serve --pool=0` reads a script of at most 16,777,216 bytes from `input`, serves its exchanges
+/// by `handler`, and writes the replies to `output`. The arguments of each exchange are those that
+/// the first segment of its path asks for. Any other words write the usage.
+///
+/// The status says what was read and written: see [`Status`].
 pub fn run<I: Input, O: Output, H: Handler<Picked>>(
     alloc: Global,
     words: &[String],
@@ -99,20 +109,44 @@ where
     H::Output: Responder<Demo>,
     requires ready { H.ready handler.old }
     ensures ready { H.ready handler.new }
-    ensures kept { (x : Picked) → Within (H.answers handler.new x) (H.answers handler.old x) }
-    ensures same { (x : Picked) → Within (H.answers handler.old x) (H.answers handler.new x) }
-    ensures no_command { ¬ (IsServe (map string_bytes words.now)) →
-        IsNoCommand result (I.state input.old) (I.state input.new) (O.state output.old) (O.state output.new) }
+    ensures same_promises { SamePromises (H.answers handler.old) (H.answers handler.new) }
+    ensures no_command { ¬ (IsServe (map string_bytes words.now)) → RefusesWords result
+        (I.state input.old) (I.state input.new) (O.state output.old) (O.state output.new) }
     ensures uncalled { ¬ (IsServe (map string_bytes words.now)) → handler.new ≡ handler.old }
-    ensures serves { IsServe (map string_bytes words.now) → (came : List ℕ)
-        × Serves (IsRepliesBy (H.answers handler.old) H.Output.responds) (IsCalledBy (H.calls handler.old) (H.calls handler.new)) (handler.new ≡ handler.old)
-        result came (I.state input.old) (I.state input.new) (O.state output.old) (O.state output.new) }
-    ensures headline { IsServe (map string_bytes words.now) →
-        Headline (IsRepliesBy (H.answers handler.old) H.Output.responds) (IsCalledBy (H.calls handler.old) (H.calls handler.new)) (handler.new ≡ handler.old)
-        result (I.state input.old) (I.state input.new) (O.state output.old) (O.state output.new) }
-    ensures read_fault { FaultIsTold result (I.state input.old) (I.state input.new) }
-    ensures write_fault { WriteFaultIsTold result (O.state output.old) (O.state output.new) }
-    ensures too_long { TooLongIsTold result (I.state input.old) (I.state input.new) }
+    ensures serves { IsServe (map string_bytes words.now) → (came : List ℕ) × ServeResult
+        (ArePickedReplies (H.answers handler.old) H.Output.responds)
+        (AppendsPickedCalls (H.calls handler.old) (H.calls handler.new))
+        (handler.new ≡ handler.old) result came
+        (I.state input.old) (I.state input.new) (O.state output.old) (O.state output.new) }
+    ensures headline { IsServe (map string_bytes words.now) → Headline
+        (ArePickedReplies (H.answers handler.old) H.Output.responds)
+        (AppendsPickedCalls (H.calls handler.old) (H.calls handler.new)) result
+        (I.state input.old) (I.state input.new) (O.state output.old) (O.state output.new) }
+    ensures read_fault { ReadFaultIsReported result (I.state input.old) (I.state input.new) }
+    ensures write_fault { WriteFaultIsReported result (O.state output.old) (O.state output.new) }
+    ensures too_long { TooLongIsReported result (I.state input.old) (I.state input.new) }
 {
     run_over::<I, O, Picked, H>(alloc, words, input, output, handler)
+}
+
+/// Runs the program: [`run`] with the program's own handler. `main` calls it and nothing else.
+pub fn run_program<I: Input, O: Output>(
+    alloc: Global,
+    words: &[String],
+    input: &mut I,
+    output: &mut O,
+) -> Status
+    ensures no_command { ¬ (IsServe (map string_bytes words.now)) → RefusesWords result
+        (I.state input.old) (I.state input.new) (O.state output.old) (O.state output.new) }
+    ensures serves { IsServe (map string_bytes words.now) → (came : List ℕ) × ServeResult
+        IsDemoText (λ _. ⊤) ⊤ result came
+        (I.state input.old) (I.state input.new) (O.state output.old) (O.state output.new) }
+    ensures headline { IsServe (map string_bytes words.now) → Headline
+        IsDemoText (λ _. ⊤) result
+        (I.state input.old) (I.state input.new) (O.state output.old) (O.state output.new) }
+    ensures read_fault { ReadFaultIsReported result (I.state input.old) (I.state input.new) }
+    ensures write_fault { WriteFaultIsReported result (O.state output.old) (O.state output.new) }
+    ensures too_long { TooLongIsReported result (I.state input.old) (I.state input.new) }
+{
+    run(alloc, words, input, output, &mut DemoHandler)
 }

@@ -1,26 +1,27 @@
-//! How a call of the program ends.
+//! How a run of the command ends.
 ghost use Rattle.std.specs.Prelude.{◌≡◌};
-ghost use Rattle.web_cli.specs.Status.{status_code};
+ghost use Rattle.web_cli.specs.StatusCode.{status_code};
 
-/// How a call of the program ends.
+/// How a run of the command ends.
 #[derive(Clone, Copy, Debug, PartialEq, Eq)]
 pub enum Status {
-    /// The command was done, and its whole text was written.
+    /// The script was served, and the replies were written.
     Done,
-    /// The script was refused, and the refusal was written.
+    /// The script was refused: a line is invalid, or it is longer than `SCRIPT_LIMIT`. The line
+    /// `not built` was written.
     Script,
-    /// Reading failed. Nothing was written.
+    /// A read failed. Nothing was written.
     ReadFault,
-    /// Writing failed. A front of the text was written.
+    /// A write failed. A prefix of the text was written.
     WriteFault,
-    /// Memory was wanting. Nothing was written.
+    /// Allocation failed. Nothing was written.
     NoMemory,
-    /// The words are no command, and the usage was written.
+    /// The words are no command. The usage was written.
     Usage,
 }
 
 impl Status {
-    /// The number that the program ends with.
+    /// The exit status of the process: 0, 2, 3, 4, 5 or 64, in the order of the variants.
     pub fn code(self) -> u8
         ensures { result ≡ status_code self }
     {

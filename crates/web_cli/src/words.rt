@@ -1,8 +1,8 @@
-//! The words that the program is called with.
+//! The arguments of the command.
 ghost use Rattle.std.specs.Prelude.{◌↔◌, IsTrue, map, string_bytes};
-ghost use Rattle.web_cli.specs.Words.{IsServe};
+ghost use Rattle.web_cli.specs.CommandWords.{IsServe};
 
-/// What is said where the words are no command.
+/// The text that is written where the words are no command.
 pub(crate) const USAGE: &[u8] =
     b"usage: serve --pool=N | generate SEED COUNT | replay SEED COUNT\n";
 

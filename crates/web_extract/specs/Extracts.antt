@@ -1,16 +1,29 @@
--- Futures that give what the meaning of an argument allows.
+-- Futures that give only what the meaning of an argument allows.
 use Rattle.std.specs.Prelude.{◌≡◌, ℕ, List, [], Option, None, Some, ⊤}
 use Rattle.web_request.specs.declared.source.Mark.{Mark}
 
--- it gives what is allowed for these marks together with the marks that are left in the payload
-abbrev pub Extracts : {T : Type 0} → (List Mark → List Mark → ℕ → T → Type 0) → (ℕ → T → Type 0) → Option (List Mark) → Option (List Mark) → Type 0
+-- it gives only what is allowed for the marks of the payload, with those that are left in it
+abbrev pub Extracts :
+    {T : Type 0} → (List Mark → List Mark → ℕ → T → Type 0) → (ℕ → T → Type 0) → Option (List Mark)
+    → Option (List Mark) → Type 0
 Extracts means gives None new = ⊤
-Extracts {T} means gives (Some m) new = (rest : List Mark) × (new ≡ Some rest) × ((n : ℕ) (x : T) → gives n x → means m rest n x)
+Extracts {T} means gives (Some m) new =
+    (rest : List Mark) × (new ≡ Some rest) × ((n : ℕ) (x : T) → gives n x → means m rest n x)
 
--- it gives what is allowed for no marks
-abbrev pub ExtractsEmpty : {T : Type 0} → (List Mark → List Mark → ℕ → T → Type 0) → (ℕ → T → Type 0) → Type 0
-ExtractsEmpty {T} means gives = (rest : List Mark) × ((n : ℕ) (x : T) → gives n x → means [] rest n x)
+-- two futures: the second is made with the marks that the first leaves
+abbrev pub ExtractsBoth :
+    {T U : Type 0} → (List Mark → List Mark → ℕ → T → Type 0)
+    → (List Mark → List Mark → ℕ → U → Type 0)
+    → (ℕ → T → Type 0) → (ℕ → U → Type 0) → Option (List Mark) → Option (List Mark) → Type 0
+ExtractsBoth means1 means2 gives1 gives2 old new =
+    (mid : Option (List Mark)) × Extracts means1 gives1 old mid × Extracts means2 gives2 mid new
 
--- it is not the case that nothing is allowed
+-- it gives only what is allowed for no marks
+abbrev pub ExtractsEmpty :
+    {T : Type 0} → (List Mark → List Mark → ℕ → T → Type 0) → (ℕ → T → Type 0) → Type 0
+ExtractsEmpty {T} means gives =
+    (rest : List Mark) × ((n : ℕ) (x : T) → gives n x → means [] rest n x)
+
+-- it cannot be that nothing is allowed
 abbrev pub AllowsSome : {T : Type 0} → (List Mark → ℕ → T → Type 0) → Type 0
 AllowsSome {T} means = ((rest : List Mark) (n : ℕ) (x : T) → means rest n x → ⊥) → ⊥

@@ -1,8 +1,10 @@
 -- One place of an argument list.
-use Rattle.std.specs.Prelude.{◌≡◌, ℕ, suc, Bool, true, false, Result, Ok, Err, refl}
-use Rattle.web_body.specs.Polled.{GivesSome}
+use Rattle.std.specs.Prelude.{◌≡◌, ℕ, suc, Bool, true, false, Result, Ok, Err, refl, ⊤}
+use Rattle.web_body.specs.PollSteps.{GivesSome}
+use Rattle.web_body.specs.declared.poll.Step.{Step}
+use Rattle.web_body.specs.declared.poll.Step.TheVariants as step
 use Rattle.web_reply.specs.Replies.{Fault}
-use Rattle.web_extract.specs.Joined.{Coming, Turned}
+use Rattle.web_extract.specs.ArgumentLists.{Coming, Turned}
 use Rattle.web_extract.specs.declared.place.Stop.{Stop}
 use Rattle.web_extract.specs.declared.place.Stop.TheVariants.{Refused, NoMemory}
 use Rattle.web_extract.specs.declared.place.Place.{Place}
@@ -14,29 +16,65 @@ place_finished finished (Done v) = false
 place_finished finished Taken = true
 
 -- a value that is there comes at the next poll
-abbrev pub place_gives : {F T E : Type 0} → (F → ℕ → Result T E → Type 0) → Place F T → ℕ → Result T E → Type 0
+abbrev pub place_gives :
+    {F T E : Type 0} → (F → ℕ → Result T E → Type 0) → Place F T → ℕ → Result T E → Type 0
 place_gives gives (Waiting f) n x = gives f n x
 place_gives gives (Done v) n x = (n ≡ 0) × (x ≡ Ok v)
 place_gives gives Taken n x = ⊥
 
--- the same with the refusal turned
-abbrev pub place_comes : {F T E : Type 0} → (E → Fault → Type 0) → (F → ℕ → Result T E → Type 0) → Place F T → Coming T
+-- the same, with the refusal converted
+abbrev pub place_comes :
+    {F T E : Type 0} → (E → Fault → Type 0) → (F → ℕ → Result T E → Type 0) → Place F T → Coming T
 place_comes converts gives place = Turned converts (place_gives gives place)
 
--- its value came at this poll or before
-abbrev pub IsDone : {F T E : Type 0} → (F → ℕ → Result T E → Type 0) → Place F T → Place F T → Type 0
-IsDone {F} {T} gives old new = (v : T) × (new ≡ Done v) × place_gives gives old 0 (Ok v)
+-- the place holds its value, which came at this poll or before
+abbrev pub HoldsValue :
+    {F T E : Type 0} → (F → ℕ → Result T E → Type 0) → Place F T → Place F T → Type 0
+HoldsValue {F} {T} gives old new = (v : T) × (new ≡ Done v) × place_gives gives old 0 (Ok v)
 
--- where the value is there, it came at this poll or before; else all comes one poll later
-abbrev pub Went : {F T E : Type 0} → (F → ℕ → Result T E → Type 0) → Place F T → Bool → Place F T → Type 0
-Went gives old true new = IsDone gives old new
-Went {F} {T} {E} gives old false new = (n : ℕ) (x : Result T E) → place_gives gives new n x → place_gives gives old (suc n) x
+-- all that may come comes one poll later than before
+abbrev pub ComesLater :
+    {F T E : Type 0} → (F → ℕ → Result T E → Type 0) → Place F T → Place F T → Type 0
+ComesLater {F} {T} {E} gives old new =
+    (n : ℕ) (x : Result T E) → place_gives gives new n x → place_gives gives old (suc n) x
 
--- it goes on, or refuses now, or finds no memory; after the last two it is finished
-abbrev pub Advances : {F T E : Type 0} → (F → Bool) → (F → ℕ → Result T E → Type 0) → Place F T → Result Bool (Stop E) → Place F T → Type 0
-Advances finished gives old (Ok here) new = (place_finished finished new ≡ false) × Went gives old here new
-Advances finished gives old (Err (Refused e)) new = (place_finished finished new ≡ true) × place_gives gives old 0 (Err e)
-Advances finished gives old (Err NoMemory) new = place_finished finished new ≡ true
+-- the value is there, or all that may come comes later
+abbrev pub HoldsOrWaits :
+    {F T E : Type 0} → (F → ℕ → Result T E → Type 0) → Place F T → Bool → Place F T → Type 0
+HoldsOrWaits gives old true new = HoldsValue gives old new
+HoldsOrWaits gives old false new = ComesLater gives old new
+
+-- a refusal that may come at this poll, or an allocation that failed
+abbrev pub MayStop :
+    {F T E : Type 0} → (E → Fault → Type 0) → (F → ℕ → Result T E → Type 0) → Place F T → Stop
+    → Type 0
+MayStop converts gives old (Refused x) = place_comes converts gives old 0 (Err x)
+MayStop converts gives old NoMemory = ⊤
+
+-- what one poll makes of a place: whether its value is there, or why it ends the poll of the list
+abbrev pub Advances :
+    {F T E : Type 0} → (E → Fault → Type 0) → (F → Bool) → (F → ℕ → Result T E → Type 0)
+    → Place F T → Result Bool Stop → Place F T → Type 0
+Advances converts finished gives old (Ok here) new =
+    (place_finished finished new ≡ false) × HoldsOrWaits gives old here new
+Advances converts finished gives old (Err stop) new =
+    (place_finished finished new ≡ true) × MayStop converts gives old stop
+
+-- what makes the next poll of a place allocate nothing
+abbrev pub PlaceNeedsNoMemory : {F T : Type 0} → (F → Type 0) → Place F T → Type 0
+PlaceNeedsNoMemory needs (Waiting f) = needs f
+PlaceNeedsNoMemory needs (Done v) = ⊤
+PlaceNeedsNoMemory needs Taken = ⊤
+
+abbrev pub NeverOutOfMemory : Result Bool Stop → Type 0
+NeverOutOfMemory (Ok here) = ⊤
+NeverOutOfMemory (Err (Refused x)) = ⊤
+NeverOutOfMemory (Err NoMemory) = ⊥
+
+-- what the poll of a list returns where a place ends it
+abbrev pub stop_step : {T : Type 0} → Stop → Step (Result T Fault)
+stop_step (Refused x) = step.Ready (Err x)
+stop_step NoMemory = step.NoMemory
 
 pub unfinished_some : {F T E : Type 0} (finished : F → Bool) (gives : F → ℕ → Result T E → Type 0)
     → ((f : F) → finished f ≡ false → GivesSome (gives f))

@@ -5,12 +5,13 @@ use std::alloc::Global;
 use web_body::{HttpMessageBody, Payload, PayloadError};
 use web_request::{App, HttpRequest, NoMemory};
 
-/// The whole body, of at most 262,144 bytes. It takes the whole payload.
+/// The whole body, of at most `DEFAULT_LIMIT` (262,144) bytes. It takes the whole payload. Refused
+/// as `Overflow` if more bytes come, and as `Io` if the source fails.
 impl<A: App> FromRequest<A> for Bytes {
-    ghost use Rattle.std.specs.Prelude.{◌≡◌, IsOk, IfOk, false};
-    ghost use Rattle.web_body.specs.Collecting.{body_gives, collecting};
+    ghost use Rattle.std.specs.Prelude.{◌≡◌, IsOk, IfOk, false, ⊤};
+    ghost use Rattle.web_body.specs.Collector.{body_gives, default_limit, new_collector};
     ghost use Rattle.web_body.specs.Payload.{payload_feed};
-    ghost use Rattle.web_extract.specs.Collected.{MeansBytes, bytes_some, payload_converted};
+    ghost use Rattle.web_extract.specs.BytesArgument.{MeansBytes, bytes_some, payload_converted};
     ghost use Rattle.web_extract.specs.Extracts.{Extracts};
 
     type Error = PayloadError;
@@ -18,6 +19,8 @@ impl<A: App> FromRequest<A> for Bytes {
     type Future = HttpMessageBody<A::Source>;
 
     ghost means = { λ q m rest n x. MeansBytes m rest n x };
+
+    ghost needs_no_memory = { λ _. ⊤ };
 
     ghost some = { λ q m. bytes_some m };
 
@@ -29,10 +32,12 @@ impl<A: App> FromRequest<A> for Bytes {
         payload: &mut Payload<A::Source>,
     ) -> Result<HttpMessageBody<A::Source>, NoMemory>
         ensures fresh { IfOk result (λ f. f.is_finished ≡ false) }
-        ensures extracts { IfOk result (λ f. Extracts (λ m rest n x. MeansBytes m rest n x) (body_gives A.Source.feed f)
-            (payload_feed A.Source.feed payload.old).marks (payload_feed A.Source.feed payload.new).marks) }
-        ensures ok { IsOk result }
-        ensures value { IfOk result (λ f. f ≡ collecting payload.old 262144) }
+        ensures extracts { IfOk result (λ f. Extracts
+            (λ m rest n x. MeansBytes m rest n x) (body_gives A.Source.feed f)
+            (payload_feed A.Source.feed payload.old).marks
+            (payload_feed A.Source.feed payload.new).marks) }
+        ensures memory { IsOk result }
+        ensures value { IfOk result (λ f. f ≡ new_collector payload.old default_limit) }
         ensures taken { payload.new ≡ Payload.None }
     {
         Ok(HttpMessageBody::new(alloc, req, payload))

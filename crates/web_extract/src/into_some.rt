@@ -1,18 +1,18 @@
-//! Conversions that give something for each value.
+//! Conversions that are known to have a result for each value.
 ghost use Rattle.std.specs.Prelude.{◌≡◌};
 
 use crate::never::Never;
 use web_body::PayloadError;
 use web_reply::Error;
 
-/// A conversion of which it is known that each value turns into something. Where its contract is an equation, the proof is
-/// that equation at the value.
+/// A conversion that is known to have a result for each value. Where its contract is an equation,
+/// the proof is that equation at the value.
 pub trait IntoSome<E>: Into<E> {
     ghost converted: { (e : Self) → (f : E) × Self.Into.converts e f };
 }
 
 impl<E> IntoSome<E> for E {
-    ghost use Rattle.web_extract.specs.Fallible.{turns_into_itself};
+    ghost use Rattle.web_extract.specs.ResultArgument.{turns_into_itself};
 
     ghost converted = { λ e. turns_into_itself e };
 }
@@ -24,7 +24,7 @@ impl IntoSome<Error> for Never {
 }
 
 impl IntoSome<Error> for PayloadError {
-    ghost use Rattle.web_extract.specs.Collected.{payload_converted};
+    ghost use Rattle.web_extract.specs.BytesArgument.{payload_converted};
 
     ghost converted = { payload_converted };
 }

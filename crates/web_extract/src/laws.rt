@@ -1,11 +1,12 @@
-//! Laws of argument lists.
+//! Laws of argument lists, as contracts of functions that callers cite in proofs. A call of one has
+//! no effect.
 ghost use Rattle.std.specs.Prelude.{List};
 ghost use Rattle.web_request.specs.Request.{Request};
 ghost use Rattle.web_request.specs.declared.source.Mark.{Mark};
-ghost use Rattle.web_extract.specs.Lists.{Member};
+ghost use Rattle.web_extract.specs.ListMeanings.{Member};
 ghost use Rattle.web_extract.specs.Never.{NeverRefuses};
 ghost use Rattle.web_extract.specs.PerPlace.{PerPlace3, PerPlace4};
-ghost use Rattle.web_extract.specs.Deciding.{Decides1, Decides2, Decides3, Decides4, AsList4};
+ghost use Rattle.web_extract.specs.ListResults.{Decides1, Decides2, Decides3, Decides4, AsList4};
 
 use crate::from_request::FromRequest;
 use crate::into_some::IntoSome;
@@ -13,25 +14,24 @@ use crate::never::Never;
 use web_reply::Error;
 use web_request::App;
 
-/// Optional arguments are never refused, neither alone nor as a place of a list.
-///
-/// It does nothing.
+/// `Option` and `Result` arguments are never refused, neither alone nor as a place of a list.
 pub fn optional_law<P: App, T: FromRequest<P>, E: Drop>()
 where
     T::Error: IntoSome<E>,
-    ensures option { (q : Request P.Layer P.Local P.Conn) → NeverRefuses (⟦<Option<T> as FromRequest<P>>⟧.means q) }
-    ensures result { (q : Request P.Layer P.Local P.Conn) → NeverRefuses (⟦<Result<T, E> as FromRequest<P>>⟧.means q) }
+    ensures option { (q : Request P.Layer P.Local P.Conn)
+        → NeverRefuses (⟦<Option<T> as FromRequest<P>>⟧.means q) }
+    ensures result { (q : Request P.Layer P.Local P.Conn)
+        → NeverRefuses (⟦<Result<T, E> as FromRequest<P>>⟧.means q) }
     ensures option_place { (q : Request P.Layer P.Local P.Conn) → NeverRefuses
         (Member ⟦<Never as Into<Error>>⟧.converts (⟦<Option<T> as FromRequest<P>>⟧.means q)) }
     ensures result_place { (q : Request P.Layer P.Local P.Conn) → NeverRefuses
         (Member ⟦<Never as Into<Error>>⟧.converts (⟦<Result<T, E> as FromRequest<P>>⟧.means q)) }
 {}
 
-/// What a list of one to four arguments means where each of them allows exactly one answer: where some place refuses, the
-/// refusing place of least delay decides, among equals the lowest place, with that delay; else all values come, with the
-/// greatest delay. Each place gets the marks that the one before leaves, and the list leaves what the last place leaves.
-///
-/// It does nothing.
+/// What a list of one to four arguments means where each of them allows exactly one result. If some
+/// of them refuse, the refusal of least delay decides, of equal ones the first, with that delay;
+/// otherwise all values come, at the greatest delay. Each argument gets the marks that the one
+/// before leaves, and the list leaves what the last one leaves.
 pub fn list_law<
     P: App,
     A: FromRequest<P>,
@@ -39,19 +39,25 @@ pub fn list_law<
     C: FromRequest<P>,
     D: FromRequest<P>,
 >()
-    ensures one { (q : Request P.Layer P.Local P.Conn) → Decides1 (Member A.Error.converts (A.means q)) }
-    ensures two { (q : Request P.Layer P.Local P.Conn) → Decides2 (Member A.Error.converts (A.means q)) (Member B.Error.converts (B.means q)) }
-    ensures three { (q : Request P.Layer P.Local P.Conn) → Decides3 (Member A.Error.converts (A.means q))
-        (Member B.Error.converts (B.means q)) (Member C.Error.converts (C.means q)) }
-    ensures four { (q : Request P.Layer P.Local P.Conn) → Decides4 (Member A.Error.converts (A.means q))
-        (Member B.Error.converts (B.means q)) (Member C.Error.converts (C.means q)) (Member D.Error.converts (D.means q)) }
+    ensures one { (q : Request P.Layer P.Local P.Conn)
+        → Decides1 (Member A.Error.converts (A.means q)) }
+    ensures two { (q : Request P.Layer P.Local P.Conn) → Decides2
+        (Member A.Error.converts (A.means q))
+        (Member B.Error.converts (B.means q)) }
+    ensures three { (q : Request P.Layer P.Local P.Conn) → Decides3
+        (Member A.Error.converts (A.means q))
+        (Member B.Error.converts (B.means q))
+        (Member C.Error.converts (C.means q)) }
+    ensures four { (q : Request P.Layer P.Local P.Conn) → Decides4
+        (Member A.Error.converts (A.means q))
+        (Member B.Error.converts (B.means q))
+        (Member C.Error.converts (C.means q))
+        (Member D.Error.converts (D.means q)) }
 {}
 
-/// A list of three or four arguments said place by place, whatever they allow: all values come at the greatest delay; or a
-/// place refuses, and no lower place need have refused by then, and no higher one before. `m` to `m4` are the marks before
-/// and after each place.
-///
-/// It does nothing.
+/// A list of three or four arguments place by place, whatever they allow. Either all values come,
+/// at the greatest delay; or a place refuses, and no earlier place need have refused by then, and
+/// no later one before. `m` to `m4` are the marks before and after each place.
 pub fn place_law<
     P: App,
     A: FromRequest<P>,
@@ -59,16 +65,20 @@ pub fn place_law<
     C: FromRequest<P>,
     D: FromRequest<P>,
 >()
-    ensures three { (q : Request P.Layer P.Local P.Conn) (m m1 m2 m3 : List Mark) → PerPlace3 (Member A.Error.converts (A.means q) m m1)
-        (Member B.Error.converts (B.means q) m1 m2) (Member C.Error.converts (C.means q) m2 m3) }
-    ensures four { (q : Request P.Layer P.Local P.Conn) (m m1 m2 m3 m4 : List Mark) → PerPlace4 (Member A.Error.converts (A.means q) m m1)
-        (Member B.Error.converts (B.means q) m1 m2) (Member C.Error.converts (C.means q) m2 m3) (Member D.Error.converts (D.means q) m3 m4) }
+    ensures three { (q : Request P.Layer P.Local P.Conn) (m m1 m2 m3 : List Mark) → PerPlace3
+        (Member A.Error.converts (A.means q) m m1)
+        (Member B.Error.converts (B.means q) m1 m2)
+        (Member C.Error.converts (C.means q) m2 m3) }
+    ensures four { (q : Request P.Layer P.Local P.Conn) (m m1 m2 m3 m4 : List Mark) → PerPlace4
+        (Member A.Error.converts (A.means q) m m1)
+        (Member B.Error.converts (B.means q) m1 m2)
+        (Member C.Error.converts (C.means q) m2 m3)
+        (Member D.Error.converts (D.means q) m3 m4) }
 {}
 
-/// Each nesting of four arguments in pairs, in the same order, decides as the list of four does: with the same delay, the same
-/// error and the same values, where each of them allows exactly one answer.
-///
-/// It does nothing.
+/// Four arguments nested in pairs, in any of the five ways that keep their order, have the same
+/// delay and the same error or values as the list of four, where each of them allows exactly one
+/// result.
 pub fn nesting_law<
     P: App,
     A: FromRequest<P>,
@@ -76,19 +86,29 @@ pub fn nesting_law<
     C: FromRequest<P>,
     D: FromRequest<P>,
 >()
-    ensures pairs { (q : Request P.Layer P.Local P.Conn) → AsList4 (Member A.Error.converts (A.means q)) (Member B.Error.converts (B.means q))
+    ensures pairs { (q : Request P.Layer P.Local P.Conn) → AsList4
+        (Member A.Error.converts (A.means q)) (Member B.Error.converts (B.means q))
         (Member C.Error.converts (C.means q)) (Member D.Error.converts (D.means q))
-        (λ v. ((v.0, v.1), (v.2, v.3))) (⟦<((A, B), (C, D)) as FromRequest<P>>⟧.means q) }
-    ensures right { (q : Request P.Layer P.Local P.Conn) → AsList4 (Member A.Error.converts (A.means q)) (Member B.Error.converts (B.means q))
+        (λ v. ((v.0, v.1), (v.2, v.3)))
+        (⟦<((A, B), (C, D)) as FromRequest<P>>⟧.means q) }
+    ensures right { (q : Request P.Layer P.Local P.Conn) → AsList4
+        (Member A.Error.converts (A.means q)) (Member B.Error.converts (B.means q))
         (Member C.Error.converts (C.means q)) (Member D.Error.converts (D.means q))
-        (λ v. (v.0, (v.1, (v.2, v.3)))) (⟦<(A, (B, (C, D))) as FromRequest<P>>⟧.means q) }
-    ensures left { (q : Request P.Layer P.Local P.Conn) → AsList4 (Member A.Error.converts (A.means q)) (Member B.Error.converts (B.means q))
+        (λ v. (v.0, (v.1, (v.2, v.3))))
+        (⟦<(A, (B, (C, D))) as FromRequest<P>>⟧.means q) }
+    ensures left { (q : Request P.Layer P.Local P.Conn) → AsList4
+        (Member A.Error.converts (A.means q)) (Member B.Error.converts (B.means q))
         (Member C.Error.converts (C.means q)) (Member D.Error.converts (D.means q))
-        (λ v. (((v.0, v.1), v.2), v.3)) (⟦<(((A, B), C), D) as FromRequest<P>>⟧.means q) }
-    ensures inner { (q : Request P.Layer P.Local P.Conn) → AsList4 (Member A.Error.converts (A.means q)) (Member B.Error.converts (B.means q))
+        (λ v. (((v.0, v.1), v.2), v.3))
+        (⟦<(((A, B), C), D) as FromRequest<P>>⟧.means q) }
+    ensures inner { (q : Request P.Layer P.Local P.Conn) → AsList4
+        (Member A.Error.converts (A.means q)) (Member B.Error.converts (B.means q))
         (Member C.Error.converts (C.means q)) (Member D.Error.converts (D.means q))
-        (λ v. (v.0, ((v.1, v.2), v.3))) (⟦<(A, ((B, C), D)) as FromRequest<P>>⟧.means q) }
-    ensures outer { (q : Request P.Layer P.Local P.Conn) → AsList4 (Member A.Error.converts (A.means q)) (Member B.Error.converts (B.means q))
+        (λ v. (v.0, ((v.1, v.2), v.3)))
+        (⟦<(A, ((B, C), D)) as FromRequest<P>>⟧.means q) }
+    ensures outer { (q : Request P.Layer P.Local P.Conn) → AsList4
+        (Member A.Error.converts (A.means q)) (Member B.Error.converts (B.means q))
         (Member C.Error.converts (C.means q)) (Member D.Error.converts (D.means q))
-        (λ v. ((v.0, (v.1, v.2)), v.3)) (⟦<((A, (B, C)), D) as FromRequest<P>>⟧.means q) }
+        (λ v. ((v.0, (v.1, v.2)), v.3))
+        (⟦<((A, (B, C)), D) as FromRequest<P>>⟧.means q) }
 {}

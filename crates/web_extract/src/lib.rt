@@ -1,10 +1,12 @@
-//! What makes a handler's arguments of a request.
+//! The arguments of handlers, and how they are extracted from requests.
 #![tactic(auto)]
 
 mod bytes_argument;
+mod either_future;
 mod from_request;
 mod into_some;
 mod laws;
+mod map_into;
 mod never;
 mod option;
 mod place;
@@ -16,9 +18,11 @@ mod tuple_three;
 mod tuple_two;
 mod unit;
 
+pub use either_future::EitherFuture;
 pub use from_request::FromRequest;
 pub use into_some::IntoSome;
 pub use laws::{list_law, nesting_law, optional_law, place_law};
+pub use map_into::{MapInto, from_request_into};
 pub use never::Never;
 pub use option::FromRequestOptFuture;
 pub use ready::Ready;

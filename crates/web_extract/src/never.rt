@@ -1,13 +1,14 @@
-//! The error of what never refuses.
+//! The error of arguments that are never refused.
 use web_reply::{Cause, Error, IoKind};
 
-/// The error of an argument that is never refused. No function gives one, and nothing outside this module can make one.
+/// The error of an argument that is never refused. It has no value: no function returns one, and
+/// only this module could make one.
 #[derive(Clone, Copy, Debug)]
 pub struct Never {
     sealed: (),
 }
 
-/// What turns into an error has to say which; no value ever comes to it.
+/// The conversion that every error of an argument needs. There is no value to convert.
 impl From<Never> for Error {
     ghost use Rattle.web_extract.specs.Never.{NeverGives};
 

@@ -1,4 +1,4 @@
-//! Arguments that may be missing.
+//! Optional arguments.
 ghost use Rattle.std.specs.Prelude.{◌≡◌, ℕ};
 
 use crate::from_request::FromRequest;
@@ -8,7 +8,7 @@ use std::marker::Model;
 use web_body::{Payload, Poll, Step};
 use web_request::{App, HttpRequest, NoMemory};
 
-/// The future of an argument that is `None` where it is refused.
+/// The future of an `Option` argument.
 #[derive(Drop)]
 pub struct FromRequestOptFuture<Fut> {
     fut: Fut,
@@ -21,13 +21,15 @@ impl<Fut> Model for FromRequestOptFuture<Fut> {
 }
 
 impl<T: Drop, E: Drop, Fut: Poll<Output = Result<T, E>>> Poll for FromRequestOptFuture<Fut> {
-    ghost use Rattle.web_extract.specs.Optional.{GivesOption, option_some};
+    ghost use Rattle.web_extract.specs.OptionArgument.{GivesOption, option_some};
 
     type Output = Result<Option<T>, Never>;
 
     ghost is_finished = { λ f. Fut.is_finished f };
 
     ghost gives = { λ f n x. GivesOption (Fut.gives f) n x };
+
+    ghost needs_no_memory = { λ f. Fut.needs_no_memory f };
 
     ghost some = { λ f h. option_some (Fut.gives f) (Fut.some f h) };
 
@@ -45,9 +47,10 @@ impl<T: Drop, E: Drop, Fut: Poll<Output = Result<T, E>>> Poll for FromRequestOpt
     }
 }
 
-/// The argument, or `None` where it is refused. It leaves what the argument leaves, and comes when that comes.
+/// `Some` of the argument, or `None` where it is refused. It has the delay of the argument, and
+/// leaves as much of the payload.
 impl<A: App, T: FromRequest<A>> FromRequest<A> for Option<T> {
-    ghost use Rattle.web_extract.specs.Optional.{GivesOption, means_option_some};
+    ghost use Rattle.web_extract.specs.OptionArgument.{GivesOption, means_option_some};
     ghost use Rattle.web_extract.specs.Never.{never_converted};
 
     type Error = Never;
@@ -55,6 +58,8 @@ impl<A: App, T: FromRequest<A>> FromRequest<A> for Option<T> {
     type Future = FromRequestOptFuture<T::Future>;
 
     ghost means = { λ q m rest n x. GivesOption (T.means q m rest) n x };
+
+    ghost needs_no_memory = { λ q. T.needs_no_memory q };
 
     ghost some = { λ q m. means_option_some (T.means q m) (T.some q m) };
 

@@ -1,29 +1,43 @@
 //! One place of an argument list.
 ghost use Rattle.std.specs.Prelude.{◌≡◌, false};
-ghost use Rattle.web_extract.specs.Place.{place_finished, Advances};
+ghost use Rattle.web_extract.specs.Place.{Advances, NeverOutOfMemory, PlaceNeedsNoMemory};
+ghost use Rattle.web_extract.specs.Place.{place_finished, stop_step};
 
 use std::alloc::Global;
 use web_body::{Poll, Step};
+use web_reply::Error;
 
 /// One place of an argument list.
 #[derive(Drop)]
 pub enum Place<Fut, T> {
-    /// Its value is not there yet.
+    /// The future of its value, which is still to come.
     Waiting(Fut),
-    /// Its value is there, and waits for the other places.
+    /// Its value, while other places are still waiting.
     Done(T),
-    /// Its value was given away.
+    /// Its value was taken out.
     Taken,
 }
 
-/// Why a place gives no value.
+/// Why a place ends the poll of its list.
 #[derive(Drop)]
-pub enum Stop<E> {
-    Refused(E),
+pub enum Stop {
+    Refused(Error),
     NoMemory,
 }
 
-impl<T: Drop, E: Drop, Fut: Poll<Output = Result<T, E>>> Place<Fut, T> {
+impl Stop {
+    /// What the poll of the list returns.
+    pub fn into_step<T>(self) -> Step<Result<T, Error>>
+        ensures { result ≡ stop_step self }
+    {
+        match self {
+            Stop::Refused(error) => Step::Ready(Err(error)),
+            Stop::NoMemory => Step::NoMemory,
+        }
+    }
+}
+
+impl<T: Drop, E: Into<Error> + Drop, Fut: Poll<Output = Result<T, E>>> Place<Fut, T> {
     pub fn finished(&self) -> bool
         ensures { result ≡ place_finished Fut.is_finished self.now }
     {
@@ -34,10 +48,11 @@ impl<T: Drop, E: Drop, Fut: Poll<Output = Result<T, E>>> Place<Fut, T> {
         }
     }
 
-    /// Polls the member where its value is not there yet, and answers whether it is there.
-    pub fn advance(&mut self, alloc: Global) -> Result<bool, Stop<E>>
+    /// Polls the future if the value is still to come. Returns whether the value is there.
+    pub fn advance(&mut self, alloc: Global) -> Result<bool, Stop>
         requires unfinished { place_finished Fut.is_finished self.old ≡ false }
-        ensures advances { Advances Fut.is_finished Fut.gives self.old result self.new }
+        ensures advances { Advances E.converts Fut.is_finished Fut.gives self.old result self.new }
+        ensures memory { PlaceNeedsNoMemory Fut.needs_no_memory self.old → NeverOutOfMemory result }
     {
         match self {
             Place::Waiting(fut) => match fut.poll(alloc) {
@@ -46,7 +61,7 @@ impl<T: Drop, E: Drop, Fut: Poll<Output = Result<T, E>>> Place<Fut, T> {
                     *self = Place::Done(value);
                     Ok(true)
                 }
-                Step::Ready(Err(e)) => Err(Stop::Refused(e)),
+                Step::Ready(Err(refusal)) => Err(Stop::Refused(refusal.into())),
                 Step::NoMemory => Err(Stop::NoMemory),
             },
             Place::Done(_) => Ok(true),

@@ -1,11 +1,11 @@
-//! A value that is there at the first poll.
+//! Futures that are ready.
 ghost use Rattle.std.specs.Prelude.{◌≡◌, ℕ, Some};
 
 use std::alloc::Global;
 use std::marker::Model;
 use web_body::{Poll, Step};
 
-/// A value that is there at the first poll.
+/// The future of a value that is already there: its first poll returns the value.
 #[derive(Debug, Drop)]
 pub struct Ready<T> {
     value: Option<T>,
@@ -20,6 +20,7 @@ impl<T> Model for Ready<T> {
 }
 
 impl<T> Ready<T> {
+    /// A future that returns this value at its first poll.
     pub fn new(value: T) -> Ready<T>
         ensures { result ≡ Some value }
     {
@@ -28,15 +29,17 @@ impl<T> Ready<T> {
 }
 
 impl<T: Drop> Poll for Ready<T> {
-    ghost use Rattle.std.specs.Prelude.{◌≡◌, Some, false, is_none};
-    ghost use Rattle.web_body.specs.Polled.{Ends, IfReady, MatchStep, Shifts};
-    ghost use Rattle.web_extract.specs.Ready.{GivesHeld, held_some};
+    ghost use Rattle.std.specs.Prelude.{◌≡◌, Some, false, is_none, ⊤};
+    ghost use Rattle.web_body.specs.PollSteps.{Ends, IfReady, MatchStep, NeverNoMemory, Shifts};
+    ghost use Rattle.web_extract.specs.ReadyFuture.{GivesHeld, held_some};
 
     type Output = T;
 
     ghost is_finished = { λ f. is_none f };
 
     ghost gives = { λ f n x. GivesHeld f n x };
+
+    ghost needs_no_memory = { λ _. ⊤ };
 
     ghost some = { λ f h. held_some f h };
 
@@ -48,8 +51,10 @@ impl<T: Drop> Poll for Ready<T> {
         requires unfinished { is_none self.old ≡ false }
         ensures ends { Ends result (is_none self.new) }
         ensures value { IfReady result (λ x. GivesHeld self.old 0 x) }
-        ensures shift { Shifts result (λ n x. GivesHeld self.old n x) (λ n x. GivesHeld self.new n x) }
+        ensures shift { Shifts result
+            (λ n x. GivesHeld self.old n x) (λ n x. GivesHeld self.new n x) }
         ensures comes { MatchStep result ⊥ (λ x. self.old ≡ Some x) ⊥ }
+        ensures memory { NeverNoMemory result }
     {
         match self.value.take() {
             Some(value) => Step::Ready(value),

@@ -1,4 +1,4 @@
-//! Arguments whose refusal the handler gets.
+//! Arguments whose refusal is passed to the handler.
 use crate::from_request::FromRequest;
 use crate::into_some::IntoSome;
 use crate::never::Never;
@@ -7,7 +7,7 @@ use std::marker::{Model, PhantomData};
 use web_body::{Payload, Poll, Step};
 use web_request::{App, HttpRequest, NoMemory};
 
-/// The future of an argument that is the error where it is refused.
+/// The future of a `Result` argument.
 #[derive(Drop)]
 pub struct FromRequestResFuture<Fut, E> {
     fut: Fut,
@@ -22,13 +22,15 @@ impl<Fut, E> Model for FromRequestResFuture<Fut, E> {
 
 impl<T: Drop, Ei: IntoSome<E> + Drop, E: Drop, Fut: Poll<Output = Result<T, Ei>>> Poll
     for FromRequestResFuture<Fut, E> {
-    ghost use Rattle.web_extract.specs.Fallible.{GivesResult, result_some};
+    ghost use Rattle.web_extract.specs.ResultArgument.{GivesResult, result_some};
 
     type Output = Result<Result<T, E>, Never>;
 
     ghost is_finished = { λ f. Fut.is_finished f };
 
     ghost gives = { λ f n x. GivesResult Ei.converts (Fut.gives f) n x };
+
+    ghost needs_no_memory = { λ f. Fut.needs_no_memory f };
 
     ghost some = { λ f h. result_some Ei.converts Ei.converted (Fut.gives f) (Fut.some f h) };
 
@@ -46,21 +48,26 @@ impl<T: Drop, Ei: IntoSome<E> + Drop, E: Drop, Fut: Poll<Output = Result<T, Ei>>
     }
 }
 
-/// The argument, or its error where it is refused. It leaves what the argument leaves, and comes when that comes.
+/// `Ok` of the argument, or `Err` of what its refusal converts into. It has the delay of the
+/// argument, and leaves as much of the payload.
 impl<A: App, T: FromRequest<A>, E: Drop> FromRequest<A> for Result<T, E>
 where
     T::Error: IntoSome<E>,
 {
-    ghost use Rattle.web_extract.specs.Fallible.{GivesResult, means_result_some};
+    ghost use Rattle.web_extract.specs.ResultArgument.{GivesResult, means_result_some};
     ghost use Rattle.web_extract.specs.Never.{never_converted};
 
     type Error = Never;
 
     type Future = FromRequestResFuture<T::Future, E>;
 
-    ghost means = { λ q m rest n x. GivesResult ⟦<T::Error as Into<E>>⟧.converts (T.means q m rest) n x };
+    ghost means = { λ q m rest n x.
+        GivesResult ⟦<T::Error as Into<E>>⟧.converts (T.means q m rest) n x };
 
-    ghost some = { λ q m. means_result_some ⟦<T::Error as Into<E>>⟧.converts T.Error.IntoSome.converted (T.means q m) (T.some q m) };
+    ghost needs_no_memory = { λ q. T.needs_no_memory q };
+
+    ghost some = { λ q m. means_result_some ⟦<T::Error as Into<E>>⟧.converts
+        T.Error.IntoSome.converted (T.means q m) (T.some q m) };
 
     ghost converted = { never_converted };
 

@@ -1,16 +1,15 @@
-//! Four arguments.
-ghost use Rattle.std.specs.Prelude.{◌≡◌, ◌||◌};
-ghost use Rattle.web_extract.specs.Place.{place_finished, place_comes};
+//! Lists of four arguments, over nested pairs.
+ghost use Rattle.std.specs.Prelude.{◌≡◌};
 
 use crate::from_request::FromRequest;
-use crate::place::{Place, Stop};
+use crate::place::Place;
+use crate::tuple_two::{TupleFromRequest2, both};
 use std::alloc::Global;
-use std::mem;
 use web_body::{Payload, Poll, Step};
 use web_reply::Error;
 use web_request::{App, HttpRequest, NoMemory};
 
-/// The future of four arguments. At each poll it polls those that are not there yet, in order.
+/// The future of four arguments. Each poll polls those that are still to come, in their order.
 #[derive(Drop)]
 pub struct TupleFromRequest4<
     P: App,
@@ -19,79 +18,58 @@ pub struct TupleFromRequest4<
     C: FromRequest<P>,
     D: FromRequest<P>,
 > {
-    first: Place<A::Future, A>,
-    second: Place<B::Future, B>,
-    third: Place<C::Future, C>,
-    fourth: Place<D::Future, D>,
+    nested: TupleFromRequest2<P, A, (B, (C, D))>,
 }
 
 impl<P: App, A: FromRequest<P>, B: FromRequest<P>, C: FromRequest<P>, D: FromRequest<P>> Poll
     for TupleFromRequest4<P, A, B, C, D> {
-    ghost use Rattle.web_extract.specs.Joined.{Joins4};
-    ghost use Rattle.web_extract.specs.Allowed.{joins4_some, place_some, or_first, or_second};
+    ghost use Rattle.web_extract.specs.ArgumentLists.{nested4};
+    ghost use Rattle.web_extract.specs.SomeAnswer.{itself, nested4_some, places_some};
 
     type Output = Result<(A, B, C, D), Error>;
 
-    ghost is_finished = { λ f. ((place_finished A.Future.is_finished f.first || place_finished B.Future.is_finished f.second)
-        || place_finished C.Future.is_finished f.third)
-        || place_finished D.Future.is_finished f.fourth };
+    ghost is_finished = { λ f.
+        ⟦<TupleFromRequest2<P, A, (B, (C, D))> as Poll>⟧.is_finished f.nested };
 
-    ghost gives = { λ f n x. Joins4
-        (place_comes A.Error.converts A.Future.gives f.first)
-        (place_comes B.Error.converts B.Future.gives f.second)
-        (place_comes C.Error.converts C.Future.gives f.third)
-        (place_comes D.Error.converts D.Future.gives f.fourth) n x };
+    ghost gives = { λ f n x.
+        ⟦<TupleFromRequest2<P, A, (B, (C, D))> as Poll>⟧.gives f.nested n (nested4 x) };
 
-    ghost some = { λ f h. joins4_some
-        (place_comes A.Error.converts A.Future.gives f.first)
-        (place_comes B.Error.converts B.Future.gives f.second)
-        (place_comes C.Error.converts C.Future.gives f.third)
-        (place_comes D.Error.converts D.Future.gives f.fourth)
-        (place_some A.Error.converts A.converted A.Future.is_finished A.Future.gives A.Future.some f.first (or_first _ _ (or_first _ _ (or_first _ _ h))))
-        (place_some B.Error.converts B.converted B.Future.is_finished B.Future.gives B.Future.some f.second (or_second _ _ (or_first _ _ (or_first _ _ h))))
-        (place_some C.Error.converts C.converted C.Future.is_finished C.Future.gives C.Future.some f.third (or_second _ _ (or_first _ _ h)))
-        (place_some D.Error.converts D.converted D.Future.is_finished D.Future.gives D.Future.some f.fourth (or_second _ _ h)) };
+    ghost needs_no_memory = { λ f.
+        ⟦<TupleFromRequest2<P, A, (B, (C, D))> as Poll>⟧.needs_no_memory f.nested };
+
+    ghost some = { λ f h. nested4_some
+        (⟦<TupleFromRequest2<P, A, (B, (C, D))> as Poll>⟧.gives f.nested)
+        (places_some
+        A.Error.converts A.converted A.Future.is_finished A.Future.gives A.Future.some
+        ⟦<Error as Into<Error>>⟧.converts itself
+        ⟦<TupleFromRequest2<P, B, (C, D)> as Poll>⟧.is_finished
+        ⟦<TupleFromRequest2<P, B, (C, D)> as Poll>⟧.gives
+        (λ rest k. places_some
+        B.Error.converts B.converted B.Future.is_finished B.Future.gives B.Future.some
+        ⟦<Error as Into<Error>>⟧.converts itself
+        ⟦<TupleFromRequest2<P, C, D> as Poll>⟧.is_finished
+        ⟦<TupleFromRequest2<P, C, D> as Poll>⟧.gives
+        (λ last j. places_some
+        C.Error.converts C.converted C.Future.is_finished C.Future.gives C.Future.some
+        D.Error.converts D.converted D.Future.is_finished D.Future.gives D.Future.some
+        last.first last.second j)
+        rest.first rest.second k)
+        f.nested.first f.nested.second h) };
 
     fn finished(&self) -> bool {
-        self.first.finished()
-            || self.second.finished()
-            || self.third.finished()
-            || self.fourth.finished()
+        self.nested.finished()
     }
 
     fn poll(&mut self, alloc: Global) -> Step<Result<(A, B, C, D), Error>> {
-        let has_first = match self.first.advance(alloc) {
-            Ok(has) => has,
-            Err(Stop::Refused(e)) => return Step::Ready(Err(e.into())),
-            Err(Stop::NoMemory) => return Step::NoMemory,
-        };
-        let has_second = match self.second.advance(alloc) {
-            Ok(has) => has,
-            Err(Stop::Refused(e)) => return Step::Ready(Err(e.into())),
-            Err(Stop::NoMemory) => return Step::NoMemory,
-        };
-        let has_third = match self.third.advance(alloc) {
-            Ok(has) => has,
-            Err(Stop::Refused(e)) => return Step::Ready(Err(e.into())),
-            Err(Stop::NoMemory) => return Step::NoMemory,
-        };
-        let has_fourth = match self.fourth.advance(alloc) {
-            Ok(has) => has,
-            Err(Stop::Refused(e)) => return Step::Ready(Err(e.into())),
-            Err(Stop::NoMemory) => return Step::NoMemory,
-        };
-        if !(has_first & has_second & has_third & has_fourth) {
-            return Step::Pending;
-        }
-        let first = mem::replace(&mut self.first, Place::Taken);
-        let second = mem::replace(&mut self.second, Place::Taken);
-        let third = mem::replace(&mut self.third, Place::Taken);
-        let fourth = mem::replace(&mut self.fourth, Place::Taken);
-        match (first, second, third, fourth) {
-            (Place::Done(a), Place::Done(b), Place::Done(c), Place::Done(d)) => Step::Ready(Ok((
-                a, b, c, d,
-            ))),
-            _ => unreachable!(),
+        match self.nested.poll(alloc) {
+            Step::Pending => Step::Pending,
+            Step::Ready(Ok((a, rest))) => {
+                let (b, last) = rest;
+                let (c, d) = last;
+                Step::Ready(Ok((a, b, c, d)))
+            }
+            Step::Ready(Err(error)) => Step::Ready(Err(error)),
+            Step::NoMemory => Step::NoMemory,
         }
     }
 }
@@ -104,8 +82,8 @@ impl<
     C: FromRequest<P>,
     D: FromRequest<P>,
 > FromRequest<P> for (A, B, C, D) {
-    ghost use Rattle.web_extract.specs.Lists.{Member, Means4};
-    ghost use Rattle.web_extract.specs.Allowed.{means4_some, member_some, itself};
+    ghost use Rattle.web_extract.specs.ListMeanings.{Member, Means4};
+    ghost use Rattle.web_extract.specs.SomeAnswer.{means4_some, member_some, itself};
 
     type Error = Error;
 
@@ -116,6 +94,9 @@ impl<
         (Member B.Error.converts (B.means q))
         (Member C.Error.converts (C.means q))
         (Member D.Error.converts (D.means q)) m rest n x };
+
+    ghost needs_no_memory = { λ q.
+        A.needs_no_memory q × B.needs_no_memory q × C.needs_no_memory q × D.needs_no_memory q };
 
     ghost some = { λ q m. means4_some
         (Member A.Error.converts (A.means q))
@@ -134,15 +115,21 @@ impl<
         req: &HttpRequest<P>,
         payload: &mut Payload<P::Source>,
     ) -> Result<TupleFromRequest4<P, A, B, C, D>, NoMemory> {
-        let first = A::from_request(alloc, req, payload)?;
-        let second = B::from_request(alloc, req, payload)?;
-        let third = C::from_request(alloc, req, payload)?;
-        let fourth = D::from_request(alloc, req, payload)?;
+        let (first, second) = both::<P, A, B>(alloc, req, payload)?;
+        let (third, fourth) = both::<P, C, D>(alloc, req, payload)?;
+        let last = TupleFromRequest2 {
+            first: Place::Waiting(third),
+            second: Place::Waiting(fourth),
+        };
+        let rest = TupleFromRequest2 {
+            first: Place::Waiting(second),
+            second: Place::Waiting(last),
+        };
         Ok(TupleFromRequest4 {
-            first: Place::Waiting(first),
-            second: Place::Waiting(second),
-            third: Place::Waiting(third),
-            fourth: Place::Waiting(fourth),
+            nested: TupleFromRequest2 {
+                first: Place::Waiting(first),
+                second: Place::Waiting(rest),
+            },
         })
     }
 }

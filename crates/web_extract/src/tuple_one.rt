@@ -1,24 +1,24 @@
-//! One argument.
+//! Lists of one argument.
 ghost use Rattle.std.specs.Prelude.{◌≡◌};
-ghost use Rattle.web_extract.specs.Place.{place_finished, place_comes};
+ghost use Rattle.web_extract.specs.Place.{PlaceNeedsNoMemory, place_finished, place_comes};
 
 use crate::from_request::FromRequest;
-use crate::place::{Place, Stop};
+use crate::place::Place;
 use std::alloc::Global;
 use std::mem;
 use web_body::{Payload, Poll, Step};
 use web_reply::Error;
 use web_request::{App, HttpRequest, NoMemory};
 
-/// The future of one argument.
+/// The future of a list of one argument.
 #[derive(Drop)]
 pub struct TupleFromRequest1<P: App, A: FromRequest<P>> {
     first: Place<A::Future, A>,
 }
 
 impl<P: App, A: FromRequest<P>> Poll for TupleFromRequest1<P, A> {
-    ghost use Rattle.web_extract.specs.Joined.{Joins1};
-    ghost use Rattle.web_extract.specs.Allowed.{joins1_some, place_some};
+    ghost use Rattle.web_extract.specs.ArgumentLists.{Joins1};
+    ghost use Rattle.web_extract.specs.SomeAnswer.{joins1_some, place_some};
 
     type Output = Result<(A,), Error>;
 
@@ -27,9 +27,12 @@ impl<P: App, A: FromRequest<P>> Poll for TupleFromRequest1<P, A> {
     ghost gives = { λ f n x. Joins1
         (place_comes A.Error.converts A.Future.gives f.first) n x };
 
+    ghost needs_no_memory = { λ f. PlaceNeedsNoMemory A.Future.needs_no_memory f.first };
+
     ghost some = { λ f h. joins1_some
         (place_comes A.Error.converts A.Future.gives f.first)
-        (place_some A.Error.converts A.converted A.Future.is_finished A.Future.gives A.Future.some f.first h) };
+        (place_some A.Error.converts A.converted A.Future.is_finished A.Future.gives
+        A.Future.some f.first h) };
 
     fn finished(&self) -> bool {
         self.first.finished()
@@ -38,8 +41,7 @@ impl<P: App, A: FromRequest<P>> Poll for TupleFromRequest1<P, A> {
     fn poll(&mut self, alloc: Global) -> Step<Result<(A,), Error>> {
         let has_first = match self.first.advance(alloc) {
             Ok(has) => has,
-            Err(Stop::Refused(e)) => return Step::Ready(Err(e.into())),
-            Err(Stop::NoMemory) => return Step::NoMemory,
+            Err(stop) => return stop.into_step(),
         };
         if !has_first {
             return Step::Pending;
@@ -51,16 +53,18 @@ impl<P: App, A: FromRequest<P>> Poll for TupleFromRequest1<P, A> {
     }
 }
 
-/// The argument alone. It gets the payload as it is.
+/// A list of one argument, which gets the payload as it is.
 impl<P: App, A: FromRequest<P>> FromRequest<P> for (A,) {
-    ghost use Rattle.web_extract.specs.Lists.{Member, Means1};
-    ghost use Rattle.web_extract.specs.Allowed.{means1_some, member_some, itself};
+    ghost use Rattle.web_extract.specs.ListMeanings.{Member, Means1};
+    ghost use Rattle.web_extract.specs.SomeAnswer.{means1_some, member_some, itself};
 
     type Error = Error;
 
     type Future = TupleFromRequest1<P, A>;
 
     ghost means = { λ q m rest n x. Means1 (Member A.Error.converts (A.means q)) m rest n x };
+
+    ghost needs_no_memory = { λ q. A.needs_no_memory q };
 
     ghost some = { λ q m. means1_some (Member A.Error.converts (A.means q))
         (member_some A.Error.converts A.converted (A.means q) (A.some q)) m };

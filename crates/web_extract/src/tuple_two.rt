@@ -1,39 +1,44 @@
-//! Two arguments.
-ghost use Rattle.std.specs.Prelude.{◌≡◌, ◌||◌};
-ghost use Rattle.web_extract.specs.Place.{place_finished, place_comes};
+//! Lists of two arguments.
+ghost use Rattle.std.specs.Prelude.{◌≡◌, ◌⊎◌, ◌||◌, IsOk, IfOk, false};
+ghost use Rattle.web_body.specs.Payload.{payload_feed};
+ghost use Rattle.web_extract.specs.Extracts.{ExtractsBoth};
+ghost use Rattle.web_extract.specs.Place.{PlaceNeedsNoMemory, place_finished, place_comes};
 
 use crate::from_request::FromRequest;
-use crate::place::{Place, Stop};
+use crate::place::Place;
 use std::alloc::Global;
 use std::mem;
 use web_body::{Payload, Poll, Step};
 use web_reply::Error;
 use web_request::{App, HttpRequest, NoMemory};
 
-/// The future of two arguments. At each poll it polls those that are not there yet, in order.
+/// The future of two arguments. Each poll polls those that are still to come, in their order.
 #[derive(Drop)]
 pub struct TupleFromRequest2<P: App, A: FromRequest<P>, B: FromRequest<P>> {
-    first: Place<A::Future, A>,
-    second: Place<B::Future, B>,
+    pub(crate) first: Place<A::Future, A>,
+    pub(crate) second: Place<B::Future, B>,
 }
 
 impl<P: App, A: FromRequest<P>, B: FromRequest<P>> Poll for TupleFromRequest2<P, A, B> {
-    ghost use Rattle.web_extract.specs.Joined.{Joins2};
-    ghost use Rattle.web_extract.specs.Allowed.{joins2_some, place_some, or_first, or_second};
+    ghost use Rattle.web_extract.specs.ArgumentLists.{Joins2};
+    ghost use Rattle.web_extract.specs.SomeAnswer.{places_some};
 
     type Output = Result<(A, B), Error>;
 
-    ghost is_finished = { λ f. place_finished A.Future.is_finished f.first || place_finished B.Future.is_finished f.second };
+    ghost is_finished = { λ f. place_finished A.Future.is_finished f.first
+        || place_finished B.Future.is_finished f.second };
 
     ghost gives = { λ f n x. Joins2
         (place_comes A.Error.converts A.Future.gives f.first)
         (place_comes B.Error.converts B.Future.gives f.second) n x };
 
-    ghost some = { λ f h. joins2_some
-        (place_comes A.Error.converts A.Future.gives f.first)
-        (place_comes B.Error.converts B.Future.gives f.second)
-        (place_some A.Error.converts A.converted A.Future.is_finished A.Future.gives A.Future.some f.first (or_first _ _ h))
-        (place_some B.Error.converts B.converted B.Future.is_finished B.Future.gives B.Future.some f.second (or_second _ _ h)) };
+    ghost needs_no_memory = { λ f. PlaceNeedsNoMemory A.Future.needs_no_memory f.first
+        × PlaceNeedsNoMemory B.Future.needs_no_memory f.second };
+
+    ghost some = { λ f h. places_some
+        A.Error.converts A.converted A.Future.is_finished A.Future.gives A.Future.some
+        B.Error.converts B.converted B.Future.is_finished B.Future.gives B.Future.some
+        f.first f.second h };
 
     fn finished(&self) -> bool {
         self.first.finished() || self.second.finished()
@@ -42,13 +47,11 @@ impl<P: App, A: FromRequest<P>, B: FromRequest<P>> Poll for TupleFromRequest2<P,
     fn poll(&mut self, alloc: Global) -> Step<Result<(A, B), Error>> {
         let has_first = match self.first.advance(alloc) {
             Ok(has) => has,
-            Err(Stop::Refused(e)) => return Step::Ready(Err(e.into())),
-            Err(Stop::NoMemory) => return Step::NoMemory,
+            Err(stop) => return stop.into_step(),
         };
         let has_second = match self.second.advance(alloc) {
             Ok(has) => has,
-            Err(Stop::Refused(e)) => return Step::Ready(Err(e.into())),
-            Err(Stop::NoMemory) => return Step::NoMemory,
+            Err(stop) => return stop.into_step(),
         };
         if !(has_first & has_second) {
             return Step::Pending;
@@ -62,18 +65,46 @@ impl<P: App, A: FromRequest<P>, B: FromRequest<P>> Poll for TupleFromRequest2<P,
     }
 }
 
-/// Both arguments. Each gets the payload as the one before left it.
+/// Begins two arguments, the second with the payload as the first leaves it.
+pub(crate) fn both<P: App, A: FromRequest<P>, B: FromRequest<P>>(
+    alloc: Global,
+    req: &HttpRequest<P>,
+    payload: &mut Payload<P::Source>,
+) -> Result<(A::Future, B::Future), NoMemory>
+    ensures fresh { IfOk result (λ f. (A.Future.is_finished f.0 ≡ false)
+        × (B.Future.is_finished f.1 ≡ false)) }
+    ensures extracts { IfOk result (λ f. ExtractsBoth
+        (A.means req.now.request) (B.means req.now.request)
+        (A.Future.gives f.0) (B.Future.gives f.1)
+        (payload_feed P.Source.feed payload.old).marks
+        (payload_feed P.Source.feed payload.new).marks) }
+    ensures payload { (payload.new ≡ payload.old) ⊎ (payload.new ≡ Payload.None) }
+    ensures memory { A.needs_no_memory req.now.request × B.needs_no_memory req.now.request
+        → IsOk result }
+{
+    let first = A::from_request(alloc, req, payload)?;
+    let second = B::from_request(alloc, req, payload)?;
+    Ok((first, second))
+}
+
+/// Both arguments. The second gets the payload as the first left it.
 impl<P: App, A: FromRequest<P>, B: FromRequest<P>> FromRequest<P> for (A, B) {
-    ghost use Rattle.web_extract.specs.Lists.{Member, Means2};
-    ghost use Rattle.web_extract.specs.Allowed.{means2_some, member_some, itself};
+    ghost use Rattle.web_extract.specs.ListMeanings.{Member, Means2};
+    ghost use Rattle.web_extract.specs.SomeAnswer.{means2_some, member_some, itself};
 
     type Error = Error;
 
     type Future = TupleFromRequest2<P, A, B>;
 
-    ghost means = { λ q m rest n x. Means2 (Member A.Error.converts (A.means q)) (Member B.Error.converts (B.means q)) m rest n x };
+    ghost means = { λ q m rest n x. Means2
+        (Member A.Error.converts (A.means q))
+        (Member B.Error.converts (B.means q)) m rest n x };
 
-    ghost some = { λ q m. means2_some (Member A.Error.converts (A.means q)) (Member B.Error.converts (B.means q))
+    ghost needs_no_memory = { λ q. A.needs_no_memory q × B.needs_no_memory q };
+
+    ghost some = { λ q m. means2_some
+        (Member A.Error.converts (A.means q))
+        (Member B.Error.converts (B.means q))
         (member_some A.Error.converts A.converted (A.means q) (A.some q))
         (member_some B.Error.converts B.converted (B.means q) (B.some q)) m };
 
@@ -84,8 +115,7 @@ impl<P: App, A: FromRequest<P>, B: FromRequest<P>> FromRequest<P> for (A, B) {
         req: &HttpRequest<P>,
         payload: &mut Payload<P::Source>,
     ) -> Result<TupleFromRequest2<P, A, B>, NoMemory> {
-        let first = A::from_request(alloc, req, payload)?;
-        let second = B::from_request(alloc, req, payload)?;
+        let (first, second) = both::<P, A, B>(alloc, req, payload)?;
         Ok(TupleFromRequest2 {
             first: Place::Waiting(first),
             second: Place::Waiting(second),

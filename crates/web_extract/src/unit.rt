@@ -1,4 +1,4 @@
-//! The empty argument list.
+//! The empty list of arguments.
 use crate::from_request::FromRequest;
 use crate::never::Never;
 use crate::ready::Ready;
@@ -6,12 +6,12 @@ use std::alloc::Global;
 use web_body::Payload;
 use web_request::{App, HttpRequest, NoMemory};
 
-/// No argument. It leaves the payload as it is.
+/// No argument. The payload stays as it is.
 impl<A: App> FromRequest<A> for () {
-    ghost use Rattle.std.specs.Prelude.{◌≡◌, IsOk, IfOk, false, is_none};
+    ghost use Rattle.std.specs.Prelude.{◌≡◌, IsOk, IfOk, false, is_none, ⊤};
     ghost use Rattle.web_body.specs.Payload.{payload_feed};
     ghost use Rattle.web_extract.specs.Extracts.{Extracts};
-    ghost use Rattle.web_extract.specs.Ready.{GivesHeld, MeansUnit, unit_some};
+    ghost use Rattle.web_extract.specs.ReadyFuture.{GivesHeld, MeansUnit, unit_some};
     ghost use Rattle.web_extract.specs.Never.{never_converted};
 
     type Error = Never;
@@ -19,6 +19,8 @@ impl<A: App> FromRequest<A> for () {
     type Future = Ready<Result<(), Never>>;
 
     ghost means = { λ q m rest n x. MeansUnit m rest n x };
+
+    ghost needs_no_memory = { λ _. ⊤ };
 
     ghost some = { λ q m. unit_some m };
 
@@ -30,9 +32,11 @@ impl<A: App> FromRequest<A> for () {
         _payload: &mut Payload<A::Source>,
     ) -> Result<Ready<Result<(), Never>>, NoMemory>
         ensures fresh { IfOk result (λ f. is_none f ≡ false) }
-        ensures extracts { IfOk result (λ f. Extracts (λ m rest n x. MeansUnit m rest n x) (λ n x. GivesHeld f n x)
-            (payload_feed A.Source.feed _payload.old).marks (payload_feed A.Source.feed _payload.new).marks) }
-        ensures ok { IsOk result }
+        ensures extracts { IfOk result (λ f. Extracts
+            (λ m rest n x. MeansUnit m rest n x) (λ n x. GivesHeld f n x)
+            (payload_feed A.Source.feed _payload.old).marks
+            (payload_feed A.Source.feed _payload.new).marks) }
+        ensures memory { IsOk result }
         ensures kept { _payload.new ≡ _payload.old }
     {
         Ok(Ready::new(Ok(())))

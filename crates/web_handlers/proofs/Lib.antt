@@ -1,6 +1,8 @@
 -- Lemmas of the handlers.
-mod Echoing
-mod Greeting
-mod Listing
-mod Told
-mod Untold
+mod EchoLemmas
+mod FlightLemmas
+mod GreeterLemmas
+mod HelloLemmas
+mod ListingLemmas
+mod ToldBodiesLemmas
+mod UntoldArgumentsLemmas

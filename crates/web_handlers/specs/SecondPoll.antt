@@ -1,22 +1,24 @@
 -- A value that is there at the second poll.
 use Rattle.std.specs.Prelude.{◌≡◌, ℕ, Bool, true, false, refl}
-use Rattle.web_body.specs.Polled.{GivesSome}
-use Rattle.web_handlers.specs.declared.handlers.SecondPoll.{SecondPoll}
-use Rattle.web_handlers.specs.declared.handlers.SecondPoll.TheVariants.{New, Stalled, Given}
+use Rattle.web_body.specs.PollSteps.{GivesSome}
+use Rattle.web_handlers.specs.declared.second_poll.SecondPoll.{SecondPoll}
+use Rattle.web_handlers.specs.declared.second_poll.SecondPoll.TheVariants.{New, Stalled, Finished}
 
--- its value was given away
-abbrev pub is_given : {T : Type 0} → SecondPoll T → Bool
-is_given (New y) = false
-is_given (Stalled y) = false
-is_given Given = true
+-- its value was returned
+abbrev pub second_finished : {T : Type 0} → SecondPoll T → Bool
+second_finished (New y) = false
+second_finished (Stalled y) = false
+second_finished Finished = true
 
--- the value comes after one Pending, and after none where that was answered
+-- the value comes after one poll that returns Pending, and after none once that poll is over
 abbrev pub second_gives : {T : Type 0} → SecondPoll T → ℕ → T → Type 0
 second_gives (New y) n x = (n ≡ 1) × (x ≡ y)
 second_gives (Stalled y) n x = (n ≡ 0) × (x ≡ y)
-second_gives Given n x = ⊥
+second_gives Finished n x = ⊥
 
-pub second_some : {T : Type 0} (f : SecondPoll T) → is_given f ≡ false → GivesSome (second_gives f)
+-- until it is finished, some value may come
+pub second_some : {T : Type 0} (f : SecondPoll T) → second_finished f ≡ false
+    → GivesSome (second_gives f)
 second_some (New y) h none = none 1 y (refl, refl)
 second_some (Stalled y) h none = none 0 y (refl, refl)
-second_some Given h none = absurd cc
+second_some Finished h none = absurd cc

@@ -2,7 +2,7 @@
 use Rattle.std.specs.Prelude.{ℕ, List, codes}
 use Rattle.web_body.specs.declared.message_body.PayloadError.{PayloadError}
 use Rattle.web_body.specs.declared.message_body.PayloadError.TheVariants as payload
-use Rattle.web_body.specs.Texts.{payload_error_text}
+use Rattle.web_body.specs.ErrorTexts.{payload_error_text}
 use Rattle.web_reply.specs.declared.cause.Cause.{Cause}
 use Rattle.web_reply.specs.declared.cause.Cause.TheVariants.{Payload, Http, Utf8, Io, Custom}
 use Rattle.web_reply.specs.declared.cause.HttpError.{HttpError}

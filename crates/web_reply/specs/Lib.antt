@@ -1,8 +1,8 @@
-pub mod Bodies
+pub mod ResponseBodies
 pub mod Causes
-pub mod Heads
-pub mod Lent
-pub mod Mapped
+pub mod ResponseHeads
+pub mod LentParts
+pub mod BodyMaps
 pub mod Replies
-pub mod Responds
-pub mod Texts
+pub mod Responders
+pub mod CowTexts

@@ -1,21 +1,21 @@
--- Responses as plain values, and the replies to errors.
+-- Responses as contracts see them, and the replies to errors.
 use Rattle.std.specs.Prelude.{ℕ, List, Option, None, Some, codes}
-use Rattle.web_reply.specs.Bodies.{Plain}
+use Rattle.web_reply.specs.ResponseBodies.{Plain}
 use Rattle.web_reply.specs.Causes.{cause_status, cause_text}
-use Rattle.web_reply.specs.Heads.{new_head, typed_head}
+use Rattle.web_reply.specs.ResponseHeads.{new_head, typed_head}
 use Rattle.web_reply.specs.declared.body.WholeBody.{WholeBody}
 use Rattle.web_reply.specs.declared.body.WholeBody.TheVariants as whole
 use Rattle.web_reply.specs.declared.cause.Cause.{Cause}
 use Rattle.web_reply.specs.declared.head.ResponseHead.{ResponseHead}
 
--- A response: its head, its body and the cause that it keeps. Headers are the list of names, each with its values. What
--- of them counts is the values of each name, and their order.
+-- A response: its head, its body and the cause that it keeps. Its headers are the list of the
+-- names, each with the list of its values.
 pub record Reply (B : Type 0) : Type 0 where
   pub head : ResponseHead
   pub body : B
   pub error : Option Cause
 
--- a response with this body in the place of its own
+-- the response with this body in place of its own
 abbrev pub with_body : {B C : Type 0} → C → Reply B → Reply C
 with_body body r = record { head = r.head; body = body; error = r.error }
 
@@ -23,18 +23,19 @@ with_body body r = record { head = r.head; body = body; error = r.error }
 abbrev pub plain_reply : {B : Type 0} → (B → Plain) → Reply B → Reply Plain
 plain_reply plain r = with_body (plain r.body) r
 
--- of this status and body, HTTP/1.1 and no headers
+-- HTTP/1.1, this status and body, and no header
 abbrev pub bare_reply : {B : Type 0} → ℕ → B → Reply B
 bare_reply status body = record { head = new_head status; body = body; error = None }
 
--- of this status, content type and body, HTTP/1.1 and no further header
+-- HTTP/1.1, this status and body, and this content type as the one header
 abbrev pub typed_reply : {B : Type 0} → ℕ → List ℕ → B → Reply B
-typed_reply status content_type body = record { head = typed_head status content_type; body = body; error = None }
+typed_reply status content_type body =
+    record { head = typed_head status content_type; body = body; error = None }
 
 abbrev pub plain_text : List ℕ
 plain_text = codes "text/plain; charset=utf-8"
 
--- the reply of a cause
+-- the reply to a cause: its status, and its text as plain text
 abbrev pub default_reply : Cause → Reply WholeBody
 default_reply cause = typed_reply (cause_status cause) plain_text (whole.Bytes (cause_text cause))
 
@@ -45,6 +46,6 @@ pub record Fault : Type 0 where
 abbrev pub fault_of : Cause → Fault
 fault_of cause = record { cause = cause }
 
--- the reply of an error, which keeps the cause
+-- the reply to an error: that to its cause, which it keeps
 abbrev pub error_reply : Fault → Reply WholeBody
 error_reply e = record (default_reply e.cause) { error = Some e.cause }

@@ -1,6 +1,6 @@
 //! Bodies of responses.
-ghost use Rattle.std.specs.Prelude.{◌≡◌, IfOk, IsOk};
-ghost use Rattle.web_reply.specs.Bodies.{Plain, box_plain, size_of};
+ghost use Rattle.std.specs.Prelude.{◌≡◌, IfOk, IsOk, ⊤};
+ghost use Rattle.web_reply.specs.ResponseBodies.{Plain, box_plain, size_of};
 
 use bytes::Bytes;
 use std::alloc::Global;
@@ -11,11 +11,11 @@ use web_texts::NoMemory;
 /// What is known of a body's length before it is sent.
 #[derive(Clone, Copy, Debug, PartialEq, Eq)]
 pub enum BodySize {
-    /// There is no body and no length is said. No body of this crate has this size.
+    /// No body, and no length to state. No body of this crate has this size.
     None,
-    /// So many bytes.
+    /// A body of this many bytes.
     Sized(u64),
-    /// The length is not known.
+    /// A body of unknown length.
     Stream,
 }
 
@@ -26,28 +26,32 @@ pub enum WholeBody {
     Bytes(Bytes),
 }
 
-/// A body in memory, or a payload that was not read yet.
+/// The common form of every body: bytes in memory, or a payload that is still to be read. A payload
+/// stands behind a `Box`, so that a response without one stays small.
 #[derive(Drop)]
 pub enum BoxBody<S> {
     Empty,
     Bytes(Bytes),
-    /// A payload whose number of bytes is declared.
-    Sized(u64, Payload<S>),
+    /// A payload of a declared length, in bytes.
+    Sized(u64, Box<Payload<S>>),
     /// A payload of unknown length.
-    Stream(Payload<S>),
+    Stream(Box<Payload<S>>),
 }
 
-/// One of two kinds of bodies.
+/// A body of one of two types.
 #[derive(Drop)]
 pub enum EitherBody<L, R> {
     Left(L),
     Right(R),
 }
 
-/// What may be the body of a response. The sources of its payloads are of the type `S`.
+/// A type of bodies of responses. The payloads of its bodies are read from sources of type `S`.
 pub trait MessageBody<S: Source>: Sized + Drop {
-    /// The body as a plain value, with the marks of its payload where the source tells them.
+    /// The body as a plain value, with the marks of its payload where the source states them.
     ghost plain: { Self → Plain };
+
+    /// The bodies that `boxed` converts without allocating.
+    ghost needs_no_memory: { Self → Type 0 } = { λ _. ⊥ };
 
     /// What is known of its length. An empty body has the length 0.
     fn size(&self) -> BodySize
@@ -55,13 +59,16 @@ pub trait MessageBody<S: Source>: Sized + Drop {
 
     /// The same body in the common form. No byte of it is copied.
     fn boxed(self, alloc: Global) -> Result<BoxBody<S>, NoMemory>
-        ensures { IfOk result (λ body. box_plain S.feed body ≡ plain self) };
+        ensures value { IfOk result (λ body. box_plain S.feed body ≡ plain self) }
+        ensures memory { needs_no_memory self → IsOk result };
 }
 
 impl<S: Source> MessageBody<S> for () {
-    ghost use Rattle.web_reply.specs.Bodies.{Plain.Empty as empty};
+    ghost use Rattle.web_reply.specs.ResponseBodies.{Plain.Empty as empty};
 
     ghost plain = { λ _. empty };
+
+    ghost needs_no_memory = { λ _. ⊤ };
 
     fn size(&self) -> BodySize {
         BodySize::Sized(0)
@@ -69,16 +76,18 @@ impl<S: Source> MessageBody<S> for () {
 
     fn boxed(self, _alloc: Global) -> Result<BoxBody<S>, NoMemory>
         ensures value { IfOk result (λ body. box_plain S.feed body ≡ empty) }
-        ensures ok { IsOk result }
+        ensures memory { IsOk result }
     {
         Ok(BoxBody::Empty)
     }
 }
 
 impl<S: Source> MessageBody<S> for WholeBody {
-    ghost use Rattle.web_reply.specs.Bodies.{whole_plain};
+    ghost use Rattle.web_reply.specs.ResponseBodies.{whole_plain};
 
     ghost plain = { whole_plain };
+
+    ghost needs_no_memory = { λ _. ⊤ };
 
     fn size(&self) -> BodySize {
         match self {
@@ -89,7 +98,7 @@ impl<S: Source> MessageBody<S> for WholeBody {
 
     fn boxed(self, _alloc: Global) -> Result<BoxBody<S>, NoMemory>
         ensures value { IfOk result (λ body. box_plain S.feed body ≡ whole_plain self) }
-        ensures ok { IsOk result }
+        ensures memory { IsOk result }
     {
         Ok(match self {
             WholeBody::Empty => BoxBody::Empty,
@@ -100,6 +109,8 @@ impl<S: Source> MessageBody<S> for WholeBody {
 
 impl<S: Source> MessageBody<S> for BoxBody<S> {
     ghost plain = { λ body. box_plain S.feed body };
+
+    ghost needs_no_memory = { λ _. ⊤ };
 
     fn size(&self) -> BodySize {
         match self {
@@ -112,16 +123,18 @@ impl<S: Source> MessageBody<S> for BoxBody<S> {
 
     fn boxed(self, _alloc: Global) -> Result<BoxBody<S>, NoMemory>
         ensures value { IfOk result (λ body. body ≡ self) }
-        ensures ok { IsOk result }
+        ensures memory { IsOk result }
     {
         Ok(self)
     }
 }
 
 impl<S: Source, L: MessageBody<S>, R: MessageBody<S>> MessageBody<S> for EitherBody<L, R> {
-    ghost use Rattle.web_reply.specs.Bodies.{either_plain};
+    ghost use Rattle.web_reply.specs.ResponseBodies.{OnEither, either_plain};
 
     ghost plain = { λ body. either_plain L.plain R.plain body };
+
+    ghost needs_no_memory = { λ body. OnEither L.needs_no_memory R.needs_no_memory body };
 
     fn size(&self) -> BodySize {
         match self {

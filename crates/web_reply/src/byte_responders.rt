@@ -1,8 +1,8 @@
-//! Bytes as responders. They are not copied.
+//! Byte types as responders: 200 with the bytes as `application/octet-stream`, uncopied.
 ghost use Rattle.std.specs.Prelude.{◌≡◌, IfOk};
-ghost use Rattle.web_reply.specs.Bodies.{whole_plain};
+ghost use Rattle.web_reply.specs.ResponseBodies.{whole_plain};
 ghost use Rattle.web_reply.specs.Replies.{plain_reply};
-ghost use Rattle.web_reply.specs.Responds.{bytes_reply};
+ghost use Rattle.web_reply.specs.Responders.{bytes_reply};
 
 use crate::body::WholeBody;
 use crate::responder::Responder;
@@ -14,7 +14,7 @@ use std::alloc::Global;
 use web_request::{App, HttpRequest};
 use web_texts::NoMemory;
 
-/// A response of status 200 with these bytes, of the type `application/octet-stream`.
+/// 200 with these bytes as `application/octet-stream`.
 fn bytes(alloc: Global, bytes: Bytes) -> Result<HttpResponse<WholeBody>, NoMemory>
     ensures { IfOk result (λ reply. plain_reply whole_plain reply ≡ bytes_reply bytes) }
 {

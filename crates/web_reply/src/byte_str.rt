@@ -1,10 +1,10 @@
-//! Texts in shared bytes.
+//! Text in shared bytes.
 ghost use Rattle.std.specs.Prelude.{◌≡◌, ◌↔◌, IsOk, IfOk, IfErr, IsUtf8};
 
 use bytes::Bytes;
 use std::marker::Model;
 
-/// Shared bytes that are UTF-8 text. Contracts see them as the bytes.
+/// Text in reference-counted bytes, which are UTF-8. Contracts see it as its bytes.
 #[derive(Debug, Drop)]
 pub struct ByteStr {
     text: bytes::ByteStr,
@@ -19,7 +19,7 @@ impl Model for ByteStr {
 }
 
 impl ByteStr {
-    /// The bytes as text, uncopied. They are given back exactly where they are not UTF-8.
+    /// The bytes as text, uncopied. Returns the bytes themselves if they are not UTF-8.
     pub fn of(bytes: Bytes) -> Result<ByteStr, Bytes>
         ensures ok { IfOk result (λ text. text ≡ bytes) }
         ensures utf8 { IsOk result ↔ IsUtf8 bytes }

@@ -1,22 +1,22 @@
-//! Why a reply is an error.
+//! The causes of error replies.
 
 use http::StatusCode;
 use std::fmt;
 use web_body::PayloadError;
 use web_texts::Text;
 
-/// Why a header was refused.
+/// Why a header could not be set.
 #[derive(Clone, Copy, Debug, PartialEq, Eq)]
 pub enum HttpError {
-    /// The text is no header name (RFC 9110, section 5.1).
+    /// The name is not a field name (RFC 9110, section 5.1).
     Name,
-    /// The text is no header value (RFC 9110, section 5.5).
+    /// The value is not a field value (RFC 9110, section 5.5).
     Value,
-    /// The header map is full.
+    /// The header map holds as many headers as it can.
     MaxSize,
 }
 
-/// What kind of fault input or output had.
+/// The kind of an input or output error.
 #[derive(Clone, Copy, Debug, PartialEq, Eq)]
 pub enum IoKind {
     NotFound,
@@ -24,16 +24,16 @@ pub enum IoKind {
     Other,
 }
 
-/// Why a reply is an error. It decides the status and the text of the reply.
+/// The cause of an error reply, which determines its status and its text.
 #[derive(Debug, Drop)]
 pub enum Cause {
-    /// A body could not be collected: 413 for `Overflow`, else 400.
+    /// A body could not be collected: 413 for `Overflow`, otherwise 400.
     Payload(PayloadError),
-    /// A header was refused: 500.
+    /// A header could not be set: 500.
     Http(HttpError),
-    /// Bytes are not UTF-8: 400.
+    /// A text was not UTF-8: 400.
     Utf8,
-    /// Input or output failed: 404 for `NotFound`, 403 for `PermissionDenied`, else 500.
+    /// Input or output failed: 404 for `NotFound`, 403 for `PermissionDenied`, otherwise 500.
     Io(IoKind),
     /// A cause of the application, with a status and a text of its own.
     Custom { status: StatusCode, text: Text },

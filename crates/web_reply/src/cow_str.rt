@@ -1,8 +1,8 @@
-//! Texts that are borrowed or owned.
+//! Text that is borrowed or owned.
 
 use web_texts::Text;
 
-/// A text that is borrowed or owned. It stands where actix-web takes a `Cow<str>`.
+/// Text that is borrowed or owned, for use where actix-web takes a `Cow<str>`.
 #[derive(Debug, Drop)]
 pub enum CowStr<'a> {
     Borrowed(&'a str),

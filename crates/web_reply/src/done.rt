@@ -1,4 +1,4 @@
-//! Answers without content.
+//! Replies without content.
 
 use crate::body::WholeBody;
 use crate::error::Error;
@@ -9,16 +9,20 @@ use std::alloc::Global;
 use web_request::{App, HttpRequest};
 use web_texts::NoMemory;
 
-/// What was done, or not. It answers an empty 204 (RFC 9110, section 15.3.5), or the reply to the error.
+/// The result of an action that has nothing to return. `Ok` becomes an empty 204 (RFC 9110, section
+/// 15.3.5), and takes no memory; `Err` becomes the reply to the error.
 #[derive(Debug, Drop)]
 pub struct Done<E>(pub Result<(), E>);
 
 impl<A: App, E: Into<Error> + Drop> Responder<A> for Done<E> {
-    ghost use Rattle.web_reply.specs.Responds.{DoneResponds};
+    ghost use Rattle.std.specs.Prelude.{IsOk};
+    ghost use Rattle.web_reply.specs.Responders.{DoneResponds};
 
     type Body = WholeBody;
 
     ghost responds = { λ v q r. DoneResponds E.converts v.0 r };
+
+    ghost needs_no_memory = { λ v. IsOk v.0 };
 
     fn respond_to(
         self,

@@ -1,4 +1,4 @@
-//! Errors, which turn into replies.
+//! Errors and their replies.
 ghost use Rattle.std.specs.Prelude.{◌≡◌, ℕ, IfOk, OnOk, OnErr};
 ghost use Rattle.web_reply.specs.Replies.{Fault, Reply};
 ghost use Rattle.web_reply.specs.declared.body.WholeBody.{WholeBody};
@@ -16,10 +16,10 @@ use std::marker::Model;
 use web_body::PayloadError;
 use web_texts::NoMemory;
 
-/// A result whose error turns into a reply.
+/// A result whose error becomes a reply.
 pub type Result<T, E = Error> = std::result::Result<T, E>;
 
-/// What turns into the reply to an error.
+/// An error that has a reply of its own.
 pub trait ResponseError: Display {
     /// The status of its reply.
     ghost status: { Self → ℕ };
@@ -27,13 +27,13 @@ pub trait ResponseError: Display {
     /// Its reply.
     ghost reply: { Self → Reply WholeBody };
 
-    /// What it is once its reply was given.
+    /// Its value after its reply was made.
     ghost after: { Self → Self };
 
     fn status_code(&self) -> StatusCode
         ensures { result ≡ status self.now };
 
-    /// Its reply. Where memory is wanting, it stays as it was.
+    /// Its reply. Where allocation fails, the error is unchanged.
     fn error_response(&mut self, alloc: Global) -> Result<HttpResponse<WholeBody>, NoMemory>
         ensures value { IfOk result (λ given. given ≡ reply self.old) }
         ensures after { OnOk result (self.new ≡ after self.old) }
@@ -74,7 +74,7 @@ impl ResponseError for Cause {
     }
 }
 
-/// Why there is a reply to an error in the place of the reply that was asked for.
+/// The error of a handler or of one of its arguments: a cause, from which the reply is made.
 #[derive(Debug, Drop)]
 pub struct Error {
     cause: Cause,
@@ -93,7 +93,7 @@ impl Error {
         &self.cause
     }
 
-    /// The cause, as what turns into the reply.
+    /// The cause, as the `ResponseError` that makes the reply.
     pub fn as_response_error(&self) -> &Cause
         ensures { result.now ≡ self.now.cause }
     {

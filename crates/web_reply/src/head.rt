@@ -6,18 +6,18 @@ use http::{StatusCode, Version};
 use http_header::{HeaderMap, HeaderValue};
 use std::marker::Model;
 
-/// What becomes of the connection after the response (RFC 9110, section 7.6.1).
+/// What happens to the connection after the response (RFC 9110, section 7.6.1).
 #[derive(Clone, Copy, Debug, PartialEq, Eq)]
 pub enum ConnectionType {
-    /// It is kept for a further request.
+    /// It is kept open for further requests.
     KeepAlive,
     /// It is closed.
     Close,
-    /// It is handed to another protocol (RFC 9110, section 7.8).
+    /// It is upgraded to another protocol (RFC 9110, section 7.8).
     Upgrade,
 }
 
-/// The text that stands behind the status, where it is not the standard one (RFC 9112, section 4).
+/// The reason phrase of a status line (RFC 9112, section 4), where it is not the status's own.
 ///
 /// Contracts see it as its bytes.
 #[derive(Debug, Drop)]
@@ -34,7 +34,7 @@ impl Model for Reason {
 }
 
 impl Reason {
-    /// The reason of this text. It takes no memory.
+    /// The reason phrase of this text, uncopied.
     pub fn of(text: &'static str) -> Reason
         ensures { result ≡ text.now }
     {
@@ -50,16 +50,17 @@ impl Reason {
     }
 }
 
-/// All of a response but its body.
+/// The status line and the headers of a response, with what a server needs to send them.
 #[derive(Drop)]
 pub struct ResponseHead {
     pub version: Version,
     pub status: StatusCode,
-    pub headers: HeaderMap<HeaderValue>,
-    /// The text behind the status, where it is not the standard one.
-    pub reason: Option<Reason>,
-    /// What is said of the connection. Where it is `None`, the version decides.
+    /// What happens to the connection. `None` leaves it to the version.
     pub connection: Option<ConnectionType>,
-    /// Whether the body must not be sent in chunks (RFC 9112, section 7.1), since its length is known otherwise.
+    /// Whether the body must not be sent in chunks (RFC 9112, section 7.1), since its length is
+    /// known otherwise.
     pub no_chunking: bool,
+    pub headers: HeaderMap<HeaderValue>,
+    /// The reason phrase, where it is not the status's own.
+    pub reason: Option<Reason>,
 }

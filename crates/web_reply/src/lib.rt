@@ -1,4 +1,4 @@
-//! Responses, the errors that turn into them, and the values that a handler may answer with.
+//! Responses, the errors that become responses, and the types that a handler can return.
 #![tactic(auto)]
 
 mod body;

@@ -1,6 +1,6 @@
-//! Byte and text types as bodies. What has no bytes is still a body of bytes.
-ghost use Rattle.std.specs.Prelude.{◌≡◌, IfOk, IsOk};
-ghost use Rattle.web_reply.specs.Bodies.{box_plain};
+//! Byte and text types as bodies. A value of no bytes is `Bytes` of length 0, and not `Empty`.
+ghost use Rattle.std.specs.Prelude.{◌≡◌, IfOk, IsOk, ⊤};
+ghost use Rattle.web_reply.specs.ResponseBodies.{box_plain};
 
 use crate::body::{BodySize, BoxBody, MessageBody};
 use bytes::Bytes;
@@ -9,9 +9,11 @@ use web_request::Source;
 use web_texts::{NoMemory, Text};
 
 impl<S: Source> MessageBody<S> for Bytes {
-    ghost use Rattle.web_reply.specs.Bodies.{Plain.Bytes as bytes_body};
+    ghost use Rattle.web_reply.specs.ResponseBodies.{Plain.Bytes as bytes_body};
 
     ghost plain = { λ bytes. bytes_body bytes };
+
+    ghost needs_no_memory = { λ _. ⊤ };
 
     fn size(&self) -> BodySize {
         BodySize::Sized(self.len() as u64)
@@ -19,14 +21,14 @@ impl<S: Source> MessageBody<S> for Bytes {
 
     fn boxed(self, _alloc: Global) -> Result<BoxBody<S>, NoMemory>
         ensures value { IfOk result (λ body. box_plain S.feed body ≡ bytes_body self) }
-        ensures ok { IsOk result }
+        ensures memory { IsOk result }
     {
         Ok(BoxBody::Bytes(self))
     }
 }
 
 impl<S: Source> MessageBody<S> for Vec<u8> {
-    ghost use Rattle.web_reply.specs.Bodies.{Plain.Bytes as bytes_body};
+    ghost use Rattle.web_reply.specs.ResponseBodies.{Plain.Bytes as bytes_body};
 
     ghost plain = { λ bytes. bytes_body bytes.items };
 
@@ -41,7 +43,7 @@ impl<S: Source> MessageBody<S> for Vec<u8> {
 
 impl<S: Source> MessageBody<S> for String {
     ghost use Rattle.std.specs.Prelude.{string_bytes};
-    ghost use Rattle.web_reply.specs.Bodies.{Plain.Bytes as bytes_body};
+    ghost use Rattle.web_reply.specs.ResponseBodies.{Plain.Bytes as bytes_body};
 
     ghost plain = { λ text. bytes_body (string_bytes text) };
 
@@ -55,7 +57,7 @@ impl<S: Source> MessageBody<S> for String {
 }
 
 impl<S: Source> MessageBody<S> for Text {
-    ghost use Rattle.web_reply.specs.Bodies.{Plain.Bytes as bytes_body};
+    ghost use Rattle.web_reply.specs.ResponseBodies.{Plain.Bytes as bytes_body};
 
     ghost plain = { λ text. bytes_body text };
 

@@ -1,7 +1,7 @@
-//! Values that become responses.
-ghost use Rattle.std.specs.Prelude.{◌≡◌, IfOk, IsOk};
+//! Types that a handler can return.
+ghost use Rattle.std.specs.Prelude.{◌≡◌, IfOk, IsOk, ⊤};
 ghost use Rattle.web_request.specs.Request.{Request};
-ghost use Rattle.web_reply.specs.Bodies.{Plain};
+ghost use Rattle.web_reply.specs.ResponseBodies.{Plain};
 ghost use Rattle.web_reply.specs.Replies.{Reply, plain_reply};
 
 use crate::body::{EitherBody, MessageBody, WholeBody};
@@ -12,42 +12,54 @@ use std::alloc::Global;
 use web_request::{App, HttpRequest};
 use web_texts::NoMemory;
 
-/// What becomes a response to a request, as what a handler answers does.
+/// A type that a handler can return: each of its values becomes a response.
 pub trait Responder<A: App>: Sized + Drop {
     type Body: MessageBody<A::Source>;
 
-    /// Whether this value may answer this request by this response, whose body is seen as a plain value.
+    /// Whether this value may become this response to this request. The body is seen as a plain
+    /// value.
     ghost responds: { Self → Request A.Layer A.Local A.Conn → Reply Plain → Type 0 };
 
+    /// The values that become a response without an allocation.
+    ghost needs_no_memory: { Self → Type 0 } = { λ _. ⊥ };
+
+    /// The response of this value.
     fn respond_to(
         self,
         alloc: Global,
         req: &HttpRequest<A>,
     ) -> Result<HttpResponse<Self::Body>, NoMemory>
-        ensures { IfOk result (λ reply. responds self req.now.request (plain_reply Self.Body.plain reply)) };
+        ensures responds { IfOk result (λ reply.
+            responds self req.now.request (plain_reply Self.Body.plain reply)) }
+        ensures memory { needs_no_memory self → IsOk result };
 }
 
-/// The response itself.
+/// A response is its own response.
 impl<A: App, B: MessageBody<A::Source>> Responder<A> for HttpResponse<B> {
     type Body = B;
 
     ghost responds = { λ v q r. r ≡ plain_reply B.plain v };
 
+    ghost needs_no_memory = { λ _. ⊤ };
+
     fn respond_to(self, _alloc: Global, _req: &HttpRequest<A>) -> Result<HttpResponse<B>, NoMemory>
         ensures value { IfOk result (λ reply. reply ≡ self) }
-        ensures ok { IsOk result }
+        ensures memory { IsOk result }
     {
         Ok(self)
     }
 }
 
-/// The response of the value, or an empty 404.
+/// `Some` becomes the response of its value. `None` becomes an empty 404, and takes no memory.
 impl<A: App, R: Responder<A>> Responder<A> for Option<R> {
-    ghost use Rattle.web_reply.specs.Responds.{OptionResponds};
+    ghost use Rattle.std.specs.Prelude.{MatchOption};
+    ghost use Rattle.web_reply.specs.Responders.{OptionResponds};
 
     type Body = EitherBody<R::Body, WholeBody>;
 
     ghost responds = { λ v q r. OptionResponds R.responds v q r };
+
+    ghost needs_no_memory = { λ v. MatchOption v ⊤ R.needs_no_memory };
 
     fn respond_to(
         self,
@@ -61,13 +73,16 @@ impl<A: App, R: Responder<A>> Responder<A> for Option<R> {
     }
 }
 
-/// The response of the value, or the reply to the error.
+/// `Ok` becomes the response of its value, `Err` the reply to the error.
 impl<A: App, R: Responder<A>, E: Into<Error> + Drop> Responder<A> for Result<R, E> {
-    ghost use Rattle.web_reply.specs.Responds.{ResultResponds};
+    ghost use Rattle.std.specs.Prelude.{IsOkAnd};
+    ghost use Rattle.web_reply.specs.Responders.{ResultResponds};
 
     type Body = EitherBody<R::Body, WholeBody>;
 
     ghost responds = { λ v q r. ResultResponds R.responds E.converts v q r };
+
+    ghost needs_no_memory = { λ v. IsOkAnd v R.needs_no_memory };
 
     fn respond_to(
         self,

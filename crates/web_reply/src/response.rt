@@ -1,10 +1,11 @@
 //! Responses.
-ghost use Rattle.std.specs.Prelude.{◌≡◌, ◌↔◌, IsTrue, IfOk, None, Some, option_copied};
+ghost use Rattle.std.specs.Prelude.{◌≡◌, ◌↔◌, IsTrue, IsOk, IfOk, None, Some};
+ghost use Rattle.std.specs.Option.{option_copied};
 ghost use Rattle.std.specs.Borrow.{sem};
-ghost use Rattle.web_reply.specs.Bodies.{box_plain};
-ghost use Rattle.web_reply.specs.Heads.{KeepsAlive, Upgrades};
-ghost use Rattle.web_reply.specs.Lent.{lends_head, lends_headers, lends_status};
-ghost use Rattle.web_reply.specs.Mapped.{MapsBody};
+ghost use Rattle.web_reply.specs.ResponseBodies.{box_plain};
+ghost use Rattle.web_reply.specs.ResponseHeads.{KeepsAlive, Upgrades};
+ghost use Rattle.web_reply.specs.LentParts.{lends_head, lends_headers, lends_status};
+ghost use Rattle.web_reply.specs.BodyMaps.{MapsBody};
 ghost use Rattle.web_reply.specs.Replies.{bare_reply, error_reply, plain_reply, with_body};
 
 use crate::body::{BoxBody, EitherBody, MessageBody, WholeBody};
@@ -18,31 +19,39 @@ use std::marker::Model;
 use web_request::Source;
 use web_texts::NoMemory;
 
-/// A response: a head, a body, and the cause where it is the reply to an error.
+/// A response: a head, a body and, for the reply to an error, the cause.
+///
+/// The cause stands behind a `Box`, since few responses have one.
 #[derive(Drop)]
 pub struct HttpResponse<B> {
     head: ResponseHead,
     body: B,
-    error: Option<Cause>,
+    error: Option<Box<Cause>>,
 }
 
 impl<B> Model for HttpResponse<B> {
+    ghost use Rattle.std.specs.Option.{option_map};
     ghost use Rattle.web_reply.specs.Replies.{Reply};
 
     ghost Value = { Reply B };
 
-    ghost view = { λ r. record { head = r.head; body = r.body; error = r.error } };
+    ghost view = { λ r. record {
+      head = r.head;
+      body = r.body;
+      error = option_map (λ cause. cause.value) r.error;
+    } };
 }
 
 impl HttpResponse<WholeBody> {
-    /// An empty response of HTTP/1.1 without headers.
+    /// An HTTP/1.1 response with this status, no header and an empty body.
     pub fn new(alloc: Global, status: StatusCode) -> HttpResponse<WholeBody>
         ensures { result ≡ bare_reply status WholeBody.Empty }
     {
         HttpResponse::with_body(alloc, status, WholeBody::Empty)
     }
 
-    /// The reply to an error: the status and the text of its cause, as plain text. It keeps the cause.
+    /// The reply to an error: the status of its cause, and its text as `text/plain; charset=utf-8`.
+    /// The response keeps the cause.
     pub fn from_error(alloc: Global, error: Error) -> Result<HttpResponse<WholeBody>, NoMemory>
         ensures { IfOk result (λ reply. reply ≡ error_reply error) }
     {
@@ -51,13 +60,13 @@ impl HttpResponse<WholeBody> {
         Ok(HttpResponse {
             head,
             body,
-            error: Some(cause),
+            error: Some(Box::new(alloc, cause)?),
         })
     }
 }
 
 impl<B> HttpResponse<B> {
-    /// A response of HTTP/1.1 with this body and without headers.
+    /// An HTTP/1.1 response with this status and body, and no header.
     pub fn with_body(alloc: Global, status: StatusCode, body: B) -> HttpResponse<B>
         ensures { result ≡ bare_reply status body }
     {
@@ -122,21 +131,25 @@ impl<B> HttpResponse<B> {
         &self.body
     }
 
-    /// The cause, where this is the reply to an error.
+    /// The cause, if the response was made from an error.
     pub fn error(&self) -> Option<&Cause>
         ensures { option_copied result ≡ self.now.error }
     {
-        self.error.as_ref()
+        match &self.error {
+            Some(cause) => Some(cause.as_ref()),
+            None => None,
+        }
     }
 
-    /// Whether the connection is handed to another protocol.
+    /// Whether the connection is upgraded to another protocol (RFC 9110, section 7.8).
     pub fn upgrade(&self) -> bool
         ensures { IsTrue result ↔ Upgrades self.now.head }
     {
         matches!(self.head.connection, Some(ConnectionType::Upgrade))
     }
 
-    /// Whether the connection is kept. Where nothing is said of it, it is kept in HTTP/1.1 alone.
+    /// Whether the connection is kept open. Where the head leaves it to the version, only HTTP/1.1
+    /// keeps it open (RFC 9112, section 9.3).
     pub fn keep_alive(&self) -> bool
         ensures { IsTrue result ↔ KeepsAlive self.now.head }
     {
@@ -146,7 +159,7 @@ impl<B> HttpResponse<B> {
         }
     }
 
-    /// The response with another body.
+    /// The same response with this body in place of its own.
     pub fn set_body<B2>(self, body: B2) -> HttpResponse<B2>
     where
         B: Drop,
@@ -159,7 +172,7 @@ impl<B> HttpResponse<B> {
         }
     }
 
-    /// The response without its body, and the body.
+    /// Splits the response into its head, with the empty body `()`, and its body.
     pub fn into_parts(self) -> (HttpResponse<()>, B)
         ensures rest { result.0 ≡ with_body tt self }
         ensures body { result.1 ≡ self.body }
@@ -173,7 +186,7 @@ impl<B> HttpResponse<B> {
         (rest, body)
     }
 
-    /// The response without its body.
+    /// The same response with the empty body `()`.
     pub fn drop_body(self) -> HttpResponse<()>
     where
         B: Drop,
@@ -182,7 +195,8 @@ impl<B> HttpResponse<B> {
         self.set_body(())
     }
 
-    /// The response with the head and the body that `f` makes of its own.
+    /// Passes the head and the body to `f`. The result has the body that `f` returns, and the head
+    /// as `f` leaves it.
     pub fn map_body<F: FnOnce(&mut ResponseHead, B) -> B2, B2>(self, f: F) -> HttpResponse<B2>
         requires callable { F.IsAlwaysCallable f }
         ensures parts { MapsBody F.FnOnce f self.head self.body result.head result.body }
@@ -197,7 +211,7 @@ impl<B> HttpResponse<B> {
         HttpResponse { head, body, error }
     }
 
-    /// The response with its body as the left kind.
+    /// The same response with its body as `EitherBody::Left`.
     pub fn map_into_left_body<R>(self) -> HttpResponse<EitherBody<B, R>>
         ensures { result ≡ with_body (EitherBody.Left self.body) self }
     {
@@ -208,7 +222,7 @@ impl<B> HttpResponse<B> {
         }
     }
 
-    /// The response with its body as the right kind.
+    /// The same response with its body as `EitherBody::Right`.
     pub fn map_into_right_body<L>(self) -> HttpResponse<EitherBody<L, B>>
         ensures { result ≡ with_body (EitherBody.Right self.body) self }
     {
@@ -219,14 +233,16 @@ impl<B> HttpResponse<B> {
         }
     }
 
-    /// The response with its body in the common form.
+    /// The same response with its body in the common form.
     pub fn map_into_boxed_body<S: Source>(
         self,
         alloc: Global,
     ) -> Result<HttpResponse<BoxBody<S>>, NoMemory>
     where
         B: MessageBody<S>,
-        ensures { IfOk result (λ boxed. plain_reply (λ b. box_plain S.feed b) boxed ≡ plain_reply B.plain self) }
+        ensures value { IfOk result (λ boxed.
+            plain_reply (λ b. box_plain S.feed b) boxed ≡ plain_reply B.plain self) }
+        ensures memory { B.needs_no_memory self.body → IsOk result }
     {
         let HttpResponse { head, body, error } = self;
         Ok(HttpResponse {

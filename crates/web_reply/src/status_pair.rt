@@ -1,4 +1,4 @@
-//! Values with a status of their own.
+//! Values with an explicit status.
 
 use crate::responder::Responder;
 use crate::response::HttpResponse;
@@ -7,13 +7,15 @@ use std::alloc::Global;
 use web_request::{App, HttpRequest};
 use web_texts::NoMemory;
 
-/// The response of the value, with this status.
+/// The response of the value, with this status in place of its own.
 impl<A: App, R: Responder<A>> Responder<A> for (R, StatusCode) {
-    ghost use Rattle.web_reply.specs.Responds.{StatusResponds};
+    ghost use Rattle.web_reply.specs.Responders.{StatusResponds};
 
     type Body = R::Body;
 
     ghost responds = { λ v q r. StatusResponds R.responds v.0 v.1 q r };
+
+    ghost needs_no_memory = { λ v. R.needs_no_memory v.0 };
 
     fn respond_to(
         self,

@@ -1,8 +1,9 @@
-//! Texts as responders: they are copied only where they are borrowed and not static.
+//! Text types as responders: 200 with the text as `text/plain; charset=utf-8`. Only text that is
+//! borrowed for less than `'static` is copied.
 ghost use Rattle.std.specs.Prelude.{◌≡◌, IfOk};
-ghost use Rattle.web_reply.specs.Bodies.{whole_plain};
+ghost use Rattle.web_reply.specs.ResponseBodies.{whole_plain};
 ghost use Rattle.web_reply.specs.Replies.{plain_reply};
-ghost use Rattle.web_reply.specs.Responds.{text_reply};
+ghost use Rattle.web_reply.specs.Responders.{text_reply};
 
 use crate::body::WholeBody;
 use crate::byte_str::ByteStr;
@@ -16,7 +17,7 @@ use std::alloc::Global;
 use web_request::{App, HttpRequest};
 use web_texts::{NoMemory, Text};
 
-/// A response of status 200 with these bytes, of the type `text/plain; charset=utf-8`.
+/// 200 with these bytes as `text/plain; charset=utf-8`.
 fn text(alloc: Global, bytes: Bytes) -> Result<HttpResponse<WholeBody>, NoMemory>
     ensures { IfOk result (λ reply. plain_reply whole_plain reply ≡ text_reply bytes) }
 {
@@ -84,7 +85,7 @@ impl<A: App> Responder<A> for Text {
 }
 
 impl<A: App> Responder<A> for CowStr<'_> {
-    ghost use Rattle.web_reply.specs.Texts.{cow_bytes};
+    ghost use Rattle.web_reply.specs.CowTexts.{cow_bytes};
 
     type Body = WholeBody;
 

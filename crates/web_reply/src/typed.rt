@@ -1,4 +1,4 @@
-//! Responses of one content type.
+//! Responses with a content type.
 ghost use Rattle.std.specs.Prelude.{◌≡◌, ◌∷◌, [], IfOk, IsTrue, OnOk, codes};
 ghost use Rattle.http_header.specs.FieldValue.{is_visible_text, plain_value};
 ghost use Rattle.web_reply.specs.Replies.{plain_text, typed_reply};
@@ -15,21 +15,23 @@ pub const PLAIN_TEXT: &str = "text/plain; charset=utf-8";
 
 pub const OCTET_STREAM: &str = "application/octet-stream";
 
-/// Makes the content type the one header, with room for no other: a map that grows by itself makes room for six.
+/// Inserts the content type into an empty map. It reserves room for one name first, since a map
+/// that grows by itself makes room for six.
 fn put_type(
     headers: &mut HeaderMap<HeaderValue>,
     content_type: &'static str,
 ) -> Result<(), HeaderMapError>
     requires none { headers.old ≡ [] }
     requires visible { IsTrue (is_visible_text content_type.now) }
-    ensures { OnOk result (headers.new ≡ (codes "content-type", plain_value content_type.now ∷ []) ∷ []) }
+    ensures { OnOk result
+        (headers.new ≡ (codes "content-type", plain_value content_type.now ∷ []) ∷ []) }
 {
     headers.reserve(1)?;
     headers.insert(CONTENT_TYPE, HeaderValue::from_static(content_type))?;
     Ok(())
 }
 
-/// A response of these bytes and this content type.
+/// A response with these bytes as its body and this content type as its one header.
 pub fn typed(
     alloc: Global,
     status: StatusCode,
@@ -37,7 +39,8 @@ pub fn typed(
     bytes: Bytes,
 ) -> Result<HttpResponse<WholeBody>, NoMemory>
     requires visible { IsTrue (is_visible_text content_type.now) }
-    ensures { IfOk result (λ reply. reply ≡ typed_reply status content_type.now (WholeBody.Bytes bytes)) }
+    ensures { IfOk result (λ reply.
+        reply ≡ typed_reply status content_type.now (WholeBody.Bytes bytes)) }
 {
     let mut reply = HttpResponse::with_body(alloc, status, WholeBody::Bytes(bytes));
     match put_type(reply.headers_mut(), content_type) {

@@ -1,3 +1,3 @@
-pub mod Keeping
-pub mod Readiness
-pub mod Reading
+pub mod PoolLemmas
+pub mod ReadyLayersLemmas
+pub mod ReadingLemmas

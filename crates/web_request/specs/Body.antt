@@ -1,5 +1,6 @@
 -- A body is a finite list of marks.
-use Rattle.std.specs.Prelude.{ℕ, suc, Bool, true, false, ◌&&◌, List, [], ◌∷◌, ◌++◌, map, length, nat_lt}
+use Rattle.std.specs.Prelude.{ℕ, suc, Bool, true, false, ◌&&◌, List, [], ◌∷◌, ◌++◌}
+use Rattle.std.specs.Prelude.{map, length, nat_lt}
 use Rattle.web_request.specs.declared.source.Mark.{Mark}
 use Rattle.web_request.specs.declared.source.Mark.TheVariants.{Piece, Stall, Fault}
 
@@ -12,11 +13,11 @@ is_body (Fault ∷ []) = true
 is_body (Fault ∷ x ∷ m) = false
 
 -- the bytes of the pieces, in order
-abbrev pub joined : List Mark → List ℕ
-joined [] = []
-joined (Piece b ∷ m) = b ++ joined m
-joined (Stall ∷ m) = joined m
-joined (Fault ∷ m) = joined m
+abbrev pub piece_bytes : List Mark → List ℕ
+piece_bytes [] = []
+piece_bytes (Piece b ∷ m) = b ++ piece_bytes m
+piece_bytes (Stall ∷ m) = piece_bytes m
+piece_bytes (Fault ∷ m) = piece_bytes m
 
 -- how often the body stalls
 abbrev pub stalls : List Mark → ℕ

@@ -1,4 +1,4 @@
--- What a source tells of itself, and how its answers change that.
+-- The state of a source as contracts see it, and how each result of `next` changes it.
 use Rattle.std.specs.Prelude.{◌≡◌, ℕ, ◌<◌, ◌≤◌, List, [], ◌∷◌, length, Option, None, Some}
 use Rattle.web_texts.specs.Counts.{Rose}
 use Rattle.web_request.specs.declared.source.Mark.{Mark}
@@ -7,26 +7,26 @@ use Rattle.web_request.specs.declared.source.Turn.{Turn}
 use Rattle.web_request.specs.declared.source.Turn.TheVariants.{Piece, Stall, Fault, End, NoMemory}
 
 pub record Feed : Type 0 where
-  -- the marks that are left, where the source tells them
+  -- the marks that are left, where the source states them
   pub marks : Option (List Mark)
-  -- how often it answered a fault, a stall, and how many bytes it gave
+  -- how many faults and stalls it returned, and how many bytes it gave
   pub faults : ℕ
   pub stalls : ℕ
   pub given : ℕ
-  -- how many answers it can still give before the end
+  -- how many more results it can return before the end
   pub answers : ℕ
 
--- where the marks are told, x is the first and is taken away
+-- where the marks are stated, x is the first, and is taken
 abbrev pub Takes : Mark → Option (List Mark) → Option (List Mark) → Type 0
 Takes x None new = new ≡ None
 Takes x (Some m) new = (rest : List Mark) × (m ≡ x ∷ rest) × (new ≡ Some rest)
 
--- where they are told, x is the last
+-- where they are stated, x is the last
 abbrev pub TakesLast : Mark → Option (List Mark) → Option (List Mark) → Type 0
 TakesLast x None new = new ≡ None
 TakesLast x (Some m) new = (m ≡ x ∷ []) × (new ≡ Some [])
 
--- where they are told, none is left
+-- where they are stated, none is left
 abbrev pub NoneLeft : Option (List Mark) → Option (List Mark) → Type 0
 NoneLeft None new = new ≡ None
 NoneLeft (Some m) new = (m ≡ []) × (new ≡ Some [])
@@ -67,7 +67,7 @@ pub record LacksMemory (old new : Feed) : Type 0 where
   pub untold : old.marks ≡ None
   pub marks : new.marks ≡ None
 
--- what each answer says
+-- what each result of `next` says
 abbrev pub Next : Turn → Feed → Feed → Type 0
 Next (Piece b) old new = GivesPiece b old new
 Next Stall old new = Stalls old new
@@ -75,7 +75,7 @@ Next Fault old new = Fails old new
 Next End old new = Ends old new
 Next NoMemory old new = LacksMemory old new
 
--- the bytes that an answer gives
+-- how many bytes a result of `next` gives
 abbrev pub bytes_given : Turn → ℕ
 bytes_given (Piece b) = length b
 bytes_given Stall = 0

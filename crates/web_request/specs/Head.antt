@@ -1,4 +1,4 @@
--- What is seen of the head of a request.
+-- The head of a request as contracts see it.
 use Rattle.std.specs.Prelude.{◌==◌, ◌||◌, ℕ, List, [], Option, if◌then◌else◌, is_some, length, not}
 use Rattle.http.specs.declared.version.Version.{Version}
 use Rattle.http_header.specs.FieldValue.{FieldValue}

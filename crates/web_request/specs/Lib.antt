@@ -1,8 +1,9 @@
 pub mod Shared
 pub mod Head
-pub mod Ready
+pub mod ReadyLayers
 pub mod Request
 pub mod Pool
+pub mod KeptRecords
 pub mod Body
 pub mod Feed
 pub mod Reading

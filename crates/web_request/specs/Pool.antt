@@ -1,6 +1,6 @@
--- A pool of records: what is seen of it, and what each call makes of it.
-use Rattle.std.specs.Prelude.{ℕ, ◌≡◌, ◌+◌, ◌-◌, ◌≤◌, List, [], ◌∷◌, ◌++◌, None, Bool, false, ◌&&◌, if◌then◌else◌, length, map, nat_lt, slice_index_or, take}
-use Rattle.std.specs.List.{All}
+-- A pool of records as contracts see it, and its state after each call.
+use Rattle.std.specs.Prelude.{ℕ, ◌≡◌, ◌+◌, ◌-◌, List, [], ◌∷◌, ◌++◌, None, Bool, true, ◌&&◌}
+use Rattle.std.specs.Prelude.{if◌then◌else◌, length, nat_lt, slice_index_or, take}
 use Rattle.web_request.specs.declared.config.AppConfig.{AppConfig}
 use Rattle.web_request.specs.Request.{Parts, Record}
 
@@ -14,6 +14,17 @@ pub record Pool (L : Type 0) : Type 0 where
   pub root : L
   pub config : AppConfig
 
+-- a pool that has made no record yet
+abbrev pub new_pool : {L : Type 0} → L → AppConfig → ℕ → Pool L
+new_pool root config capacity = record {
+  serials = [];
+  made = 0;
+  capacity = capacity;
+  enabled = true;
+  root = root;
+  config = config;
+}
+
 abbrev pub last_or : ℕ → List ℕ → ℕ
 last_or n xs = slice_index_or xs (length xs - 1) n
 
@@ -24,41 +35,46 @@ abbrev pub made_after : ℕ → List ℕ → ℕ
 made_after n [] = n + 1
 made_after n (x ∷ xs) = n
 
--- the number of the record that is taken next: the last that is kept, or a new one
+-- the number of the record of the next request: the one kept last, or a new one
 abbrev pub next_serial : {L : Type 0} → Pool L → ℕ
 next_serial p = last_or p.made p.serials
 
--- the pool after a record was taken
-abbrev pub taken : {L : Type 0} → Pool L → Pool L
-taken p = record p { serials = but_last p.serials; made = made_after p.made p.serials }
+-- the pool after a request was started
+abbrev pub after_start : {L : Type 0} → Pool L → Pool L
+after_start p = record p {
+  serials = but_last p.serials;
+  made = made_after p.made p.serials;
+}
 
--- whether a record that comes back is kept
+-- whether a record that is given back is kept
 abbrev pub available : {L : Type 0} → Pool L → Bool
 available p = p.enabled && nat_lt (length p.serials) p.capacity
 
--- the pool after the record of this number came back
-abbrev pub given_back : {L : Type 0} → ℕ → Pool L → Pool L
-given_back n p = record p { serials = if available p then p.serials ++ n ∷ [] else p.serials }
+-- the pool after the record with this number was given back
+abbrev pub after_give_back : {L : Type 0} → ℕ → Pool L → Pool L
+after_give_back n p = record p {
+  serials = if available p then p.serials ++ n ∷ [] else p.serials;
+}
 
--- the record of this number that a pool with this root layer and configuration makes of these parts
-abbrev pub started : {L D C : Type 0} → L → AppConfig → ℕ → Parts L D C → Record L D C
-started root config serial p = record {
-  request = record { head = p.head; params = p.params; layers = root ∷ p.layers; conn = p.conn; local = p.local; config = config };
+-- the record with this number of a request of these parts, under a root layer and a configuration
+abbrev pub new_record : {L D C : Type 0}
+    → L → AppConfig → ℕ → Parts L D C → Record L D C
+new_record root config serial p = record {
+  request = record {
+    head = p.head;
+    params = p.params;
+    layers = root ∷ p.layers;
+    conn = p.conn;
+    local = p.local;
+    config = config;
+  };
   serial = serial;
 }
 
--- nothing of an earlier request is left but its head and the configuration, which the next one replaces
+-- Nothing of an earlier request is left but its head and the configuration. The next request
+-- replaces both.
 pub record Clean {L D C : Type 0} (r : Record L D C) : Type 0 where
   pub params : r.request.params ≡ []
   pub layers : r.request.layers ≡ []
   pub conn : r.request.conn ≡ None
   pub local : r.request.local ≡ None
-
--- what holds of the records that are kept, their numbers, and the room of both lists
-pub record Keeps {L D C : Type 0} (serials : List ℕ) (kept : List (Record L D C)) (capacity : ℕ) (enabled : Bool) (room : ℕ) (places : ℕ) : Type 0 where
-  pub numbers : serials ≡ map (λ r. r.serial) kept
-  pub clean : All Clean kept
-  pub within : length serials ≤ capacity
-  pub records_fit : capacity ≤ room
-  pub numbers_fit : capacity ≤ places
-  pub off : enabled ≡ false → serials ≡ []

@@ -1,4 +1,4 @@
--- What is seen of a request, of its parts and of its record.
+-- A request, its parts and its record as contracts see them.
 use Rattle.std.specs.Prelude.{ℕ, List, Option}
 use Rattle.web_texts.specs.declared.text.Pair.{Pair}
 use Rattle.web_request.specs.declared.config.AppConfig.{AppConfig}
@@ -14,7 +14,7 @@ pub record Request (L D C : Type 0) : Type 0 where
   pub local : Option D
   pub config : AppConfig
 
--- a request before it has the root layer and the configuration
+-- a request without the root layer and the configuration
 pub record Parts (L D C : Type 0) : Type 0 where
   pub head : Head
   pub params : List Pair
@@ -22,7 +22,7 @@ pub record Parts (L D C : Type 0) : Type 0 where
   pub conn : Option C
   pub local : Option D
 
--- a request in the record of this number
+-- a request in the record with this number
 pub record Record (L D C : Type 0) : Type 0 where
   pub request : Request L D C
   pub serial : ℕ

@@ -1,4 +1,4 @@
--- What counted pointers lead to.
+-- The values behind counted pointers.
 use Rattle.std.specs.Prelude.{List, ◌∷◌, Option, None, Some, map}
 use Rattle.std.specs.declared.rc.Rc.{Rc}
 
@@ -10,7 +10,7 @@ module _ {X Z : Type 0} where
   value_of None = None
   value_of (Some r) = Some r.value
 
-  -- the first, if there is one, and those behind it
+  -- the value of the first pointer, if there is one, and those of the list
   abbrev pub values_behind : Option (Rc X Z) → List (Rc X Z) → List X
   values_behind None rs = values rs
   values_behind (Some r) rs = r.value ∷ values rs

@@ -1,17 +1,19 @@
-//! Addresses of the network.
+//! Network addresses.
 
-/// An address of IPv4 or IPv6. Where no peer is known there is none, so no value stands for 'unspecified'.
+/// An IPv4 or IPv6 address.
 #[derive(Clone, Copy, Debug, PartialEq, Eq)]
 pub enum IpAddr {
-    /// The four bytes, the first one first (RFC 791).
+    /// The four bytes in network order (RFC 791, section 3.1).
     V4([u8; 4]),
-    /// The eight groups of 16 bits, the first one first (RFC 4291).
+    /// The eight groups of 16 bits in network order (RFC 4291, section 2.2).
     V6([u16; 8]),
 }
 
-/// An address and a port.
+/// An IP address and a port.
 #[derive(Clone, Copy, Debug, PartialEq, Eq)]
 pub struct SocketAddr {
+    /// The address.
     pub ip: IpAddr,
+    /// The port.
     pub port: u16,
 }

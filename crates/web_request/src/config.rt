@@ -3,13 +3,13 @@
 use crate::address::SocketAddr;
 use web_texts::Text;
 
-/// What a worker tells its requests of itself.
+/// The settings of a worker that its requests see.
 #[derive(Debug, Drop)]
 pub struct AppConfig {
-    /// The host that the worker answers for, where a request names none.
+    /// The host name that is assumed where a request has none.
     pub host: Text,
-    /// Whether connections are encrypted, so that the scheme is `https` where a request names none.
+    /// Whether connections are encrypted, so that `https` is the scheme of a request without one.
     pub secure: bool,
-    /// Where the worker listens.
+    /// The address on which the worker listens.
     pub local_addr: SocketAddr,
 }

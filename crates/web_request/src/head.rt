@@ -8,15 +8,19 @@ use http_header::{HeaderMap, HeaderValue};
 use http_uri::Uri;
 use std::alloc::AllocError;
 
-/// What stands before the body of a request, and who sent it (RFC 9112, sections 3 and 5).
+/// The request line and the header section of a request (RFC 9112, sections 3 and 5), and the
+/// address of its peer.
 #[derive(Drop)]
 pub struct RequestHead {
-    /// The target, as parsed.
+    /// The request target (RFC 9112, section 3.2).
     pub uri: Uri,
+    /// The method (RFC 9110, section 9).
     pub method: Method,
+    /// The HTTP version.
     pub version: Version,
+    /// The header fields.
     pub headers: HeaderMap<HeaderValue>,
-    /// Where the request came from, where that is known.
+    /// The address that the request came from, if it is known.
     pub peer_addr: Option<SocketAddr>,
 }
 

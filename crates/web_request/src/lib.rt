@@ -1,4 +1,4 @@
-//! Requests, the records that hold them, and where their bodies come from.
+//! Requests, the records that hold them, and the sources of their bodies.
 #![tactic(auto)]
 
 mod address;
@@ -12,7 +12,7 @@ mod reuse;
 mod source;
 
 pub use address::{IpAddr, SocketAddr};
-pub use app::{App, Configured};
+pub use app::{App, AppLayer, NoData, PlainApp};
 pub use config::AppConfig;
 pub use head::RequestHead;
 pub use parts::RequestParts;

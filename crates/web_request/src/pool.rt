@@ -1,6 +1,7 @@
-//! The pool of records, which are used again from request to request.
-ghost use Rattle.std.specs.Prelude.{◌≡◌, ◌+◌, ◌<◌, ◌≤◌, ◌^◌, [], true, length, IfErr, IfOk, OnErr};
-ghost use Rattle.web_request.specs.Pool.{available, given_back, next_serial, started, taken};
+//! Pools of records, which serve one request after another.
+ghost use Rattle.std.specs.Prelude.{◌≡◌, ◌+◌, ◌<◌, ◌≤◌, ◌^◌, length, IfErr, IfOk, OnErr};
+ghost use Rattle.web_request.specs.Pool.{available, new_pool, next_serial, new_record};
+ghost use Rattle.web_request.specs.Pool.{after_give_back, after_start};
 
 use crate::app::App;
 use crate::config::AppConfig;
@@ -11,10 +12,11 @@ use std::marker::Model;
 use std::rc::Rc;
 use web_texts::NoMemory;
 
-/// Keeps the records of requests that are done, so that later requests use them again.
+/// Keeps the records of finished requests, so that later requests reuse their memory.
 ///
-/// Contracts see the numbers of the records that are kept, the oldest first, how many were made, how many may be kept,
-/// whether any is, and the root layer and configuration that each request has.
+/// Contracts see the numbers of the records that are kept, the oldest first; how many records were
+/// made; how many may be kept, and whether any may; and the root layer and the configuration of
+/// every request.
 #[derive(Drop)]
 pub struct HttpRequestPool<A: App> {
     root: Rc<A::Layer>,
@@ -28,20 +30,38 @@ pub struct HttpRequestPool<A: App> {
 
 impl<A: App> Model for HttpRequestPool<A> {
     ghost use Rattle.std.specs.Vec.{vec_capacity};
-    ghost use Rattle.web_request.specs.Pool.{Keeps, Pool};
+    ghost use Rattle.web_request.specs.Pool.{Pool};
+    ghost use Rattle.web_request.specs.KeptRecords.{KeptRecords};
 
     ghost Value = { Pool A.Layer };
 
-    ghost view = { λ p. record { serials = p.numbers.items; made = p.made; capacity = p.capacity; enabled = p.enabled; root = p.root.value; config = p.config.value } };
+    ghost view = { λ p. record {
+      serials = p.numbers.items;
+      made = p.made;
+      capacity = p.capacity;
+      enabled = p.enabled;
+      root = p.root.value;
+      config = p.config.value;
+    } };
 
-    ghost invariant = { λ p. Keeps p.numbers.items p.kept.items p.capacity p.enabled (vec_capacity p.kept) (vec_capacity p.numbers) × A.Layer.ready p.root.value };
+    ghost invariant = { λ p.
+        KeptRecords p.numbers.items p.kept.items p.capacity p.enabled
+        (vec_capacity p.kept) (vec_capacity p.numbers)
+        × A.Layer.ready p.root.value };
 }
 
-impl<A: App> HttpRequestPool<A> {
-    /// How many records are kept, where nothing else is said.
-    pub const DEFAULT_CAPACITY: usize = 128;
+/// The capacity of a pool where no other is chosen, in records.
+const DEFAULT_CAPACITY: usize = 128;
 
-    /// An empty pool, with room for as many records as it may keep. The closures of the root layer may be called.
+const _: () = prove!(DEFAULT_CAPACITY == 128);
+
+impl<A: App> HttpRequestPool<A> {
+    /// The capacity of a pool where no other is chosen, in records.
+    pub const DEFAULT_CAPACITY: usize = DEFAULT_CAPACITY;
+
+    /// Makes an empty pool that keeps at most `capacity` records, for which it allocates at once.
+    /// The root layer must be ready: its closures may be called. Returns `NoMemory` where an
+    /// allocation failed.
     pub fn with_capacity(
         alloc: Global,
         root: Rc<A::Layer>,
@@ -49,7 +69,7 @@ impl<A: App> HttpRequestPool<A> {
         capacity: usize,
     ) -> Result<HttpRequestPool<A>, NoMemory>
         requires ready { A.Layer.ready root.value }
-        ensures { IfOk result (λ pool. pool ≡ record { serials = []; made = 0; capacity = capacity; enabled = true; root = root.value; config = config }) }
+        ensures { IfOk result (λ pool. pool ≡ new_pool root.value config capacity) }
     {
         let config = Rc::new(alloc, config)?;
         let kept = Vec::with_capacity(alloc, capacity)?;
@@ -65,16 +85,17 @@ impl<A: App> HttpRequestPool<A> {
         })
     }
 
-    /// The last record that is kept, or a new one, with these parts behind the root layer. Where there is no memory, the
-    /// parts are handed back and the pool stays as it was.
+    /// Starts a request of these parts, in the record that was kept last, or in a new one where
+    /// none is kept. Where an allocation failed, returns the parts and leaves the pool unchanged.
     pub fn start(
         &mut self,
         alloc: Global,
         parts: RequestParts<A>,
     ) -> Result<HttpRequest<A>, (NoMemory, RequestParts<A>)>
         requires counted { self.old.made + 1 < 2 ^ 64 }
-        ensures record { IfOk result (λ request. request ≡ started self.old.root self.old.config (next_serial self.old) parts) }
-        ensures pool { IfOk result (λ _. self.new ≡ taken self.old) }
+        ensures record { IfOk result (λ request.
+            request ≡ new_record self.old.root self.old.config (next_serial self.old) parts) }
+        ensures pool { IfOk result (λ _. self.new ≡ after_start self.old) }
         ensures back { IfErr result (λ refused. refused.1 ≡ parts) }
         ensures kept { OnErr result (self.new ≡ self.old) }
         ensures made { self.new.made ≤ self.old.made + 1 }
@@ -106,10 +127,11 @@ impl<A: App> HttpRequestPool<A> {
         }
     }
 
-    /// Keeps the record as the last one where the pool is available, and else drops it. It takes no memory, and a kept
-    /// record holds neither parameters, layers, connection data nor request data.
+    /// Takes back the record of a finished request. It is kept as the last one where the pool is
+    /// available, and dropped otherwise. It allocates nothing, and a record that is kept holds no
+    /// parameters, layers, connection data or request data.
     pub fn give_back(&mut self, mut request: HttpRequest<A>)
-        ensures { self.new ≡ given_back request.serial self.old }
+        ensures { self.new ≡ after_give_back request.serial self.old }
     {
         if !self.is_available() {
             return;
@@ -125,7 +147,7 @@ impl<A: App> HttpRequestPool<A> {
         }
     }
 
-    /// Whether a record that comes back is kept.
+    /// Whether a record that is given back is kept.
     pub fn is_available(&self) -> bool
         ensures { result ≡ available self.now }
     {
@@ -140,7 +162,7 @@ impl<A: App> HttpRequestPool<A> {
         self.numbers.as_slice()
     }
 
-    /// How many records were made.
+    /// How many records the pool has made.
     pub fn made(&self) -> u64
         ensures { result ≡ self.now.made }
     {

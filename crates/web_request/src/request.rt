@@ -1,7 +1,7 @@
-//! Requests in their records.
+//! Requests.
 ghost use Rattle.std.specs.Prelude.{◌≡◌, IfErr, IfOk, OnErr, OnOk};
 ghost use Rattle.web_request.specs.Head.{head_path, head_view};
-ghost use Rattle.web_request.specs.Pool.{Clean, started};
+ghost use Rattle.web_request.specs.Pool.{Clean, new_record};
 
 use crate::app::App;
 use crate::config::AppConfig;
@@ -13,14 +13,14 @@ use std::marker::Model;
 use std::rc::Rc;
 use web_texts::{NoMemory, Pair};
 
-/// A request in its record, which a pool gives and takes back.
+/// A request in a record of an `HttpRequestPool`.
 ///
-/// Contracts see its parts as plain values, and the number of its record.
+/// Contracts see the values of its parts, and the number of its record.
 #[derive(Drop)]
 pub struct HttpRequest<A: App> {
     head: Rc<RequestHead>,
     params: Vec<Pair>,
-    /// It stands alone, so that a request without layers of its own needs no list.
+    /// Apart from the other layers, so that a request with no further layer needs no list.
     root: Option<Rc<A::Layer>>,
     layers: Vec<Rc<A::Layer>>,
     conn: Option<Rc<A::Conn>>,
@@ -32,46 +32,58 @@ pub struct HttpRequest<A: App> {
 impl<A: App> Model for HttpRequest<A> {
     ghost use Rattle.web_request.specs.Shared.{value_of, values_behind};
     ghost use Rattle.web_request.specs.Head.{head_view};
-    ghost use Rattle.web_request.specs.Ready.{AllReady};
+    ghost use Rattle.web_request.specs.ReadyLayers.{AllReady};
     ghost use Rattle.web_request.specs.Request.{Record};
 
     ghost Value = { Record A.Layer A.Local A.Conn };
 
-    ghost view = { λ r. record { request = record { head = head_view r.head.value; params = r.params.items; layers = values_behind r.root r.layers.items; conn = value_of r.conn; local = r.local; config = r.config.value }; serial = r.serial } };
+    ghost view = { λ r. record {
+      request = record {
+        head = head_view r.head.value;
+        params = r.params.items;
+        layers = values_behind r.root r.layers.items;
+        conn = value_of r.conn;
+        local = r.local;
+        config = r.config.value;
+      };
+      serial = r.serial;
+    } };
 
     ghost invariant = { λ r. AllReady A.Layer.ready (values_behind r.root r.layers.items) };
 }
 
 impl<A: App> HttpRequest<A> {
+    /// The head.
     pub fn head(&self) -> &RequestHead
         ensures { head_view result.now ≡ self.now.request.head }
     {
         &self.head
     }
 
-    /// The path of the target, without the query (RFC 3986, section 3.3). It is `/` where the target has none, and empty
-    /// where the target is an authority alone.
+    /// The path of the target without the query (RFC 3986, section 3.3): `/` where the target has
+    /// no path, and empty where the target is an authority alone.
     pub fn path(&self) -> &str
         ensures { result.now ≡ head_path self.now.request.head }
     {
         self.head.uri.path()
     }
 
-    /// The parameters that a router matched, as they were handed in. Their values are not decoded.
+    /// The parameters that a router matched in the path, not decoded.
     pub fn match_info(&self) -> &[Pair]
         ensures { result.now ≡ self.now.request.params }
     {
         self.params.as_slice()
     }
 
-    /// The number of the record that holds the request. A pool gives each record that it makes the next number, from 0.
+    /// The number of the record that holds the request. A pool numbers the records that it makes
+    /// from 0.
     pub fn serial(&self) -> u64
         ensures { result ≡ self.now.serial }
     {
         self.serial
     }
 
-    /// A record in new memory. Where there is none, the parts are handed back.
+    /// Makes a record in new memory. Where an allocation failed, returns the parts.
     pub(crate) fn fresh(
         alloc: Global,
         root: &Rc<A::Layer>,
@@ -80,7 +92,8 @@ impl<A: App> HttpRequest<A> {
         parts: RequestParts<A>,
     ) -> Result<HttpRequest<A>, (NoMemory, RequestParts<A>)>
         requires ready { A.Layer.ready root.now.value }
-        ensures ok { IfOk result (λ r. r ≡ started root.now.value config.now.value serial parts) }
+        ensures ok { IfOk result
+            (λ r. r ≡ new_record root.now.value config.now.value serial parts) }
         ensures back { IfErr result (λ e. e.1 ≡ parts) }
     {
         let Ok(root) = root.clone() else {
@@ -121,7 +134,7 @@ impl<A: App> HttpRequest<A> {
         })
     }
 
-    /// Takes away what the request left, and keeps the room of its lists.
+    /// Drops what the request left, and keeps the capacity of its lists.
     pub(crate) fn clean(&mut self)
         ensures clean { Clean self.new }
         ensures serial { self.new.serial ≡ self.old.serial }
@@ -133,8 +146,8 @@ impl<A: App> HttpRequest<A> {
         self.local = None;
     }
 
-    /// Makes a clean record one with these parts. Where there is no memory, they are handed back and it stays clean.
-    #[inline(never)]
+    /// Puts a request of these parts into a clean record. Where an allocation failed, returns the
+    /// parts and leaves the record clean.
     pub(crate) fn fill(
         &mut self,
         alloc: Global,
@@ -144,7 +157,8 @@ impl<A: App> HttpRequest<A> {
     ) -> Result<(), (NoMemory, RequestParts<A>)>
         requires clean { Clean self.old }
         requires ready { A.Layer.ready root.now.value }
-        ensures ok { OnOk result (self.new ≡ started root.now.value config.now.value self.old.serial parts) }
+        ensures ok { OnOk result
+            (self.new ≡ new_record root.now.value config.now.value self.old.serial parts) }
         ensures back { IfErr result (λ e. e.1 ≡ parts) }
         ensures kept { OnErr result (self.new ≡ self.old) }
     {

@@ -1,4 +1,4 @@
-//! Writing into memory that an earlier request left.
+//! Reuse of the memory of an earlier request.
 ghost use Rattle.std.specs.Prelude.{◌≡◌, ◌+◌, ◌≤◌, ◌++◌, length, IfErr, OnOk, OnErr};
 ghost use Rattle.std.specs.Vec.{vec_capacity};
 
@@ -6,8 +6,8 @@ use crate::head::RequestHead;
 use std::alloc::Global;
 use std::rc::Rc;
 
-/// Writes a head into the memory of an earlier one, or into new memory where that one is shared. Where there is no
-/// memory, the head is handed back and the earlier one stays.
+/// Writes a head over an earlier one, or into a new allocation where that one is shared. Where the
+/// allocation failed, returns the head and leaves the earlier one.
 pub fn put_head(
     alloc: Global,
     place: &mut Rc<RequestHead>,
@@ -32,7 +32,7 @@ pub fn put_head(
     }
 }
 
-/// Moves values into a list that has room for them.
+/// Moves values to the end of a list whose capacity suffices.
 pub fn move_into<T>(list: &mut Vec<T>, mut values: Vec<T>)
 where
     T: Drop,

@@ -1,11 +1,16 @@
-//! Tests of the whole: what each script is answered, inputs and outputs that fail at each call in turn, words that are no
-//! command, and the order in which the futures of a handler are polled.
+//! Tests of the command: scripts with the texts of their replies, refused scripts, inputs and
+//! outputs that fail at each call in turn, arguments that are no command, and the order in which
+//! the futures of a handler are polled.
 //!
-//! The wanted texts are written by hand from what the program promises.
+//! The expected texts are written by hand from what the program promises.
 #![tactic(auto)]
 
 #[cfg(test)]
-mod ends;
+mod commands;
+#[cfg(test)]
+mod faults;
+#[cfg(test)]
+mod interrupts;
 #[cfg(test)]
 mod poll_order;
 #[cfg(test)]

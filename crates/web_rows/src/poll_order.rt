@@ -1,51 +1,30 @@
-//! In what order the futures of handlers are polled.
+//! The order in which the futures of handlers are polled.
 ghost use Rattle.std.specs.Prelude.{⊤};
 
-use crate::replies::words;
+use crate::commands::{SERVE, assert_run, words};
 use bytes::Bytes;
 use std::alloc::Global;
-use std::cell::RefCell;
+use std::cell::Cell;
 use std::process::Abort;
 use std::rc::Rc;
-use std::test::Fail;
 use web_body::{Poll, Step};
 use web_cli::{MemInput, Picked, PlainOutput, Status, run};
 use web_request::NoMemory;
 use web_worker::Handler;
 
-/// Numbers of exchanges, the oldest first. Who writes them and the test have it together.
-type Log = Rc<RefCell<Vec<u64>>>;
+/// The labels that were written, as the digits of a number, the oldest first.
+type Log = Rc<Cell<u64>>;
 
-fn log(alloc: Global) -> Result<Log, NoMemory> {
-    Ok(Rc::new(alloc, RefCell::new(Vec::new(alloc)))?)
-}
-
-/// Sees that these numbers were written.
-fn is_written(rt: &impl Abort, log: &Log, want: &[u64]) {
-    match log.try_borrow() {
-        Ok(numbers) => assert!(rt; numbers.as_slice() == want),
-        Err(_) => panic!(rt; "the log is in use"),
-    }
-}
-
-/// Writes a number, and answers whether there was room.
-fn write(log: &Log, number: u64) -> bool {
-    match log.try_borrow_mut() {
-        Ok(mut numbers) => numbers.push(number).is_ok(),
-        Err(_) => false,
-    }
-}
-
-/// Writes its number at each poll. It stalls once before it answers.
+/// A future that writes its label, one digit, at each poll. It stalls once.
 #[derive(Drop)]
-struct Writing {
-    number: u64,
+struct LoggedFuture {
+    label: u64,
     log: Log,
     stalled: bool,
     finished: bool,
 }
 
-impl Poll for Writing {
+impl Poll for LoggedFuture {
     ghost use Rattle.std.specs.Prelude.{[]};
 
     type Output = Bytes;
@@ -61,10 +40,8 @@ impl Poll for Writing {
     }
 
     fn poll(&mut self, _alloc: Global) -> Step<Bytes> {
-        if !write(&self.log, self.number) {
-            self.finished = true;
-            return Step::NoMemory;
-        }
+        self.log
+            .set(self.log.get().wrapping_mul(10).wrapping_add(self.label));
         if !self.stalled {
             self.stalled = true;
             return Step::Pending;
@@ -74,30 +51,30 @@ impl Poll for Writing {
     }
 }
 
-/// Answers by futures that write the number of their `Wait`.
+/// A handler whose futures write the number of their `Wait`.
 #[derive(Drop)]
-struct Writer {
+struct LoggingHandler {
     log: Log,
 }
 
-impl Handler<Picked> for Writer {
+impl Handler<Picked> for LoggingHandler {
     ghost use Rattle.std.specs.Prelude.{None};
 
     type Output = Bytes;
 
-    type Future = Writing;
+    type Future = LoggedFuture;
 
     ghost answers = { λ h picked n y. ⊤ };
 
     ghost calls = { λ h. None };
 
-    fn call(&mut self, _alloc: Global, picked: Picked) -> Result<Writing, NoMemory> {
-        let number = match picked {
+    fn call(&mut self, _alloc: Global, picked: Picked) -> Result<LoggedFuture, NoMemory> {
+        let label = match picked {
             Picked::Wait(wait) => wait.0,
             _ => 9,
         };
-        Ok(Writing {
-            number,
+        Ok(LoggedFuture {
+            label,
             log: Rc::clone(&self.log)?,
             stalled: false,
             finished: false,
@@ -105,20 +82,28 @@ impl Handler<Picked> for Writer {
     }
 }
 
-#[test]
-fn futures_of_the_handler_are_polled_in_the_order_of_the_plan(rt: HostRuntime) -> Result<(), Fail> {
-    let alloc = rt.alloc();
-    let log = log(alloc)?;
-    let mut writer = Writer {
-        log: Rc::clone(&log)?,
-    };
-    let words = words(alloc, &["serve", "--pool=0"])?;
-    let script =
-        b"exchange GET /wait\nparam delay 0\nexchange GET /wait\nparam delay 1\nplan 0 1 0 1\n";
-    let mut input = MemInput::new(script, 3, &[]);
+/// Two exchanges with the labels 1 and 2, each of which is polled twice.
+const SCRIPT: &[u8] =
+    b"exchange GET /wait\nparam delay 1\nexchange GET /wait\nparam delay 2\nplan 0 1 0 1\n";
+
+/// Serves the script by a handler, and compares the status.
+fn serve_with(rt: &impl Abort, alloc: Global, mut handler: LoggingHandler) {
+    let words = words(rt, alloc, SERVE);
+    let mut input = MemInput::new(SCRIPT, 3, &[]);
     let mut output = PlainOutput::new(alloc);
-    let status = run(alloc, &words, &mut input, &mut output, &mut writer);
-    assert_eq!(rt; status, Status::Done);
-    is_written(&rt, &log, &[0, 1, 0, 1]);
-    Ok(())
+    let status = run(alloc, &words, &mut input, &mut output, &mut handler);
+    assert_run(
+        rt,
+        "two waits",
+        (status, !output.as_slice().is_empty()),
+        Status::Done,
+    );
+}
+
+#[test]
+fn futures_of_the_handler_are_polled_in_the_order_of_the_plan(rt: HostRuntime) {
+    let log = Rc::new(rt.alloc(), Cell::new(0)).expect(&rt, "memory");
+    let shared = Rc::clone(&log).expect(&rt, "memory");
+    serve_with(&rt, rt.alloc(), LoggingHandler { log: shared });
+    assert_eq!(rt; log.get(), 1212);
 }

@@ -1,5 +1,5 @@
-pub mod Blocks
-pub mod Numbered
-pub mod Places
-pub mod Splitting
-pub mod Values
+pub mod LastCutLemmas
+pub mod NumberedListLemmas
+pub mod PositionLemmas
+pub mod SplitLemmas
+pub mod DigitsLemmas

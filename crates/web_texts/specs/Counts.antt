@@ -1,6 +1,7 @@
--- Counts of what happened, as of faults.
+-- Counts of events, as of faults.
 use Rattle.std.specs.Prelude.{◌≡◌, ◌<◌, ◌⊎◌, ℕ}
 
--- A count rose. One that stands at the last value of a u64 counts as risen, since it can't go on.
+-- A count rose. One that stays at the greatest u64 counts as risen, since it cannot rise further.
 abbrev pub Rose : ℕ → ℕ → Type 0
-Rose old new = (old < new) ⊎ ((old ≡ 18446744073709551615) × (new ≡ 18446744073709551615))
+Rose old new =
+    (old < new) ⊎ ((old ≡ 18446744073709551615) × (new ≡ 18446744073709551615))

@@ -1,4 +1,4 @@
-//! Copies that may find no memory.
+//! Copies whose allocation may fail.
 ghost use Rattle.std.specs.Prelude.{◌≡◌, IfOk};
 
 use crate::memory::NoMemory;
@@ -6,7 +6,7 @@ use std::alloc::Global;
 
 /// A value that can be copied. It stands where Rust has a `Clone` that cannot fail.
 pub trait Duplicate: Drop {
-    /// A value equal to this one.
+    /// Returns an equal value, or `NoMemory` where allocation failed.
     fn duplicate(&self, alloc: Global) -> Result<Self, NoMemory>
         ensures { IfOk result (λ copy. copy ≡ self.now) };
 }

@@ -1,4 +1,4 @@
-//! Lists.
+//! Lists that can be compared, ordered and hashed.
 ghost use Rattle.std.specs.Prelude.{◌≡◌, ◌++◌, ◌∷◌, [], IfErr, OnErr, OnOk};
 
 use std::alloc::AllocFailed;
@@ -6,7 +6,7 @@ use std::cmp::Ordering;
 use std::hash::{Hash, Hasher};
 use std::marker::Model;
 
-/// A list, which contracts see as a list. Where a type of this repository is compared, ordered or hashed by its lists, it
+/// A list, which contracts see as a list. A type that is compared, ordered or hashed by its lists
 /// holds this in place of a `Vec`.
 #[derive(Debug, Drop)]
 pub struct Items<T> {
@@ -25,13 +25,14 @@ impl<T> Model for Items<T> {
 }
 
 impl<T> Items<T> {
-    /// The list of these items. It takes no memory, and neither does `into_vec`.
+    /// Makes a list of the items of a `Vec`. It allocates nothing.
     pub fn of(items: Vec<T>) -> Self
         ensures { result ≡ items.items }
     {
         Items { items }
     }
 
+    /// The items as a `Vec`. It allocates nothing.
     pub fn into_vec(self) -> Vec<T>
         ensures { result.items ≡ self }
     {
@@ -39,13 +40,15 @@ impl<T> Items<T> {
         items
     }
 
+    /// The items, borrowed.
     pub fn as_slice(&self) -> &[T]
         ensures { result.now ≡ self.now }
     {
         self.items.as_slice()
     }
 
-    /// Puts an item at the end. Where memory is wanting, the item comes back and the list is as before.
+    /// Adds an item at the end. Where allocation failed, returns the item and leaves the list
+    /// unchanged.
     pub fn push(&mut self, item: T) -> Result<(), AllocFailed<T>>
         ensures ok { OnOk result (self.new ≡ self.old ++ item ∷ []) }
         ensures err { IfErr result (λ refused. refused.value ≡ item) }

@@ -1,6 +1,8 @@
-//! What every crate of Rothveng needs: want of memory, texts, lists, digits and cuts at a byte.
+//! What every crate of Rothveng needs: failed allocations, texts, lists, decimal numbers, and
+//! splitting at a byte.
 #![tactic(auto)]
 
+mod bytes;
 mod cut;
 mod digits;
 mod duplicate;
@@ -8,8 +10,9 @@ mod items;
 mod memory;
 mod text;
 
-pub use cut::{cut_first, split_first};
-pub use digits::{number_of, read_digits};
+pub use bytes::bytes_equal;
+pub use cut::{cut_first, split_once_at};
+pub use digits::{next_digit, number_of, read_digits};
 pub use duplicate::Duplicate;
 pub use items::Items;
 pub use memory::{Fail, NoMemory};

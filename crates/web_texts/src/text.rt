@@ -1,4 +1,4 @@
-//! Texts and pairs of them.
+//! Texts, and pairs of them.
 ghost use Rattle.std.specs.Prelude.{◌≡◌, string_bytes, IfOk};
 
 use crate::duplicate::Duplicate;
@@ -9,7 +9,7 @@ use std::fmt;
 use std::hash::{Hash, Hasher};
 use std::marker::Model;
 
-/// A text of any length, which contracts see as its UTF-8 bytes.
+/// A text of any length. Contracts see its UTF-8 bytes.
 #[derive(Debug, Drop)]
 pub struct Text {
     text: String,
@@ -24,7 +24,7 @@ impl Model for Text {
 }
 
 impl Text {
-    /// A copy of the text.
+    /// Copies a text. Returns `NoMemory` where allocation failed.
     pub fn of(alloc: Global, text: &str) -> Result<Text, NoMemory>
         ensures { IfOk result (λ made. made ≡ text.now) }
     {
@@ -33,13 +33,14 @@ impl Text {
         })
     }
 
+    /// The text, borrowed.
     pub fn as_str(&self) -> &str
         ensures { result.now ≡ self.now }
     {
         self.text.as_str()
     }
 
-    /// The text itself. It takes no memory.
+    /// The text as a `String`. It allocates nothing.
     pub fn into_string(self) -> String
         ensures { string_bytes result ≡ self }
     {
@@ -111,7 +112,8 @@ impl PartialOrd for Text {
 
     ghost partial_cmp = { as_partial_cmp (slice_cmp nat_cmp) };
 
-    ghost laws = { partial_order_from_own_ties (Prim.search (comparing, rules)) (Prim.search (comparing, rules)) };
+    ghost laws = { partial_order_from_own_ties (Prim.search (comparing, rules))
+        (Prim.search (comparing, rules)) };
 
     fn partial_cmp(&self, other: &Text) -> Option<Ordering> {
         Some(self.cmp(other))
@@ -142,10 +144,12 @@ impl fmt::Display for Text {
     }
 }
 
-/// A name and its value, as of a parameter of a path or of a form.
+/// A name and a value, as of a parameter of a path or a field of a form.
 #[derive(Debug, Drop, PartialEq, Eq, PartialOrd, Ord, Hash)]
 pub struct Pair {
+    /// The name.
     pub name: Text,
+    /// The value.
     pub value: Text,
 }
 

@@ -1,12 +1,14 @@
-pub mod Called
-pub mod Calling
-pub mod Calls
-pub mod Counting
-pub mod Eaches
-pub mod Flying
-mod Going
-pub mod Isolating
-pub mod Outcomes
-pub mod Places
-pub mod Same
-pub mod Stepping
+pub mod PlanCallsLemmas
+pub mod HandlerCallsLemmas
+pub mod CallsFunctionLemmas
+pub mod RecordsMadeLemmas
+pub mod NumberedPairsLemmas
+pub mod PlanProgressLemmas
+mod StageLemmas
+pub mod IsolationLemmas
+pub mod OutcomeFunctionsLemmas
+pub mod FlightAtLemmas
+pub mod SamePromiseLemmas
+pub mod PollStepLemmas
+pub mod PollEffectLemmas
+mod PlanEndLemmas

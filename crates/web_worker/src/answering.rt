@@ -1,33 +1,35 @@
-//! Outcomes of what arguments and handlers answered.
+//! Outcomes of the values and errors that arguments and handlers give.
 ghost use Rattle.std.specs.Prelude.{IfOk};
-ghost use Rattle.web_reply.specs.Bodies.{box_plain};
+ghost use Rattle.web_reply.specs.ResponseBodies.{box_plain};
 ghost use Rattle.web_reply.specs.Replies.{plain_reply};
-ghost use Rattle.web_reply.specs.Responds.{Refuses};
-ghost use Rattle.web_worker.specs.Endings.{EndsAs, ending_of};
+ghost use Rattle.web_reply.specs.Responders.{Refuses};
+ghost use Rattle.web_worker.specs.Outcomes.{OutcomeMeets, outcome_view};
 
 use crate::outcome::Outcome;
 use std::alloc::Global;
 use web_reply::{BoxBody, Error, HttpResponse, Responder};
 use web_request::{App, HttpRequest, NoMemory};
 
-/// The response of a value, with its body in the common form.
+/// The response to a request with this value.
 fn respond<A: App, R: Responder<A>>(
     alloc: Global,
     value: R,
     request: &HttpRequest<A>,
 ) -> Result<HttpResponse<BoxBody<A::Source>>, NoMemory>
-    ensures { IfOk result (λ reply. R.responds value request.now.request (plain_reply (box_plain A.Source.feed) reply)) }
+    ensures { IfOk result (λ reply.
+        R.responds value request.now.request (plain_reply (box_plain A.Source.feed) reply)) }
 {
     value.respond_to(alloc, request)?.map_into_boxed_body(alloc)
 }
 
-/// The outcome of what a handler answered.
-pub fn answer<A: App, R: Responder<A>>(
+/// The outcome of an exchange whose handler gave this value.
+pub fn response_outcome<A: App, R: Responder<A>>(
     alloc: Global,
     value: R,
     request: &HttpRequest<A>,
 ) -> Outcome<A>
-    ensures { EndsAs (λ reply. R.responds value request.now.request reply) (ending_of A.Source.feed result) }
+    ensures { OutcomeMeets (λ reply. R.responds value request.now.request reply)
+        (outcome_view A.Source.feed result) }
 {
     match respond(alloc, value, request) {
         Ok(reply) => Outcome::Reply(reply),
@@ -35,21 +37,23 @@ pub fn answer<A: App, R: Responder<A>>(
     }
 }
 
-/// The reply to a refusal, with its body in the common form.
-fn error_reply<A: App, E: Into<Error>>(
+/// The response to a request whose arguments failed with this error.
+fn error_response<A: App, E: Into<Error>>(
     alloc: Global,
-    refusal: E,
+    error: E,
 ) -> Result<HttpResponse<BoxBody<A::Source>>, NoMemory>
-    ensures { IfOk result (λ reply. Refuses E.converts refusal (plain_reply (box_plain A.Source.feed) reply)) }
+    ensures { IfOk result (λ reply.
+        Refuses E.converts error (plain_reply (box_plain A.Source.feed) reply)) }
 {
-    HttpResponse::from_error(alloc, refusal.into())?.map_into_boxed_body(alloc)
+    HttpResponse::from_error(alloc, error.into())?.map_into_boxed_body(alloc)
 }
 
-/// The outcome of arguments that were refused.
-pub fn refuse<A: App, E: Into<Error>>(alloc: Global, refusal: E) -> Outcome<A>
-    ensures { EndsAs (λ reply. Refuses E.converts refusal reply) (ending_of A.Source.feed result) }
+/// The outcome of an exchange whose arguments failed with this error.
+pub fn error_outcome<A: App, E: Into<Error>>(alloc: Global, error: E) -> Outcome<A>
+    ensures { OutcomeMeets (λ reply. Refuses E.converts error reply)
+        (outcome_view A.Source.feed result) }
 {
-    match error_reply::<A, E>(alloc, refusal) {
+    match error_response::<A, E>(alloc, error) {
         Ok(reply) => Outcome::Reply(reply),
         Err(_) => Outcome::NoMemory,
     }

@@ -1,4 +1,4 @@
-//! A request and its body, as they come to a worker.
+//! Exchanges: requests and their bodies, as they come to a worker.
 
 use std::marker::Model;
 use std::rc::Rc;
@@ -6,27 +6,38 @@ use web_body::Payload;
 use web_request::{App, Pair, RequestHead, RequestParts};
 
 /// A request and its body, before a worker has made a record of it.
-///
-/// Its layers stand above the worker's root layer, the nearest last.
 #[derive(Drop)]
 pub struct Exchange<A: App> {
     pub head: RequestHead,
+    /// The parameters of the matched path, by name.
     pub params: Vec<Pair>,
+    /// The layers above the worker's root layer, the nearest to the handler last.
     pub layers: Vec<Rc<A::Layer>>,
+    /// The data of the connection.
     pub conn: Option<Rc<A::Conn>>,
+    /// The data of the request alone.
     pub local: Option<A::Local>,
     pub body: Payload<A::Source>,
 }
 
 impl<A: App> Model for Exchange<A> {
     ghost use Rattle.web_request.specs.Head.{head_view};
-    ghost use Rattle.web_request.specs.Ready.{AllReady};
+    ghost use Rattle.web_request.specs.ReadyLayers.{AllReady};
     ghost use Rattle.web_request.specs.Shared.{values, value_of};
-    ghost use Rattle.web_worker.specs.Exchanges.{Asked};
+    ghost use Rattle.web_worker.specs.Exchanges.{ExchangeView};
 
-    ghost Value = { Asked A.Source A.Layer A.Local A.Conn };
+    ghost Value = { ExchangeView A.Source A.Layer A.Local A.Conn };
 
-    ghost view = { λ x. record { parts = record { head = head_view x.head; params = x.params.items; layers = values x.layers.items; conn = value_of x.conn; local = x.local }; body = x.body } };
+    ghost view = { λ x. record {
+      parts = record {
+        head = head_view x.head;
+        params = x.params.items;
+        layers = values x.layers.items;
+        conn = value_of x.conn;
+        local = x.local;
+      };
+      body = x.body;
+    } };
 
     ghost invariant = { λ x. AllReady A.Layer.ready (values x.layers.items) };
 }

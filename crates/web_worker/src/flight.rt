@@ -1,140 +1,196 @@
 //! How far an exchange has come.
-ghost use Rattle.std.specs.Prelude.{◌≡◌};
-ghost use Rattle.web_worker.specs.Pooled.{KeepsNone};
+ghost use Rattle.std.specs.Prelude.{◌≡◌, Option, None, Some};
+ghost use Rattle.web_worker.specs.Exchanges.{FlightView, flight_view};
+ghost use Rattle.web_worker.specs.Flights.{flight_outcome};
+ghost use Rattle.web_worker.specs.RecordsMade.{KeepsNone};
 
 use crate::exchange::Exchange;
 use crate::handler::Handler;
 use crate::outcome::Outcome;
+use crate::setting::Serves;
 use std::marker::Model;
 use std::mem;
-use web_body::Poll;
 use web_extract::FromRequest;
 use web_reply::Responder;
 use web_request::{App, HttpRequest, HttpRequestPool};
 
-/// A request in its record, with the future that it waits for.
+/// The future that an exchange in flight waits for.
 #[derive(Drop)]
-pub struct InFlight<A: App, F: Poll> {
-    pub request: HttpRequest<A>,
-    pub future: F,
-}
-
-impl<A: App, F: Poll> Model for InFlight<A, F> {
-    ghost use Rattle.web_worker.specs.Exchanges.{Held};
-
-    ghost Value = { Held A.Layer A.Local A.Conn F };
-
-    ghost view = { λ h. record { record_of = h.request; future = h.future } };
+pub enum Work<U, W> {
+    /// The future of its arguments.
+    Extracting(U),
+    /// The future of the handler that was called with them.
+    Handling(W),
 }
 
 /// How far an exchange has come.
 #[derive(Drop)]
-pub enum Stage<X, U, W, O> {
-    /// No entry of the plan named it yet.
+pub enum Stage<X, R, U, W, O> {
+    /// It was not polled yet.
     Waiting(X),
-    /// Its arguments are being made.
-    Extracting(U),
-    /// Its handler was called.
-    Handling(W),
+    /// It has a record, and waits for a future.
+    InFlight(R, Work<U, W>),
     Answered(O),
+}
+
+impl<X: Drop, R: Drop, U: Drop, W: Drop, O: Drop> Stage<X, R, U, W, O> {
+    ghost use Rattle.std.specs.Prelude.{◌≡◌, None, Some};
+    ghost use Rattle.web_worker.specs.Stages.{answer_in, exchange_in, request_in, work_changed};
+
+    /// The exchange that waits here.
+    pub(crate) fn into_waiting(self) -> Option<X>
+        ensures { result ≡ exchange_in self }
+    {
+        match self {
+            Stage::Waiting(exchange) => Some(exchange),
+            Stage::InFlight(_, _) | Stage::Answered(_) => None,
+        }
+    }
+
+    /// The request of an exchange in flight.
+    pub(crate) fn into_request(self) -> Option<R>
+        ensures { result ≡ request_in self }
+    {
+        match self {
+            Stage::InFlight(request, _) => Some(request),
+            Stage::Waiting(_) | Stage::Answered(_) => None,
+        }
+    }
+
+    /// What an answered exchange came to.
+    pub(crate) fn into_answer(self) -> Option<O>
+        ensures { result ≡ answer_in self }
+    {
+        match self {
+            Stage::Answered(answer) => Some(answer),
+            Stage::Waiting(_) | Stage::InFlight(_, _) => None,
+        }
+    }
+
+    /// Puts the handler's future in the place of that of the arguments.
+    pub(crate) fn start_handling(&mut self, future: W)
+        ensures { self.new ≡ work_changed self.old (Work.Handling future) }
+    {
+        match self {
+            Stage::InFlight(_, work) => *work = Work::Handling(future),
+            Stage::Waiting(_) | Stage::Answered(_) => {}
+        }
+    }
+
+    /// Puts this stage in the place of the present one.
+    pub(crate) fn put(&mut self, next: Stage<X, R, U, W, O>)
+        ensures { self.new ≡ next }
+    {
+        *self = next;
+    }
 }
 
 /// The stage of an exchange with these arguments and this handler.
 pub type StageOf<A, Args, H> = Stage<
     Exchange<A>,
-    InFlight<A, <Args as FromRequest<A>>::Future>,
-    InFlight<A, <H as Handler<Args>>::Future>,
+    HttpRequest<A>,
+    <Args as FromRequest<A>>::Future,
+    <H as Handler<Args>>::Future,
     Outcome<A>,
 >;
 
-/// An exchange under way, whose future is not finished. Contracts see it as its stage.
+/// An exchange under way, for `poll_one` and `serve_flights`.
+///
+/// It is made of an exchange, is polled, and holds the exchange's outcome once it is answered.
 #[derive(Drop)]
 pub struct Flight<A: App, Args: FromRequest<A>, H: Handler<Args>> {
     pub(crate) stage: StageOf<A, Args, H>,
 }
 
 impl<A: App, Args: FromRequest<A>, H: Handler<Args>> Model for Flight<A, Args, H> {
-    ghost use Rattle.web_worker.specs.Endings.{stage_view};
-    ghost use Rattle.web_worker.specs.Exchanges.{FlightView, IsUnfinished};
+    ghost use Rattle.web_worker.specs.Exchanges.{FlightView, IsUnfinished, flight_view};
 
     ghost Value = { FlightView A.Source A.Layer A.Local A.Conn Args.Future H.Future };
 
-    ghost view = { λ f. stage_view A.Source.feed f.stage };
+    ghost view = { λ f. flight_view A.Source.feed f.stage };
 
-    ghost invariant = { λ f. IsUnfinished Args.Future.is_finished H.Future.is_finished f.stage };
+    ghost invariant = { λ f. IsUnfinished Args.Future.is_finished H.Future.is_finished
+        (flight_view A.Source.feed f.stage) };
 }
 
 impl<A: App, Args: FromRequest<A>, H: Handler<Args>> Flight<A, Args, H> {
     ghost use Rattle.std.specs.Prelude.{◌≡◌};
+    ghost use Rattle.std.specs.Option.{option_map};
     ghost use Rattle.web_request.specs.Pool.{Pool};
-    ghost use Rattle.web_worker.specs.Answers.{rules_of};
-    ghost use Rattle.web_worker.specs.Endings.{ending_of};
-    ghost use Rattle.web_worker.specs.Exchanges.{request_of};
-    ghost use Rattle.web_worker.specs.Flown.{Lands};
-    ghost use Rattle.web_worker.specs.Polls.{is_open};
-    ghost use Rattle.web_worker.specs.Pooled.{KeepsNone};
+    ghost use Rattle.web_worker.specs.Exchanges.{FlightView};
+    ghost use Rattle.web_worker.specs.Flights.{AnswerMayCome, answer_of, flight_outcome, is_open};
+    ghost use Rattle.web_worker.specs.Outcomes.{outcome_view};
+    ghost use Rattle.web_worker.specs.RecordsMade.{KeepsNone};
 
     /// A flight that waits for its first poll.
     pub fn new(exchange: Exchange<A>) -> Flight<A, Args, H>
-        ensures { result ≡ Stage.Waiting exchange }
+        ensures { result ≡ FlightView.Waiting exchange }
     {
         Flight {
             stage: Stage::Waiting(exchange),
         }
     }
 
-    /// Whether it is unanswered, so that a poll goes on with it.
+    /// The outcome of the exchange, where it is answered.
+    pub fn outcome(&self) -> Option<&Outcome<A>>
+        ensures { option_map (λ o. outcome_view A.Source.feed o.now) result ≡ answer_of self.now }
+    {
+        match &self.stage {
+            Stage::Answered(outcome) => Some(outcome),
+            Stage::Waiting(_) | Stage::InFlight(_, _) => None,
+        }
+    }
+
+    /// The outcome of the exchange, `Outcome::Unfinished` where it is not answered.
+    ///
+    /// The record of an unanswered flight is dropped, and not given back to the worker's pool.
+    pub fn into_outcome(self) -> Outcome<A>
+        ensures { outcome_view A.Source.feed result ≡ flight_outcome self }
+    {
+        match self.stage.into_answer() {
+            Some(outcome) => outcome,
+            None => Outcome::Unfinished,
+        }
+    }
+
+    /// Whether it is not answered yet.
     pub(crate) fn is_open(&self) -> bool
         ensures { result ≡ is_open self.now }
     {
         match &self.stage {
-            Stage::Waiting(_) | Stage::Extracting(_) | Stage::Handling(_) => true,
+            Stage::Waiting(_) | Stage::InFlight(_, _) => true,
             Stage::Answered(_) => false,
         }
     }
 
-    /// What the flight came to, where the plan is at its end. A record that it still holds is given back.
-    pub(crate) fn take_outcome(&mut self, pool: &mut HttpRequestPool<A>) -> Outcome<A>
+    /// Answers an open flight with `Outcome::Unfinished` and gives its record back.
+    pub(crate) fn end(&mut self, pool: &mut HttpRequestPool<A>)
     where
         H::Output: Responder<A>,
         requires { KeepsNone pool.old }
         ensures pool { pool.new ≡ pool.old }
-        ensures lands { (handler : H) (worker : Pool A.Layer) → Lands (rules_of Args.means Args.Error.converts (H.answers handler) H.Output.responds)
-            (request_of worker) A.Source.feed Args.Future.gives H.Future.gives self.old (ending_of A.Source.feed result) }
+        ensures answered { self.new ≡ FlightView.Answered (flight_outcome self.old) }
+        ensures may_come { (handler : H) (worker : Pool A.Layer)
+            → AnswerMayCome (⟦<H as Serves<A, Args>>⟧.setting handler worker) self.old }
     {
-        match &mut self.stage {
-            Stage::Waiting(_) => Outcome::Unfinished,
-            Stage::Answered(outcome) => mem::replace(outcome, Outcome::NoMemory),
-            Stage::Extracting(_) => {
-                give_back(&mut self.stage, pool);
-                Outcome::Unfinished
-            }
-            Stage::Handling(_) => {
-                give_back(&mut self.stage, pool);
-                Outcome::Unfinished
-            }
+        if self.is_open() {
+            store_outcome(pool, &mut self.stage, Outcome::Unfinished);
         }
     }
 }
 
-/// Gives back the record that a stage holds.
-fn give_back<A: App, U: Poll, W: Poll>(
-    stage: &mut Stage<Exchange<A>, InFlight<A, U>, InFlight<A, W>, Outcome<A>>,
+/// Answers an exchange in its place, and gives the record that it held back.
+pub(crate) fn store_outcome<A: App, U: Drop, W: Drop>(
     pool: &mut HttpRequestPool<A>,
+    stage: &mut Stage<Exchange<A>, HttpRequest<A>, U, W, Outcome<A>>,
+    outcome: Outcome<A>,
 )
     requires { KeepsNone pool.old }
     ensures pool { pool.new ≡ pool.old }
-    ensures stage { stage.new ≡ Stage.Answered Outcome.NoMemory }
+    ensures stage { stage.new ≡ Stage.Answered outcome }
 {
-    match mem::replace(stage, Stage::Answered(Outcome::NoMemory)) {
-        Stage::Extracting(held) => {
-            let InFlight { request, future: _ } = held;
-            pool.give_back(request);
-        }
-        Stage::Handling(held) => {
-            let InFlight { request, future: _ } = held;
-            pool.give_back(request);
-        }
-        Stage::Waiting(_) | Stage::Answered(_) => {}
+    let before = mem::replace(stage, Stage::Answered(outcome));
+    if let Some(request) = before.into_request() {
+        pool.give_back(request);
     }
 }

@@ -1,46 +1,50 @@
-//! Handlers, which answer the arguments of an exchange.
+//! Handlers, which are called with the arguments of an exchange.
 ghost use Rattle.std.specs.Prelude.{◌≡◌, ℕ, List, Option, IfOk, None, ⊤, false};
-ghost use Rattle.web_worker.specs.Handling.{Grows, Within};
+ghost use Rattle.web_worker.specs.HandlerPromises.{Grows, SamePromises, Within};
 
 use std::alloc::Global;
 use web_body::Poll;
 use web_request::NoMemory;
 
-/// What answers the arguments of an exchange.
+/// Turns the arguments of an exchange into a value that responds to it.
 ///
-/// A handler may tell the list of its calls. No call changes what it promises to answer.
+/// A call returns a future of that value. No call changes what the handler promises for later
+/// ones. For contracts, a handler may keep the list of the arguments that it was called with.
 pub trait Handler<Args> {
     type Output: Drop;
 
     type Future: Poll<Output = Self::Output>;
 
-    /// Whether these arguments may be answered by this value after this number of polls that answer `Pending`.
+    /// Whether, called with these arguments, it may give this value after this number of polls
+    /// that return `Pending`.
     ghost answers: { Self → Args → ℕ → Self.Output → Type 0 };
 
-    /// The arguments that it was called with, the oldest first, where it tells them.
+    /// The arguments that it was called with, the oldest first, where it keeps them.
     ghost calls: { Self → Option (List Args) };
 
     /// What it needs in order to be called.
     ghost ready: { Self → Type 0 } = { λ _. ⊤ };
 
-    /// Begins to answer the arguments.
+    /// Begins to serve an exchange with these arguments.
+    ///
+    /// `Err(NoMemory)` if an allocation failed; the exchange is then answered with
+    /// `Outcome::NoMemory`.
     fn call(&mut self, alloc: Global, args: Args) -> Result<Self::Future, NoMemory>
         requires { ready self.old }
         ensures ready { ready self.new }
         ensures fresh { IfOk result (λ f. Self.Future.is_finished f ≡ false) }
         ensures answers { IfOk result (λ f. Within (Self.Future.gives f) (answers self.old args)) }
-        ensures kept { (x : Args) → Within (answers self.new x) (answers self.old x) }
-        ensures same { (x : Args) → Within (answers self.old x) (answers self.new x) }
-        ensures told { Grows result args (calls self.old) (calls self.new) };
+        ensures same_promises { SamePromises (answers self.old) (answers self.new) }
+        ensures calls { Grows result args (calls self.old) (calls self.new) };
 }
 
-/// A handler that calls a closure, and tells no list of its calls.
+/// A handler that calls a closure. It keeps no list of its calls.
 #[derive(Drop)]
 pub struct FnHandler<F>(pub F);
 
 impl<Args, T: Drop, W: Poll<Output = T>, F: Fn(Args) -> Result<W, NoMemory>> Handler<Args>
     for FnHandler<F> {
-    ghost use Rattle.web_worker.specs.Handling.{FnAnswers, MakesFresh};
+    ghost use Rattle.web_worker.specs.HandlerPromises.{FnAnswers, MakesFresh};
 
     type Output = T;
 

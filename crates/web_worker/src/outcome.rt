@@ -1,4 +1,4 @@
-//! What becomes of an exchange.
+//! What became of an exchange.
 
 use web_reply::{BoxBody, HttpResponse};
 use web_request::App;
@@ -6,9 +6,10 @@ use web_request::App;
 /// What became of an exchange.
 #[derive(Drop)]
 pub enum Outcome<A: App> {
+    /// It was answered with this response.
     Reply(HttpResponse<BoxBody<A::Source>>),
-    /// The plan names the exchange too seldom for an answer.
+    /// No response was ready when the plan was over, or when the outcome was taken.
     Unfinished,
-    /// Memory was wanting at one of its polls.
+    /// An allocation failed in one of its polls, which ended the exchange.
     NoMemory,
 }

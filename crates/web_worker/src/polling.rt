@@ -1,215 +1,208 @@
 //! One poll of one exchange.
-ghost use Rattle.std.specs.Prelude.{◌≡◌, ◌+◌, ◌<◌, ◌^◌, Some, false, true, slice_get};
-ghost use Rattle.web_request.specs.Pool.{Pool};
-ghost use Rattle.web_worker.specs.Answers.{rules_of};
-ghost use Rattle.web_worker.specs.Endings.{Ending.NoMemory as lost, stage_view};
-ghost use Rattle.web_worker.specs.Exchanges.{Held, IsUnfinished, request_of};
-ghost use Rattle.web_worker.specs.Flights.{Polled};
-ghost use Rattle.web_worker.specs.Handling.{Within};
-ghost use Rattle.web_worker.specs.Polls.{EffectAt, IsIdle, PollsAt, Steps};
-ghost use Rattle.web_worker.specs.Pooled.{KeepsNone, Makes, is_waiting, may_make};
-ghost use Rattle.web_worker.specs.Progress.{arguments_after, handler_after};
-ghost use Rattle.web_worker.specs.Told.{Calls, IsPast};
+ghost use Rattle.std.specs.Prelude.{◌≡◌, ◌+◌, ◌<◌, ◌^◌, IfOk, IfSome, IsNone, IsSome, List, Ok};
+ghost use Rattle.std.specs.Prelude.{Option, Some, false, slice_get};
+ghost use Rattle.web_request.specs.declared.source.Mark.{Mark};
+ghost use Rattle.web_request.specs.Pool.{Pool, after_start, new_record, next_serial};
+ghost use Rattle.web_request.specs.Request.{Record};
+ghost use Rattle.web_body.specs.Payload.{payload_feed};
+ghost use Rattle.web_extract.specs.Extracts.{Extracts};
+ghost use Rattle.web_worker.specs.Exchanges.{ExchangeView, FlightView, IsUnfinished, flight_view};
+ghost use Rattle.web_worker.specs.HandlerPromises.{SamePromises};
+ghost use Rattle.web_worker.specs.PollOne.{CallEffectAt, EffectAt, FlightPoll, IsIdle, PollsAt};
+ghost use Rattle.web_worker.specs.RecordsMade.{KeepsNone, Makes, may_make};
+ghost use Rattle.web_worker.specs.StagePolls.{ArgumentsPoll, HandlerPoll, IsStart};
+ghost use Rattle.web_worker.specs.Stages.{request_in};
 
-use crate::answering::{answer, refuse};
-use crate::exchange::Exchange;
-use crate::flight::{Flight, InFlight, Stage, StageOf};
+use crate::answering::{error_outcome, response_outcome};
+use crate::flight::{Flight, Stage, StageOf, Work, store_outcome};
 use crate::handler::Handler;
 use crate::outcome::Outcome;
-use crate::progress::Progress;
+use crate::setting::Serves;
 use crate::worker::Worker;
 use std::alloc::Global;
 use std::mem;
-use web_body::{Poll, Step};
+use web_body::{Payload, Poll, Step};
 use web_extract::FromRequest;
 use web_reply::Responder;
-use web_request::{App, HttpRequest, HttpRequestPool};
+use web_request::{App, HttpRequest, HttpRequestPool, NoMemory, RequestParts};
 
-/// Polls the handler's future, and gives the outcome where its value is there or memory is wanting.
+/// Polls the handler's future of an exchange that waits for it.
 fn poll_handler<A: App, Args: FromRequest<A>, H: Handler<Args>>(
     alloc: Global,
-    request: &HttpRequest<A>,
-    future: &mut H::Future,
-) -> Option<Outcome<A>>
+    pool: &mut HttpRequestPool<A>,
+    stage: &mut StageOf<A, Args, H>,
+)
 where
     H::Output: Responder<A>,
-    requires unfinished { H.Future.is_finished future.old ≡ false }
-    ensures unfinished { IsUnfinished Args.Future.is_finished H.Future.is_finished (handler_after A.Source.feed request.now future.new result) }
-    ensures past { IsPast (handler_after {U = Args.Future} A.Source.feed request.now future.new result) }
-    ensures polled { (handler : H) (worker : Pool A.Layer) → Polled (rules_of Args.means Args.Error.converts (H.answers handler) H.Output.responds)
-        (request_of worker) A.Source.feed Args.Future.gives H.Future.gives (Stage.Handling (record { record_of = request.now; future = future.old }))
-        (handler_after A.Source.feed request.now future.new result) }
+    requires none_kept { KeepsNone pool.old }
+    requires unfinished { IsUnfinished Args.Future.is_finished H.Future.is_finished
+        (flight_view A.Source.feed stage.old) }
+    ensures pool { pool.new ≡ pool.old }
+    ensures unfinished { IsUnfinished Args.Future.is_finished H.Future.is_finished
+        (flight_view A.Source.feed stage.new) }
+    ensures polled { (handler : H) (worker : Pool A.Layer)
+        → HandlerPoll (⟦<H as Serves<A, Args>>⟧.setting handler worker)
+        (flight_view A.Source.feed stage.old) (flight_view A.Source.feed stage.new) }
 {
-    match future.poll(alloc) {
-        Step::Pending => None,
-        Step::Ready(value) => Some(answer(alloc, value, request)),
-        Step::NoMemory => Some(Outcome::NoMemory),
+    match stage {
+        Stage::InFlight(request, work) => match work {
+            Work::Handling(future) => match future.poll(alloc) {
+                Step::Pending => {}
+                Step::Ready(value) => {
+                    let outcome = response_outcome(alloc, value, request);
+                    store_outcome(pool, stage, outcome);
+                }
+                Step::NoMemory => store_outcome(pool, stage, Outcome::NoMemory),
+            },
+            Work::Extracting(_) => {}
+        },
+        Stage::Waiting(_) | Stage::Answered(_) => {}
     }
 }
 
-/// Polls the arguments, and calls and polls the handler where they are there.
+/// Calls the handler with the arguments of an exchange, and polls its future in the same turn.
+fn call_handler<A: App, Args: FromRequest<A>, H: Handler<Args>>(
+    alloc: Global,
+    pool: &mut HttpRequestPool<A>,
+    handler: &mut H,
+    stage: &mut StageOf<A, Args, H>,
+    args: Args,
+)
+where
+    H::Output: Responder<A>,
+    requires none_kept { KeepsNone pool.old }
+    requires ready { H.ready handler.old }
+    requires in_flight { IsSome (request_in stage.old) }
+    ensures pool { pool.new ≡ pool.old }
+    ensures ready { H.ready handler.new }
+    ensures same_promises { SamePromises (H.answers handler.old) (H.answers handler.new) }
+    ensures unfinished { IsUnfinished Args.Future.is_finished H.Future.is_finished
+        (flight_view A.Source.feed stage.new) }
+    ensures called { (worker : Pool A.Layer) (q : Record A.Layer A.Local A.Conn) (f : Args.Future)
+        → request_in stage.old ≡ Some q → Args.Future.gives f 0 (Ok args)
+        → ArgumentsPoll (⟦<H as Serves<A, Args>>⟧.setting handler.old worker)
+        (FlightView.Extracting (record { record_of = q; future = f }))
+        (flight_view A.Source.feed stage.new)
+        (H.calls handler.old) (H.calls handler.new) }
+{
+    match handler.call(alloc, args) {
+        Ok(future) => {
+            stage.start_handling(future);
+            poll_handler::<A, Args, H>(alloc, pool, stage);
+        }
+        Err(_) => store_outcome(pool, stage, Outcome::NoMemory),
+    }
+}
+
+/// Polls the arguments of an exchange that waits for them, and calls the handler with them where
+/// they are there.
 fn poll_arguments<A: App, Args: FromRequest<A>, H: Handler<Args>>(
     alloc: Global,
-    handler: &mut H,
-    request: &HttpRequest<A>,
-    future: &mut Args::Future,
-) -> Progress<H::Future, Outcome<A>>
-where
-    H::Output: Responder<A>,
-    requires unfinished { Args.Future.is_finished future.old ≡ false }
-    requires ready { H.ready handler.old }
-    ensures ready { H.ready handler.new }
-    ensures kept { (x : Args) → Within (H.answers handler.new x) (H.answers handler.old x) }
-    ensures same { (x : Args) → Within (H.answers handler.old x) (H.answers handler.new x) }
-    ensures unfinished { IsUnfinished Args.Future.is_finished H.Future.is_finished (arguments_after A.Source.feed request.now future.new result) }
-    ensures told { (worker : Pool A.Layer) → Calls (rules_of Args.means Args.Error.converts (H.answers handler.old) H.Output.responds)
-        (request_of worker) A.Source.feed Args.Future.gives (Stage.Extracting (record { record_of = request.now; future = future.old }))
-        (arguments_after A.Source.feed request.now future.new result) (H.calls handler.old) (H.calls handler.new) }
-    ensures polled { (worker : Pool A.Layer) → Polled (rules_of Args.means Args.Error.converts (H.answers handler.old) H.Output.responds)
-        (request_of worker) A.Source.feed Args.Future.gives H.Future.gives (Stage.Extracting (record { record_of = request.now; future = future.old }))
-        (arguments_after A.Source.feed request.now future.new result) }
-{
-    match future.poll(alloc) {
-        Step::Pending => Progress::Pending,
-        Step::Ready(Ok(args)) => match handler.call(alloc, args) {
-            Ok(mut answer) => match poll_handler::<A, Args, H>(alloc, request, &mut answer) {
-                None => Progress::Called(answer),
-                Some(outcome) => Progress::Done(outcome),
-            },
-            Err(_) => Progress::Done(Outcome::NoMemory),
-        },
-        Step::Ready(Err(refusal)) => Progress::Done(refuse(alloc, refusal)),
-        Step::NoMemory => Progress::Done(Outcome::NoMemory),
-    }
-}
-
-/// Takes a record for an exchange, and polls its arguments for the first time. Where memory is wanting, the stage stays as
-/// it is.
-#[inline(always)]
-fn take_off<A: App, Args: FromRequest<A>, H: Handler<Args>>(
-    alloc: Global,
     pool: &mut HttpRequestPool<A>,
     handler: &mut H,
-    exchange: Exchange<A>,
     stage: &mut StageOf<A, Args, H>,
 )
 where
     H::Output: Responder<A>,
-    requires lost { stage_view A.Source.feed stage.old ≡ Stage.Answered lost }
     requires none_kept { KeepsNone pool.old }
-    requires room { pool.old.made + 1 < 2 ^ 64 }
     requires ready { H.ready handler.old }
-    ensures unfinished { IsUnfinished Args.Future.is_finished H.Future.is_finished stage.new }
-    ensures makes { Makes (Stage.Waiting exchange) (stage_view A.Source.feed stage.new) pool.old pool.new }
+    requires unfinished { IsUnfinished Args.Future.is_finished H.Future.is_finished
+        (flight_view A.Source.feed stage.old) }
+    ensures pool { pool.new ≡ pool.old }
     ensures ready { H.ready handler.new }
-    ensures kept { (x : Args) → Within (H.answers handler.new x) (H.answers handler.old x) }
-    ensures same { (x : Args) → Within (H.answers handler.old x) (H.answers handler.new x) }
-    ensures told { Calls (rules_of Args.means Args.Error.converts (H.answers handler.old) H.Output.responds)
-        (request_of pool.old) A.Source.feed Args.Future.gives (Stage.Waiting exchange) (stage_view A.Source.feed stage.new) (H.calls handler.old) (H.calls handler.new) }
-    ensures polled { Polled (rules_of Args.means Args.Error.converts (H.answers handler.old) H.Output.responds)
-        (request_of pool.old) A.Source.feed Args.Future.gives H.Future.gives (Stage.Waiting exchange) (stage_view A.Source.feed stage.new) }
+    ensures same_promises { SamePromises (H.answers handler.old) (H.answers handler.new) }
+    ensures unfinished { IsUnfinished Args.Future.is_finished H.Future.is_finished
+        (flight_view A.Source.feed stage.new) }
+    ensures polled { (worker : Pool A.Layer)
+        → ArgumentsPoll (⟦<H as Serves<A, Args>>⟧.setting handler.old worker)
+        (flight_view A.Source.feed stage.old) (flight_view A.Source.feed stage.new)
+        (H.calls handler.old) (H.calls handler.new) }
 {
-    let (parts, mut payload) = exchange.into_parts();
-    let Ok(request) = pool.start(alloc, parts) else {
-        return;
-    };
-    match Args::from_request(alloc, &request, &mut payload) {
-        Ok(mut future) => {
-            match poll_arguments::<A, Args, H>(alloc, handler, &request, &mut future) {
-                Progress::Pending => *stage = Stage::Extracting(InFlight { request, future }),
-                Progress::Called(future) => *stage = Stage::Handling(InFlight { request, future }),
-                Progress::Done(outcome) => {
-                    pool.give_back(request);
-                    *stage = Stage::Answered(outcome);
+    match stage {
+        Stage::InFlight(_, work) => match work {
+            Work::Extracting(future) => match future.poll(alloc) {
+                Step::Pending => {}
+                Step::Ready(Ok(args)) => {
+                    call_handler::<A, Args, H>(alloc, pool, handler, stage, args);
                 }
-            }
-        }
-        Err(_) => pool.give_back(request),
+                Step::Ready(Err(error)) => {
+                    store_outcome(pool, stage, error_outcome(alloc, error));
+                }
+                Step::NoMemory => store_outcome(pool, stage, Outcome::NoMemory),
+            },
+            Work::Handling(_) => {}
+        },
+        Stage::Waiting(_) | Stage::Answered(_) => {}
     }
 }
 
-/// Brings an exchange on in its place, after a poll of its arguments.
-#[inline(never)]
-fn go_on<A: App, U: Poll, W: Poll>(
-    pool: &mut HttpRequestPool<A>,
-    stage: &mut Stage<Exchange<A>, InFlight<A, U>, InFlight<A, W>, Outcome<A>>,
-    progress: Progress<W, Outcome<A>>,
-)
-    requires { KeepsNone pool.old }
-    ensures pool { pool.new ≡ pool.old }
-    ensures stage { (h : Held A.Layer A.Local A.Conn U) → stage.old ≡ Stage.Extracting h
-        → stage_view A.Source.feed stage.new ≡ arguments_after A.Source.feed h.record_of h.future progress }
-{
-    match progress {
-        Progress::Pending => {}
-        Progress::Called(future) => {
-            let extracting = mem::replace(stage, Stage::Answered(Outcome::NoMemory));
-            if let Stage::Extracting(held) = extracting {
-                let InFlight { request, future: _ } = held;
-                *stage = Stage::Handling(InFlight { request, future });
-            }
-        }
-        Progress::Done(outcome) => {
-            let extracting = mem::replace(stage, Stage::Answered(outcome));
-            if let Stage::Extracting(held) = extracting {
-                let InFlight { request, future: _ } = held;
-                pool.give_back(request);
-            }
-        }
-    }
-}
-
-/// Answers an exchange in its place, after a poll of its handler.
-#[inline(never)]
-fn settle<A: App, U: Poll, W: Poll>(
-    pool: &mut HttpRequestPool<A>,
-    stage: &mut Stage<Exchange<A>, InFlight<A, U>, InFlight<A, W>, Outcome<A>>,
-    outcome: Option<Outcome<A>>,
-)
-    requires { KeepsNone pool.old }
-    ensures pool { pool.new ≡ pool.old }
-    ensures stage { (h : Held A.Layer A.Local A.Conn W) → stage.old ≡ Stage.Handling h
-        → stage_view A.Source.feed stage.new ≡ handler_after A.Source.feed h.record_of h.future outcome }
-{
-    if let Some(outcome) = outcome {
-        let handling = mem::replace(stage, Stage::Answered(outcome));
-        if let Stage::Handling(held) = handling {
-            let InFlight { request, future: _ } = held;
-            pool.give_back(request);
-        }
-    }
-}
-
-/// The first poll of an exchange in its place. It is kept out of the later ones, which then need little of the stack.
-#[inline(never)]
-fn depart<A: App, Args: FromRequest<A>, H: Handler<Args>>(
+/// A record of these parts, where there is memory for it.
+fn make_record<A: App>(
     alloc: Global,
     pool: &mut HttpRequestPool<A>,
-    handler: &mut H,
+    parts: RequestParts<A>,
+) -> Option<HttpRequest<A>>
+    requires room { pool.old.made + 1 < 2 ^ 64 }
+    ensures record { IfSome result (λ request.
+        request ≡ new_record pool.old.root pool.old.config (next_serial pool.old) parts) }
+    ensures pool { IfSome result (λ _. pool.new ≡ after_start pool.old) }
+    ensures kept { IsNone result → pool.new ≡ pool.old }
+{
+    match pool.start(alloc, parts) {
+        Ok(request) => Some(request),
+        Err(_) => None,
+    }
+}
+
+/// The future of the arguments of this request.
+fn make_arguments<A: App, Args: FromRequest<A>>(
+    alloc: Global,
+    request: &HttpRequest<A>,
+    mut payload: Payload<A::Source>,
+) -> Result<Args::Future, NoMemory>
+    ensures fresh { IfOk result (λ f. Args.Future.is_finished f ≡ false) }
+    ensures extracts { IfOk result (λ f. (left : Option (List Mark)) × Extracts
+        (Args.means request.now.request) (Args.Future.gives f)
+        (payload_feed A.Source.feed payload).marks left) }
+{
+    Args::from_request(alloc, request, &mut payload)
+}
+
+/// Takes a record for an exchange that waits for its first poll, and makes the future of its
+/// arguments.
+#[inline(never)]
+fn start_flight<A: App, Args: FromRequest<A>, H: Handler<Args>>(
+    alloc: Global,
+    pool: &mut HttpRequestPool<A>,
     stage: &mut StageOf<A, Args, H>,
 )
 where
     H::Output: Responder<A>,
-    requires waiting { is_waiting (stage_view A.Source.feed stage.old) ≡ true }
     requires none_kept { KeepsNone pool.old }
     requires room { pool.old.made + 1 < 2 ^ 64 }
-    requires ready { H.ready handler.old }
-    ensures ready { H.ready handler.new }
-    ensures kept { (x : Args) → Within (H.answers handler.new x) (H.answers handler.old x) }
-    ensures same { (x : Args) → Within (H.answers handler.old x) (H.answers handler.new x) }
-    ensures unfinished { IsUnfinished Args.Future.is_finished H.Future.is_finished stage.new }
-    ensures steps { Steps (rules_of Args.means Args.Error.converts (H.answers handler.old) H.Output.responds)
-        (request_of pool.old) A.Source.feed Args.Future.gives H.Future.gives (stage_view A.Source.feed stage.old) (stage_view A.Source.feed stage.new)
-        pool.old pool.new (H.calls handler.old) (H.calls handler.new) }
+    ensures unfinished { IsUnfinished Args.Future.is_finished H.Future.is_finished
+        (flight_view A.Source.feed stage.new) }
+    ensures makes { (x : ExchangeView A.Source A.Layer A.Local A.Conn) → stage.old ≡ Stage.Waiting x
+        → Makes (FlightView.Waiting x) (flight_view A.Source.feed stage.new) pool.old pool.new }
+    ensures starts { (handler : H) (x : ExchangeView A.Source A.Layer A.Local A.Conn)
+        → stage.old ≡ Stage.Waiting x
+        → IsStart (⟦<H as Serves<A, Args>>⟧.setting handler pool.old) x
+        (flight_view A.Source.feed stage.new) }
 {
     let waiting = mem::replace(stage, Stage::Answered(Outcome::NoMemory));
-    if let Stage::Waiting(exchange) = waiting {
-        take_off::<A, Args, H>(alloc, pool, handler, exchange, stage);
+    if let Some(exchange) = waiting.into_waiting() {
+        let (parts, payload) = exchange.into_parts();
+        if let Some(request) = make_record(alloc, pool, parts) {
+            match make_arguments::<A, Args>(alloc, &request, payload) {
+                Ok(future) => stage.put(Stage::InFlight(request, Work::Extracting(future))),
+                Err(_) => pool.give_back(request),
+            }
+        }
     }
 }
 
 /// One poll of an exchange in its place.
-fn advance<A: App, Args: FromRequest<A>, H: Handler<Args>>(
+fn poll_stage<A: App, Args: FromRequest<A>, H: Handler<Args>>(
     alloc: Global,
     pool: &mut HttpRequestPool<A>,
     handler: &mut H,
@@ -218,40 +211,32 @@ fn advance<A: App, Args: FromRequest<A>, H: Handler<Args>>(
 where
     H::Output: Responder<A>,
     requires none_kept { KeepsNone pool.old }
-    requires room { pool.old.made + may_make (Some (stage_view A.Source.feed stage.old)) < 2 ^ 64 }
+    requires room { pool.old.made + may_make (Some (flight_view A.Source.feed stage.old)) < 2 ^ 64 }
     requires ready { H.ready handler.old }
-    requires unfinished { IsUnfinished Args.Future.is_finished H.Future.is_finished stage.old }
+    requires unfinished { IsUnfinished Args.Future.is_finished H.Future.is_finished
+        (flight_view A.Source.feed stage.old) }
     ensures ready { H.ready handler.new }
-    ensures kept { (x : Args) → Within (H.answers handler.new x) (H.answers handler.old x) }
-    ensures same { (x : Args) → Within (H.answers handler.old x) (H.answers handler.new x) }
-    ensures unfinished { IsUnfinished Args.Future.is_finished H.Future.is_finished stage.new }
-    ensures steps { Steps (rules_of Args.means Args.Error.converts (H.answers handler.old) H.Output.responds)
-        (request_of pool.old) A.Source.feed Args.Future.gives H.Future.gives (stage_view A.Source.feed stage.old) (stage_view A.Source.feed stage.new)
+    ensures same_promises { SamePromises (H.answers handler.old) (H.answers handler.new) }
+    ensures unfinished { IsUnfinished Args.Future.is_finished H.Future.is_finished
+        (flight_view A.Source.feed stage.new) }
+    ensures polls { FlightPoll (⟦<H as Serves<A, Args>>⟧.setting handler.old pool.old)
+        (flight_view A.Source.feed stage.old) (flight_view A.Source.feed stage.new)
         pool.old pool.new (H.calls handler.old) (H.calls handler.new) }
 {
     match stage {
-        Stage::Waiting(_) => depart::<A, Args, H>(alloc, pool, handler, stage),
-        Stage::Extracting(held) => {
-            let progress = poll_arguments::<A, Args, H>(
-                alloc,
-                handler,
-                &held.request,
-                &mut held.future,
-            );
-            match progress {
-                Progress::Pending => {}
-                progress => go_on(pool, stage, progress),
-            }
+        Stage::Waiting(_) => {
+            start_flight::<A, Args, H>(alloc, pool, stage);
+            poll_arguments::<A, Args, H>(alloc, pool, handler, stage);
         }
-        Stage::Handling(held) => {
-            let outcome = poll_handler::<A, Args, H>(alloc, &held.request, &mut held.future);
-            settle(pool, stage, outcome);
-        }
+        Stage::InFlight(_, work) => match work {
+            Work::Extracting(_) => poll_arguments::<A, Args, H>(alloc, pool, handler, stage),
+            Work::Handling(_) => poll_handler::<A, Args, H>(alloc, pool, stage),
+        },
         Stage::Answered(_) => {}
     }
 }
 
-/// Polls the flight of this number, where it is there.
+/// Polls the flight of this number, where there is one.
 fn poll_at<A: App, Args: FromRequest<A>, H: Handler<Args>>(
     alloc: Global,
     pool: &mut HttpRequestPool<A>,
@@ -265,27 +250,27 @@ where
     requires room { pool.old.made + may_make (slice_get flights.old k) < 2 ^ 64 }
     requires ready { H.ready handler.old }
     ensures ready { H.ready handler.new }
-    ensures kept { (x : Args) → Within (H.answers handler.new x) (H.answers handler.old x) }
-    ensures same { (x : Args) → Within (H.answers handler.old x) (H.answers handler.new x) }
+    ensures same_promises { SamePromises (H.answers handler.old) (H.answers handler.new) }
     ensures idle { IsIdle (slice_get flights.old k) → handler.new ≡ handler.old }
-    ensures polls { PollsAt (rules_of Args.means Args.Error.converts (H.answers handler.old) H.Output.responds)
-        (request_of pool.old) A.Source.feed Args.Future.gives H.Future.gives k flights.old flights.new pool.old pool.new (H.calls handler.old) (H.calls handler.new) }
+    ensures polls { PollsAt (⟦<H as Serves<A, Args>>⟧.setting handler.old pool.old)
+        k flights.old flights.new pool.old pool.new (H.calls handler.old) (H.calls handler.new) }
 {
     if k < flights.len() {
         let place = &mut flights[k];
         if place.is_open() {
-            advance(alloc, pool, handler, &mut place.stage);
+            poll_stage(alloc, pool, handler, &mut place.stage);
         }
     }
 }
 
-/// Polls the flight of this number once. A number that names no flight, or an answered one, changes nothing and takes no
-/// memory.
+/// Polls the flight of this number once. A number that names no flight, or an answered one, changes
+/// nothing and takes no memory.
 ///
-/// The first poll of a flight takes a record and makes its arguments. Where the arguments are there, the handler is called
-/// with them and polled in the same turn; where they are refused, the flight is answered with the reply to the error. Where
-/// the handler's value is there, the flight is answered with its response, and the record is given back. Where memory is
-/// wanting, it is answered with `Outcome::NoMemory`.
+/// The first poll of a flight takes a record and makes its arguments' future. Where the arguments
+/// are there, the handler is called with them and polled in the same turn; where they fail, the
+/// flight is answered with the response to their error. Where the handler's value is there, the
+/// flight is answered with its response. Where an allocation fails, it is answered with
+/// `Outcome::NoMemory`. An answered flight has given its record back.
 pub fn poll_one<A: App, Args: FromRequest<A>, H: Handler<Args>>(
     alloc: Global,
     worker: &mut Worker<A>,
@@ -298,13 +283,15 @@ where
     requires room { worker.old.made + may_make (slice_get flights.old k) < 2 ^ 64 }
     requires ready { H.ready handler.old }
     ensures ready { H.ready handler.new }
-    ensures kept { (x : Args) → Within (H.answers handler.new x) (H.answers handler.old x) }
-    ensures same { (x : Args) → Within (H.answers handler.old x) (H.answers handler.new x) }
+    ensures same_promises { SamePromises (H.answers handler.old) (H.answers handler.new) }
     ensures idle { IsIdle (slice_get flights.old k) → handler.new ≡ handler.old }
-    ensures polls { PollsAt (rules_of Args.means Args.Error.converts (H.answers handler.old) H.Output.responds)
-        (request_of worker.old) A.Source.feed Args.Future.gives H.Future.gives k flights.old flights.new worker.old worker.new (H.calls handler.old) (H.calls handler.new) }
-    ensures effect { EffectAt (rules_of Args.means Args.Error.converts (H.answers handler.old) H.Output.responds)
-        (request_of worker.old) A.Source.feed Args.Future.gives H.Future.gives k flights.old flights.new }
+    ensures polls { PollsAt (⟦<H as Serves<A, Args>>⟧.setting handler.old worker.old)
+        k flights.old flights.new worker.old worker.new
+        (H.calls handler.old) (H.calls handler.new) }
+    ensures effect { EffectAt (⟦<H as Serves<A, Args>>⟧.setting handler.old worker.old)
+        k flights.old flights.new }
+    ensures call { CallEffectAt (⟦<H as Serves<A, Args>>⟧.setting handler.old worker.old)
+        k flights.old flights.new (H.calls handler.old) (H.calls handler.new) }
 {
     poll_at(alloc, &mut worker.pool, handler, flights, k);
 }

@@ -1,37 +1,99 @@
 //! A whole plan over many exchanges.
-ghost use Rattle.std.specs.Prelude.{◌≡◌, ◌+◌, ◌<◌, ◌≤◌, ◌^◌, [], length, map, IfOk, IfErr, OnErr};
+ghost use Rattle.std.specs.Prelude.{◌≡◌, ◌+◌, ◌<◌, ◌≤◌, ◌^◌, [], false, length, map};
+ghost use Rattle.std.specs.Prelude.{IfOk, IfErr, OnErr};
+ghost use Rattle.std.specs.List.{All};
 ghost use Rattle.std.specs.Vec.{vec_capacity};
-ghost use Rattle.web_request.specs.Pool.{Pool};
-ghost use Rattle.web_worker.specs.declared.flight.Stage.{Stage};
-ghost use Rattle.web_worker.specs.Answers.{rules_of};
-ghost use Rattle.web_worker.specs.Called.{CalledByFunctions, CallsOf, GrewBy, Lacks, Ran};
-ghost use Rattle.web_worker.specs.Endings.{endings};
-ghost use Rattle.web_worker.specs.Exchanges.{request_of};
-ghost use Rattle.web_worker.specs.Flown.{Counted, Flown, Landed};
-ghost use Rattle.web_worker.specs.Function.{ServedByFunctions};
-ghost use Rattle.web_worker.specs.Handling.{Within};
-ghost use Rattle.web_worker.specs.Pooled.{KeepsNone, waiting};
-ghost use Rattle.web_worker.specs.Served.{MadeRecords, Served};
+ghost use Rattle.web_worker.specs.Exchanges.{FlightView};
+ghost use Rattle.web_worker.specs.Flights.{flight_outcome, is_open};
+ghost use Rattle.web_worker.specs.HandlerPromises.{SamePromises};
+ghost use Rattle.web_worker.specs.OutcomeFunctions.{DeterministicOutcomes};
+ghost use Rattle.web_worker.specs.Outcomes.{outcome_views};
+ghost use Rattle.web_worker.specs.PlanCalls.{AllowedCalls, AppendsCalls, DeterministicCalls};
+ghost use Rattle.web_worker.specs.PlanCalls.{LacksMemory};
+ghost use Rattle.web_worker.specs.PlanOutcomes.{AllowedOutcomes, OfWaiting, PlanRecords};
+ghost use Rattle.web_worker.specs.RecordsMade.{KeepsNone, waiting_count};
 
 use crate::exchange::Exchange;
 use crate::flight::Flight;
 use crate::handler::Handler;
 use crate::outcome::Outcome;
+use crate::plan_entry::PlanEntry;
 use crate::polling::poll_one;
+use crate::setting::Serves;
 use crate::worker::Worker;
 use std::alloc::Global;
 use web_extract::FromRequest;
 use web_reply::Responder;
 use web_request::{App, HttpRequestPool, NoMemory};
 
+/// Answers each open flight with `Outcome::Unfinished` and gives its record back.
+fn end_flights<A: App, Args: FromRequest<A>, H: Handler<Args>>(
+    pool: &mut HttpRequestPool<A>,
+    flights: &mut [Flight<A, Args, H>],
+)
+where
+    H::Output: Responder<A>,
+    requires none_kept { KeepsNone pool.old }
+    ensures pool { pool.new ≡ pool.old }
+    ensures answered { flights.new ≡ map (λ f. FlightView.Answered (flight_outcome f)) flights.old }
+{
+    for flight in flights.iter_mut() {
+        flight.end(pool);
+    }
+}
+
+/// Polls the flights in the order of the plan, and answers those that it leaves open with
+/// `Outcome::Unfinished`.
+///
+/// Each entry polls the flight of its number once, as `poll_one` does; one that names no flight, or
+/// an answered one, changes nothing. Afterwards each flight is answered: `Flight::outcome` returns
+/// its outcome.
+pub fn serve_flights<A: App, Args: FromRequest<A>, H: Handler<Args>, N: PlanEntry>(
+    alloc: Global,
+    worker: &mut Worker<A>,
+    flights: &mut [Flight<A, Args, H>],
+    plan: &[N],
+    handler: &mut H,
+)
+where
+    H::Output: Responder<A>,
+    requires room { worker.old.made + waiting_count flights.old < 2 ^ 64 }
+    requires ready { H.ready handler.old }
+    ensures ready { H.ready handler.new }
+    ensures same_promises { SamePromises (H.answers handler.old) (H.answers handler.new) }
+    ensures answered { All (λ f. is_open f ≡ false) flights.new }
+    ensures outcomes { OfWaiting flights.old (λ xs. AllowedOutcomes
+        (⟦<H as Serves<A, Args>>⟧.setting handler.old worker.old)
+        (map N.number plan.now) xs (map (λ f. flight_outcome f) flights.new)) }
+    ensures functions { OfWaiting flights.old (λ xs. DeterministicOutcomes
+        (⟦<H as Serves<A, Args>>⟧.setting handler.old worker.old)
+        (map N.number plan.now) xs (map (λ f. flight_outcome f) flights.new)) }
+    ensures calls { OfWaiting flights.old (λ xs. AppendsCalls
+        (H.calls handler.old) (H.calls handler.new) (λ vs. AllowedCalls
+        (⟦<H as Serves<A, Args>>⟧.setting handler.old worker.old)
+        (LacksMemory (map (λ f. flight_outcome f) flights.new)) xs (map N.number plan.now) vs)) }
+    ensures called { OfWaiting flights.old (λ xs. DeterministicCalls
+        (⟦<H as Serves<A, Args>>⟧.setting handler.old worker.old)
+        (map N.number plan.now) xs (map (λ f. flight_outcome f) flights.new)
+        (H.calls handler.old) (H.calls handler.new)) }
+    ensures records { OfWaiting flights.old (λ xs. PlanRecords
+        (map N.number plan.now) xs (map (λ f. flight_outcome f) flights.new)
+        worker.old worker.new) }
+{
+    for entry in plan {
+        poll_one(alloc, worker, handler, flights, entry.index());
+    }
+    end_flights(&mut worker.pool, flights);
+}
+
 /// Makes a flight of each exchange.
-fn board<A: App, Args: FromRequest<A>, H: Handler<Args>>(
+fn into_flights<A: App, Args: FromRequest<A>, H: Handler<Args>>(
     flights: &mut Vec<Flight<A, Args, H>>,
     exchanges: Vec<Exchange<A>>,
 )
     requires room { length exchanges.items ≤ vec_capacity flights.old }
     requires none { flights.old.items ≡ [] }
-    ensures { flights.new.items ≡ map (λ x. Stage.Waiting x) exchanges.items }
+    ensures { flights.new.items ≡ map (λ x. FlightView.Waiting x) exchanges.items }
 {
     for exchange in exchanges {
         match flights.push(Flight::new(exchange)) {
@@ -41,59 +103,47 @@ fn board<A: App, Args: FromRequest<A>, H: Handler<Args>>(
     }
 }
 
-/// Polls the flights in the order of the plan.
-fn fly<A: App, Args: FromRequest<A>, H: Handler<Args>>(
-    alloc: Global,
-    worker: &mut Worker<A>,
-    handler: &mut H,
-    flights: &mut [Flight<A, Args, H>],
-    plan: &[usize],
-)
-where
-    H::Output: Responder<A>,
-    requires room { worker.old.made + waiting flights.old < 2 ^ 64 }
-    requires ready { H.ready handler.old }
-    ensures ready { H.ready handler.new }
-    ensures kept { (x : Args) → Within (H.answers handler.new x) (H.answers handler.old x) }
-    ensures same { (x : Args) → Within (H.answers handler.old x) (H.answers handler.new x) }
-    ensures ran { Ran (rules_of Args.means Args.Error.converts (H.answers handler.old) H.Output.responds)
-        (request_of worker.old) A.Source.feed Args.Future.gives plan.now flights.old flights.new (H.calls handler.old) (H.calls handler.new) }
-    ensures flown { Flown (rules_of Args.means Args.Error.converts (H.answers handler.old) H.Output.responds)
-        (request_of worker.old) A.Source.feed Args.Future.gives H.Future.gives plan.now flights.old flights.new }
-    ensures counted { Counted flights.old flights.new worker.old worker.new }
-{
-    for k in plan {
-        poll_one(alloc, worker, handler, flights, *k);
-    }
-}
-
-/// Takes the outcome of each flight, and gives back the records that are still held, in their order.
-fn land<A: App, Args: FromRequest<A>, H: Handler<Args>>(
-    pool: &mut HttpRequestPool<A>,
+/// Takes the outcome of each flight.
+fn collect_outcomes<A: App, Args: FromRequest<A>, H: Handler<Args>>(
     outcomes: &mut Vec<Outcome<A>>,
-    flights: &mut [Flight<A, Args, H>],
+    flights: Vec<Flight<A, Args, H>>,
 )
-where
-    H::Output: Responder<A>,
-    requires none_kept { KeepsNone pool.old }
-    requires room { length flights.old ≤ vec_capacity outcomes.old }
+    requires room { length flights.items ≤ vec_capacity outcomes.old }
     requires none { outcomes.old.items ≡ [] }
-    ensures pool { pool.new ≡ pool.old }
-    ensures landed { (handler : H) (worker : Pool A.Layer) → Landed (rules_of Args.means Args.Error.converts (H.answers handler) H.Output.responds)
-        (request_of worker) A.Source.feed Args.Future.gives H.Future.gives flights.old (endings A.Source.feed outcomes.new.items) }
+    ensures { outcome_views A.Source.feed outcomes.new.items
+        ≡ map (λ f. flight_outcome f) flights.items }
 {
-    for flight in flights.iter_mut() {
-        match outcomes.push(flight.take_outcome(pool)) {
+    for flight in flights {
+        match outcomes.push(flight.into_outcome()) {
             Ok(()) => {}
             Err(_) => unreachable!(),
         }
     }
 }
 
-/// Serves the exchanges, one poll for each entry of the plan, and says what became of each.
+/// Two empty lists with room for so many items each.
+fn two_lists<T: Drop, U: Drop>(alloc: Global, count: usize) -> Result<(Vec<T>, Vec<U>), NoMemory>
+    ensures first { IfOk result (λ lists. lists.0.items ≡ []) }
+    ensures first_room { IfOk result (λ lists. count ≤ vec_capacity lists.0) }
+    ensures second { IfOk result (λ lists. lists.1.items ≡ []) }
+    ensures second_room { IfOk result (λ lists. count ≤ vec_capacity lists.1) }
+{
+    let Ok(first) = Vec::with_capacity(alloc, count) else {
+        return Err(NoMemory);
+    };
+    let Ok(second) = Vec::with_capacity(alloc, count) else {
+        return Err(NoMemory);
+    };
+    Ok((first, second))
+}
+
+/// Serves the exchanges, one poll for each entry of the plan, and returns their outcomes in the
+/// order of the exchanges.
 ///
-/// An entry that names no exchange, or one that is answered, does nothing. All room is made first: where it is wanting,
-/// nothing was polled, the worker and the handler are as before and the exchanges are handed back.
+/// It makes the flights itself and then works as `serve_flights`: an entry that names no exchange,
+/// or one that is answered, changes nothing, and an exchange that the plan names too seldom for an
+/// answer is unfinished. The lists are allocated first. Where that fails, nothing was polled, the
+/// worker and the handler are unchanged, and the error holds the exchanges.
 pub fn serve_all<A: App, Args: FromRequest<A>, H: Handler<Args>>(
     alloc: Global,
     worker: &mut Worker<A>,
@@ -106,34 +156,32 @@ where
     requires room { worker.old.made + length exchanges.items < 2 ^ 64 }
     requires ready { H.ready handler.old }
     ensures ready { H.ready handler.new }
-    ensures kept { (x : Args) → Within (H.answers handler.new x) (H.answers handler.old x) }
-    ensures same { (x : Args) → Within (H.answers handler.old x) (H.answers handler.new x) }
-    ensures outcomes { IfOk result (λ os. Served (rules_of Args.means Args.Error.converts (H.answers handler.old) H.Output.responds)
-        (request_of worker.old) A.Source.feed plan.now exchanges.items (endings A.Source.feed os.items)) }
-    ensures functions { IfOk result (λ os. ServedByFunctions (rules_of Args.means Args.Error.converts (H.answers handler.old) H.Output.responds)
-        (request_of worker.old) A.Source.feed plan.now exchanges.items (endings A.Source.feed os.items)) }
-    ensures calls { IfOk result (λ os. GrewBy (H.calls handler.old) (H.calls handler.new)
-        (λ vs. CallsOf (rules_of Args.means Args.Error.converts (H.answers handler.old) H.Output.responds)
-        (request_of worker.old) A.Source.feed (Lacks (endings A.Source.feed os.items)) exchanges.items [] plan.now vs)) }
-    ensures called { IfOk result (λ os. CalledByFunctions (rules_of Args.means Args.Error.converts (H.answers handler.old) H.Output.responds)
-        (request_of worker.old) A.Source.feed plan.now exchanges.items (endings A.Source.feed os.items) (H.calls handler.old) (H.calls handler.new)) }
-    ensures records { IfOk result (λ os. MadeRecords plan.now exchanges.items (endings A.Source.feed os.items) worker.old worker.new) }
+    ensures same_promises { SamePromises (H.answers handler.old) (H.answers handler.new) }
+    ensures outcomes { IfOk result (λ os. AllowedOutcomes
+        (⟦<H as Serves<A, Args>>⟧.setting handler.old worker.old)
+        plan.now exchanges.items (outcome_views A.Source.feed os.items)) }
+    ensures functions { IfOk result (λ os. DeterministicOutcomes
+        (⟦<H as Serves<A, Args>>⟧.setting handler.old worker.old)
+        plan.now exchanges.items (outcome_views A.Source.feed os.items)) }
+    ensures calls { IfOk result (λ os. AppendsCalls
+        (H.calls handler.old) (H.calls handler.new) (λ vs. AllowedCalls
+        (⟦<H as Serves<A, Args>>⟧.setting handler.old worker.old)
+        (LacksMemory (outcome_views A.Source.feed os.items)) exchanges.items plan.now vs)) }
+    ensures called { IfOk result (λ os. DeterministicCalls
+        (⟦<H as Serves<A, Args>>⟧.setting handler.old worker.old)
+        plan.now exchanges.items (outcome_views A.Source.feed os.items)
+        (H.calls handler.old) (H.calls handler.new)) }
+    ensures records { IfOk result (λ os. PlanRecords
+        plan.now exchanges.items (outcome_views A.Source.feed os.items) worker.old worker.new) }
     ensures back { IfErr result (λ e. e.1 ≡ exchanges) }
     ensures untouched { OnErr result (worker.new ≡ worker.old) }
     ensures uncalled { OnErr result (handler.new ≡ handler.old) }
 {
-    let count = exchanges.len();
-    let mut flights = match Vec::with_capacity(alloc, count) {
-        Ok(flights) => flights,
-        Err(_) => return Err((NoMemory, exchanges)),
+    let Ok((mut flights, mut outcomes)) = two_lists(alloc, exchanges.len()) else {
+        return Err((NoMemory, exchanges));
     };
-    let mut outcomes = match Vec::with_capacity(alloc, count) {
-        Ok(outcomes) => outcomes,
-        Err(_) => return Err((NoMemory, exchanges)),
-    };
-    board::<A, Args, H>(&mut flights, exchanges);
-    let flights = flights.as_mut_slice();
-    fly(alloc, worker, handler, flights, plan);
-    land(&mut worker.pool, &mut outcomes, flights);
+    into_flights::<A, Args, H>(&mut flights, exchanges);
+    serve_flights(alloc, worker, flights.as_mut_slice(), plan, handler);
+    collect_outcomes(&mut outcomes, flights);
     Ok(outcomes)
 }

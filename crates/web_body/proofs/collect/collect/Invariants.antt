@@ -1,5 +1,5 @@
 use Rattle.web_body.specs.Payload.{payload_feed}
-use Rattle.web_body.proofs.Loop.{Reading_on}
+use Rattle.web_body.proofs.CollectorLoopLemmas.{Reading_on}
 use Rattle.web_body.proofs.collect.collect.Given as goal
 
 abbrev pub invariant-loop-piece : goal.invariant-loop-piece

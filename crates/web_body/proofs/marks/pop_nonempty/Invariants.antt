@@ -1,5 +1,5 @@
 use Rattle.std.proofs.Common.{◌≡◌, deque_len}
-use Rattle.web_body.specs.Bodies.{without_empty}
+use Rattle.web_body.specs.MemoryBodies.{without_empty}
 use Rattle.web_body.proofs.marks.pop_nonempty.Given as goal
 
 abbrev pub invariant-loop-mark : goal.invariant-loop-mark

@@ -1,30 +1,49 @@
 use Rattle.std.proofs.Common.{◌≡◌}
-use Rattle.web_cli.specs.Outcome.{IsCalled, IsReplies}
-use Rattle.web_cli.specs.Picked.{MeansPicked}
-use Rattle.web_cli.specs.Program.{IsCalledBy, IsRepliesBy, picked_arguments}
-use Rattle.web_cli.proofs.Picking.{picked_meets}
-use Rattle.web_cli.proofs.Weaker.{headline_as, serves_as}
+use Rattle.web_demo.specs.DemoFunctions.{picked_arguments}
+use Rattle.web_demo.specs.PickedArguments.{MeansPicked}
+use Rattle.web_demo.proofs.PickedArgumentsLemmas.{picked_meets}
+use Rattle.web_cli.specs.DemoScripts.{AppendsPickedCalls, ArePickedReplies}
+use Rattle.web_cli.specs.ScriptAnswers.{AppendsScriptCalls, AreReplies}
+use Rattle.web_cli.proofs.DemoSettingLemmas.{demo_setting}
+use Rattle.web_cli.proofs.RunLemmas.{headline_as, result_as}
 use Rattle.web_cli.proofs.serving.run.Goals as goal
 
 pub returns-clause-serves : goal.returns-clause-serves
 returns-clause-serves g c = λ words.
+    let s = demo_setting {U = Unit {0}} {W = Unit {0}} (record {
+      means = λ q m rest n x. MeansPicked q m rest n x;
+      converts = λ e f. f ≡ e;
+      answers = g.H.Handler.answers c.args.handler.now;
+      responds = g.H.Output.Responder.responds;
+    }) (λ u n x. ⊥) (λ u n x. ⊥) in
+    let old = g.H.Handler.calls c.args.handler.now in
+    let new = g.H.Handler.calls c.run_over.new.handler in
     let h = c.run_over.ensures.serves words in (
       h.0,
-      serves_as (IsReplies (λ q m rest n x. MeansPicked q m rest n x) (λ e f. f ≡ e) (g.H.Handler.answers c.args.handler.now) g.H.Output.Responder.responds)
-          (IsRepliesBy (g.H.Handler.answers c.args.handler.now) g.H.Output.Responder.responds)
-          (IsCalled (λ q m rest n x. MeansPicked q m rest n x) (λ e f. f ≡ e) (g.H.Handler.calls c.args.handler.now) (g.H.Handler.calls c.run_over.new.handler))
-          (IsCalledBy (g.H.Handler.calls c.args.handler.now) (g.H.Handler.calls c.run_over.new.handler))
-          (c.run_over.new.handler ≡ c.args.handler.now)
-          (λ came text replies handling meets. replies picked_arguments handling picked_meets meets) (λ came calls. calls picked_arguments picked_meets)
-          c.run_over.result h.0 _ _ _ _ h.1,
+      result_as (AreReplies s)
+          (ArePickedReplies (g.H.Handler.answers c.args.handler.now) g.H.Output.Responder.responds)
+          (AppendsScriptCalls s old new) (AppendsPickedCalls old new)
+          (λ came text replies handler meets. replies picked_arguments handler picked_meets meets)
+          (λ came calls. calls picked_arguments picked_meets)
+          (c.run_over.new.handler ≡ c.args.handler.now) (c.run_over.new.handler ≡ c.args.handler.now)
+          (λ same. same) c.run_over.result h.0 _ _ _ _ h.1,
     )
 
 pub returns-clause-headline : goal.returns-clause-headline
 returns-clause-headline g c = λ words.
-    headline_as (IsReplies (λ q m rest n x. MeansPicked q m rest n x) (λ e f. f ≡ e) (g.H.Handler.answers c.args.handler.now) g.H.Output.Responder.responds)
-    (IsRepliesBy (g.H.Handler.answers c.args.handler.now) g.H.Output.Responder.responds)
-    (IsCalled (λ q m rest n x. MeansPicked q m rest n x) (λ e f. f ≡ e) (g.H.Handler.calls c.args.handler.now) (g.H.Handler.calls c.run_over.new.handler))
-    (IsCalledBy (g.H.Handler.calls c.args.handler.now) (g.H.Handler.calls c.run_over.new.handler))
-    (c.run_over.new.handler ≡ c.args.handler.now)
-    (λ came text replies handling meets. replies picked_arguments handling picked_meets meets) (λ came calls. calls picked_arguments picked_meets)
-    c.run_over.result (g.I.Input.state c.args.input.now) (g.I.Input.state c.run_over.new.input) (g.O.Output.state c.args.output.now) (g.O.Output.state c.run_over.new.output) (c.run_over.ensures.headline words)
+    let s = demo_setting {U = Unit {0}} {W = Unit {0}} (record {
+      means = λ q m rest n x. MeansPicked q m rest n x;
+      converts = λ e f. f ≡ e;
+      answers = g.H.Handler.answers c.args.handler.now;
+      responds = g.H.Output.Responder.responds;
+    }) (λ u n x. ⊥) (λ u n x. ⊥) in
+    let old = g.H.Handler.calls c.args.handler.now in
+    let new = g.H.Handler.calls c.run_over.new.handler in
+    headline_as (AreReplies s)
+    (ArePickedReplies (g.H.Handler.answers c.args.handler.now) g.H.Output.Responder.responds)
+    (AppendsScriptCalls s old new) (AppendsPickedCalls old new)
+    (λ came text replies handler meets. replies picked_arguments handler picked_meets meets)
+    (λ came calls. calls picked_arguments picked_meets)
+    c.run_over.result (g.I.Input.state c.args.input.now) (g.I.Input.state c.run_over.new.input)
+    (g.O.Output.state c.args.output.now) (g.O.Output.state c.run_over.new.output)
+    (c.run_over.ensures.headline words)

@@ -1,6 +1,6 @@
 use Rattle.std.proofs.Common.{string_bytes, Global, sym, ◌∙◌}
 use Rattle.std.specs.Prelude.{codes}
-use Rattle.web_cli.proofs.TwoWords.{pair, two_words}
+use Rattle.web_cli.proofs.CommandWordsLemmas.{pair, two_words}
 use Rattle.web_cli.proofs.words.is_serve.Goals as goal
 
 pub returns-then-eq : goal.returns-then-eq

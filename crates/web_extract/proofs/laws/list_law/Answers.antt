@@ -1,4 +1,4 @@
-use Rattle.web_extract.proofs.Handing.{decides1, decides2, decides3, decides4}
+use Rattle.web_extract.proofs.HandedMarksLemmas.{decides1, decides2, decides3, decides4}
 use Rattle.web_extract.proofs.laws.list_law.Goals as goal
 
 pub returns-clause-one : goal.returns-clause-one

@@ -1,4 +1,4 @@
-use Rattle.web_extract.proofs.Nesting.{as_pairs, as_right, as_left, as_inner, as_outer}
+use Rattle.web_extract.proofs.NestedListsLemmas.{as_pairs, as_right, as_left, as_inner, as_outer}
 use Rattle.web_extract.proofs.laws.nesting_law.Goals as goal
 
 pub returns-clause-pairs : goal.returns-clause-pairs

@@ -1,4 +1,4 @@
-use Rattle.web_extract.proofs.Refusing.{option_not_refused, result_not_refused}
+use Rattle.web_extract.proofs.OptionResultLemmas.{option_not_refused, result_not_refused}
 use Rattle.web_extract.proofs.laws.optional_law.Goals as goal
 
 pub returns-clause-option : goal.returns-clause-option

@@ -1,4 +1,4 @@
-use Rattle.web_extract.proofs.PerPlace.{per_place3, per_place4}
+use Rattle.web_extract.proofs.PerPlaceLemmas.{per_place3, per_place4}
 use Rattle.web_extract.proofs.laws.place_law.Goals as goal
 
 pub returns-clause-three : goal.returns-clause-three

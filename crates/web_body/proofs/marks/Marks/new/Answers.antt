@@ -1,5 +1,5 @@
 use Rattle.std.proofs.Common.{length, ap, arith}
-use Rattle.web_body.proofs.Pieces.{joined_same}
+use Rattle.web_body.proofs.EmptyPiecesLemmas.{joined_same}
 use Rattle.web_body.proofs.marks.Marks.new.Goals as goal
 
 pub invariant_of-result : goal.invariant_of-result

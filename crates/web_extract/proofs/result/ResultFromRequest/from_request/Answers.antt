@@ -1,4 +1,4 @@
-use Rattle.web_extract.proofs.Extracting.{extracts_result}
+use Rattle.web_extract.proofs.ExtractsLemmas.{extracts_result}
 use Rattle.web_extract.proofs.result.ResultFromRequest.from_request.Goals as goal
 
 pub returns-in-Ok-clause-extracts : goal.returns-in-Ok-clause-extracts

@@ -1,4 +1,4 @@
-use Rattle.web_extract.proofs.Extracting.{extracts1}
+use Rattle.web_extract.proofs.ExtractsLemmas.{extracts1}
 use Rattle.web_extract.proofs.tuple_one.Tuple1FromRequest.from_request.Goals as goal
 
 pub returns-clause-extracts : goal.returns-clause-extracts

@@ -1,32 +1,26 @@
-use Rattle.std.proofs.Common.{sym, ◌∙◌, refl, inl, inr}
-use Rattle.web_extract.specs.Allowed.{place_some, or_second}
-use Rattle.web_extract.proofs.Joining.{not_first, not_refused, moved, came, shifts2, all_two}
+use Rattle.web_extract.specs.Place.{place_comes}
+use Rattle.web_extract.specs.SomeAnswer.{place_some, or_second}
+use Rattle.web_extract.proofs.ArgumentListsLemmas.{first_stops, second_stops, not_refused, moved, shifts2}
 use Rattle.web_extract.proofs.tuple_two.TupleFromRequest2Poll.poll.Goals as goal
 
-pub returns-in-Err-Refused-clause-value : goal.returns-in-Err-Refused-clause-value
-returns-in-Err-Refused-clause-value g c =
-    let h = rw c.in-Err-Refused.field-0-is at c.in-Err-Refused.ensures.advances in
-    inl ((c.in-Err-Refused.e, h.1, rw c.in-Err-Refused.e-is at c.into.ensures), not_first _ (place_some g.B.Error.Into.converts g.met.B.FromRequest.converted g.B.Future.Poll.is_finished g.B.Future.Poll.gives g.met.B.Future.Poll.some c.args.self.now.second (or_second _ _ c.requires.unfinished)))
+pub returns-in-Err-clause-value : goal.returns-in-Err-clause-value
+returns-in-Err-clause-value g c =
+    let some = place_some g.B.Error.Into.converts g.met.B.FromRequest.converted g.B.Future.Poll.is_finished g.B.Future.Poll.gives g.met.B.Future.Poll.some c.args.self.now.second (or_second _ _ c.requires.unfinished) in
+    rw c.into_step.ensures
+    (first_stops g.A.Error.Into.converts g.A.Future.Poll.gives c.args.self.now.first
+    (place_comes g.B.Error.Into.converts g.B.Future.Poll.gives c.args.self.now.second) some c.in-Err.stop c.in-Err.ensures.advances.1)
 
-pub returns-in-Err-Refused-advance-clause-value : goal.returns-in-Err-Refused-advance-clause-value
-returns-in-Err-Refused-advance-clause-value g c =
-    let h = rw c.in-Err-Refused-advance.field-0-is at c.in-Err-Refused-advance.ensures.advances in
-    let not0 = not_refused g.A.Future.Poll.is_finished g.A.Future.Poll.gives g.met.A.Future.Poll.some g.A.Error.Into.converts g.met.A.FromRequest.converted c.in-Ok.has _ _ c.in-Ok.ensures.advances.0 c.in-Ok.ensures.advances.1 in
-    inr ((c.in-Err-Refused-advance.e, h.1, rw c.in-Err-Refused-advance.e-is at c.into-in-Err-Refused-advance.ensures), not0)
+pub returns-in-Err-advance-clause-value : goal.returns-in-Err-advance-clause-value
+returns-in-Err-advance-clause-value g c =
+    let need = not_refused g.A.Future.Poll.is_finished g.A.Future.Poll.gives g.met.A.Future.Poll.some g.A.Error.Into.converts g.met.A.FromRequest.converted c.in-Ok.has _ _ c.in-Ok.ensures.advances.0 c.in-Ok.ensures.advances.1 in
+    rw c.into_step-in-Err-advance.ensures
+    (second_stops g.B.Error.Into.converts g.B.Future.Poll.gives c.args.self.now.second
+    (place_comes g.A.Error.Into.converts g.A.Future.Poll.gives c.args.self.now.first) need c.in-Err-advance.stop c.in-Err-advance.ensures.advances.1)
 
-pub returns-then-not-has_first-has_second-clause-shift : goal.returns-then-not-has_first-has_second-clause-shift
+pub returns-then-not-has_first-has_second-clause-shift :
+    goal.returns-then-not-has_first-has_second-clause-shift
 returns-then-not-has_first-has_second-clause-shift g c =
     shifts2 _ _ _ _ c.in-Ok.has c.in-Ok-advance.has
     (moved g.A.Future.Poll.gives g.A.Error.Into.converts c.in-Ok.has _ _ c.in-Ok.ensures.advances.1)
     (moved g.B.Future.Poll.gives g.B.Error.Into.converts c.in-Ok-advance.has _ _ c.in-Ok-advance.ensures.advances.1)
     c.if-not-has_first-has_second.true
-
-pub returns-clause-value : goal.returns-clause-value
-returns-clause-value g c =
-    let all = all_two c.in-Ok.has c.in-Ok-advance.has c.if-not-has_first-has_second.false in (
-      0,
-      0,
-      came g.A.Future.Poll.gives g.A.Error.Into.converts _ c.advance.new.self c.in-Done-Done.a (rw all.0 at c.in-Ok.ensures.advances.1) (sym c.replace-first.ensures.value ∙ c.in-Done-Done.is-0),
-      came g.B.Future.Poll.gives g.B.Error.Into.converts _ c.advance-2.new.self c.in-Done-Done.b (rw all.1 at c.in-Ok-advance.ensures.advances.1) (sym c.replace-second.ensures.value ∙ c.in-Done-Done.is-1),
-      refl,
-    )

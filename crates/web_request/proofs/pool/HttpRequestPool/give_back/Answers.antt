@@ -1,7 +1,7 @@
 use Rattle.std.proofs.Common.{rules, subst, arith, ◌≡◌, true, length, nat_lt, ◌<◌}
 use Rattle.std.specs.Prelude.{IsOk, ◌&&◌}
 use Rattle.std.specs.Vec.{vec_len, vec_capacity}
-use Rattle.web_request.proofs.Keeping.{keeps_given, room_left}
+use Rattle.web_request.proofs.PoolLemmas.{keeps_given, room_left}
 use Rattle.web_request.proofs.pool.HttpRequestPool.give_back.Goals as goal
 
 pub unreachable-requires-in-Err-push : goal.unreachable-requires-in-Err-push

@@ -1,6 +1,6 @@
 use Rattle.std.proofs.Common.{rules, arith}
 use Rattle.std.specs.Prelude.{Some}
-use Rattle.web_request.proofs.Keeping.{as_long, keeps_taken, keeps_as_before, taken_is, shorter, some_there}
+use Rattle.web_request.proofs.PoolLemmas.{as_long, keeps_taken, keeps_as_before, taken_is, shorter, some_there}
 use Rattle.web_request.proofs.pool.HttpRequestPool.start.Goals as goal
 
 pub invariant_of-self : goal.invariant_of-self

@@ -1,8 +1,0 @@
-use Rattle.web_cli.proofs.Requested.{target_read, target_refused}
-use Rattle.web_cli.proofs.script.exchange.read_target.Goals as goal
-
-pub returns-in-Ok : goal.returns-in-Ok
-returns-in-Ok c = target_read c.args.text c.in-Ok.uri c.in-Ok.ensures.ok
-
-pub returns-in-Err-Invalid : goal.returns-in-Err-Invalid
-returns-in-Err-Invalid c = target_refused c.args.text (rw c.in-Err-Invalid.field-0-is at c.in-Err-Invalid.ensures.err (λ no. absurd (cc)))

@@ -1,0 +1,26 @@
+-- The replies to a script with the program's own arguments, and with its own handler.
+use Rattle.std.specs.Prelude.{◌≡◌, ◌++◌, ℕ, List, Option}
+use Rattle.std.specs.Option.{option_map}
+use Rattle.web_reply.specs.ResponseBodies.{Plain}
+use Rattle.web_reply.specs.Replies.{Reply}
+use Rattle.web_demo.specs.declared.picked.Picked.{Picked}
+use Rattle.web_demo.specs.DemoExchanges.{DemoRequest}
+use Rattle.web_demo.specs.DemoFunctions.{demo_handler, picked_arguments}
+use Rattle.web_demo.specs.ServiceFunctions.{HandlerFunctions, HandlerMeets}
+use Rattle.web_cli.specs.ScriptAnswers.{replies_text, script_calls}
+
+-- for all functions that the handler meets, this is the text of the replies to the script
+abbrev pub ArePickedReplies : {Y : Type 0} → (Picked → ℕ → Y → Type 0)
+    → (Y → DemoRequest → Reply Plain → Type 0) → List ℕ → List ℕ → Type 0
+ArePickedReplies answers responds script text =
+    (h : HandlerFunctions Picked) → HandlerMeets answers responds h
+    → text ≡ replies_text picked_arguments h script
+
+-- the list of calls, where the handler keeps one, grew by those for the script
+abbrev pub AppendsPickedCalls : Option (List Picked) → Option (List Picked) → List ℕ → Type 0
+AppendsPickedCalls old new script =
+    new ≡ option_map (λ calls. calls ++ script_calls picked_arguments script) old
+
+-- this is the text of the replies to the script by the program's own handler
+abbrev pub IsDemoText : List ℕ → List ℕ → Type 0
+IsDemoText script text = text ≡ replies_text picked_arguments demo_handler script

@@ -1,0 +1,106 @@
+-- The text of the replies to a script, and the calls of the handler.
+use Rattle.std.specs.Prelude.{◌≡◌, ℕ, Bool, true, false, List, [], ◌++◌, Option, codes, map, ⊤}
+use Rattle.std.specs.List.{AllPass, enumerate_from}
+use Rattle.std.specs.Option.{option_map}
+use Rattle.std.specs.Result.{result_ok}
+use Rattle.web_request.specs.Body.{is_body}
+use Rattle.web_request.specs.Feed.{Feed}
+use Rattle.web_worker.specs.Exchanges.{FlightView, FlightView.Waiting}
+use Rattle.web_worker.specs.Outcomes.{OutcomeView}
+use Rattle.web_worker.specs.PlanCalls.{calls_of}
+use Rattle.web_worker.specs.PlanOutcomes.{poll_count, outcome_of, named_count}
+use Rattle.web_worker.specs.Setting.{Setting}
+use Rattle.web_script.specs.Script as script
+use Rattle.web_script.specs.Script.{ScriptView, script_lines, script_view}
+use Rattle.web_script.specs.ScriptedView.{ScriptedExchangeView}
+use Rattle.web_print.specs.OutcomeText.{print}
+use Rattle.web_print.specs.TextLines.{newline}
+use Rattle.web_demo.specs.declared.app.DemoLayer.{DemoLayer}
+use Rattle.web_demo.specs.declared.app.DemoLocal.{DemoLocal}
+use Rattle.web_demo.specs.declared.app.DemoConn.{DemoConn}
+use Rattle.web_demo.specs.DemoExchanges.{demo_exchange, demo_request}
+use Rattle.web_demo.specs.ServiceFunctions.{ArgumentFunctions, ArgumentsMeet}
+use Rattle.web_demo.specs.ServiceFunctions.{HandlerFunctions, HandlerMeets, delay_of, reply_of}
+use Rattle.web_cli.specs.declared.script_answer.ScriptAnswer.{ScriptAnswer}
+use Rattle.web_cli.specs.declared.script_answer.ScriptAnswer.TheVariants as answer
+
+module _ {V : Type 0} (a : ArgumentFunctions V) (h : HandlerFunctions V) where
+  -- the outcome of the exchange of this number: its reply, where the plan names it more often than
+  -- its delay
+  abbrev pub outcome_in : List ℕ → ℕ × ScriptedExchangeView → OutcomeView
+  outcome_in plan (k, e) = outcome_of (delay_of a h e) (reply_of a h e) (poll_count plan k)
+
+  abbrev pub script_outcomes : ScriptView → List OutcomeView
+  script_outcomes s = map (outcome_in s.plan) (enumerate_from 0 s.exchanges)
+
+  -- the outcomes; no record is kept, and one was made for each exchange that the plan names
+  unfoldable pub replies_to : ScriptView → List ℕ
+  replies_to s = print (script_outcomes s) [] (named_count s.plan s.exchanges)
+
+-- the delay of an exchange's arguments, and their value where they are not refused
+abbrev pub arguments_of : {V : Type 0} → ArgumentFunctions V → ScriptedExchangeView → ℕ × Option V
+arguments_of a e = (a.delay (demo_request e) e.marks, result_ok (a.result (demo_request e) e.marks))
+
+-- the calls of the handler: one for each entry of the plan with which an exchange's arguments come
+abbrev pub calls_to : {V : Type 0} → ArgumentFunctions V → ScriptView → List V
+calls_to a s = calls_of (arguments_of a) s.exchanges s.plan
+
+-- no line of the script is invalid
+abbrev pub is_valid_script : List ℕ → Bool
+is_valid_script bytes = script.is_valid_script (script_lines bytes)
+
+-- the text of the replies to a valid script
+abbrev pub replies_text : {V : Type 0} → ArgumentFunctions V → HandlerFunctions V → List ℕ → List ℕ
+replies_text a h bytes = replies_to a h (script_view (script_lines bytes))
+
+-- the calls of the handler for a valid script
+abbrev pub script_calls : {V : Type 0} → ArgumentFunctions V → List ℕ → List V
+script_calls a bytes = calls_to a (script_view (script_lines bytes))
+
+-- the text where a script is refused
+abbrev pub refusal_text : List ℕ
+refusal_text = codes "not built" ++ newline
+
+-- P of what the script says, where the flights wait for its exchanges and this is its plan
+abbrev pub FlightsOf : {U W : Type 0} → List (FlightView Feed DemoLayer DemoLocal DemoConn U W)
+    → List ℕ → (ScriptView → Type 0) → Type 0
+FlightsOf flights plan P =
+    (es : List ScriptedExchangeView) → flights ≡ map (λ e. Waiting (demo_exchange e)) es
+    → AllPass (λ e. is_body e.marks) es → P (record { exchanges = es; plan = plan })
+
+-- U and W: the futures of the arguments and of the handler
+module _ {V E Y U W : Type 0} (s : Setting Feed DemoLayer DemoLocal DemoConn V E Y U W) where
+  -- for all functions that the arguments and the handler meet, this is the text of the replies
+  abbrev pub AreRepliesTo : ScriptView → List ℕ → Type 0
+  AreRepliesTo script text =
+      (a : ArgumentFunctions V) (h : HandlerFunctions V)
+      → ArgumentsMeet s.rules.means s.rules.converts a
+      → HandlerMeets s.rules.answers s.rules.responds h → text ≡ replies_to a h script
+
+  abbrev pub AreReplies : List ℕ → List ℕ → Type 0
+  AreReplies bytes text = AreRepliesTo (script_view (script_lines bytes)) text
+
+  -- for all functions that the arguments meet, the list of calls, where the handler keeps one, grew
+  -- by those for the script
+  abbrev pub AppendsCallsTo : Option (List V) → Option (List V) → ScriptView → Type 0
+  AppendsCallsTo old new script =
+      (a : ArgumentFunctions V) → ArgumentsMeet s.rules.means s.rules.converts a
+      → new ≡ option_map (λ calls. calls ++ calls_to a script) old
+
+  abbrev pub AppendsScriptCalls : Option (List V) → Option (List V) → List ℕ → Type 0
+  AppendsScriptCalls old new bytes = AppendsCallsTo old new (script_view (script_lines bytes))
+
+-- a valid script has replies, and any other is refused
+abbrev pub IsValid : ScriptAnswer → List ℕ → Type 0
+IsValid (answer.Replies text) script = is_valid_script script ≡ true
+IsValid answer.Refused script = is_valid_script script ≡ false
+
+-- P of the text of the replies, where there are some
+abbrev pub OnReplies : ScriptAnswer → (List ℕ → Type 0) → Type 0
+OnReplies (answer.Replies text) P = P text.items
+OnReplies answer.Refused P = ⊤
+
+-- P where the script is refused
+abbrev pub OnRefused : ScriptAnswer → Type 0 → Type 0
+OnRefused (answer.Replies text) P = ⊤
+OnRefused answer.Refused P = P

@@ -1,0 +1,113 @@
+//! The text of the replies to a script.
+ghost use Rattle.std.specs.Prelude.{◌≡◌, ◌<◌, ◌^◌, length, IfOk, OnOk};
+ghost use Rattle.std.specs.List.{list_any};
+ghost use Rattle.web_worker.specs.Flights.{flight_outcome};
+ghost use Rattle.web_worker.specs.HandlerPromises.{SamePromises};
+ghost use Rattle.web_worker.specs.PlanOutcomes.{lacks_memory};
+ghost use Rattle.web_demo.specs.DemoExchanges.{demo_pool};
+ghost use Rattle.web_cli.specs.ScriptAnswers.{AppendsCallsTo, AppendsScriptCalls};
+ghost use Rattle.web_cli.specs.ScriptAnswers.{AreReplies, AreRepliesTo, FlightsOf};
+ghost use Rattle.web_cli.specs.ScriptAnswers.{IsValid, OnRefused, OnReplies};
+
+use bytes::Bytes;
+use std::alloc::Global;
+use web_demo::{Demo, DemoFlights, worker};
+use web_extract::FromRequest;
+use web_print::printed;
+use web_reply::Responder;
+use web_script::read_script_into;
+use web_texts::{Fail, NoMemory};
+use web_worker::{Flight, Handler, Outcome, Serves, serve_flights};
+
+/// The result of serving a script of at most the limit.
+#[derive(Drop)]
+pub enum ScriptAnswer {
+    /// The text of the replies to a valid script.
+    Replies(Vec<u8>),
+    /// The script is invalid.
+    Refused,
+}
+
+/// Whether an allocation failed while the exchange was served.
+fn lacks_memory<Args: FromRequest<Demo>, H: Handler<Args>>(flight: &Flight<Demo, Args, H>) -> bool
+    ensures { result ≡ lacks_memory (flight_outcome flight.now) }
+{
+    matches!(flight.outcome(), Some(Outcome::NoMemory))
+}
+
+/// Whether an allocation failed while some exchange was served.
+fn any_lacks_memory<Args: FromRequest<Demo>, H: Handler<Args>>(
+    flights: &[Flight<Demo, Args, H>],
+) -> bool
+    ensures { result ≡ list_any (λ f. lacks_memory (flight_outcome f)) flights.now }
+{
+    flights.iter().any(|flight| lacks_memory(flight))
+}
+
+/// Serves the flights of a script by its plan, and returns the text of the replies.
+///
+/// # Errors
+///
+/// `NoMemory` comes where an allocation failed for one exchange, too.
+fn replies<Args: FromRequest<Demo>, H: Handler<Args>>(
+    alloc: Global,
+    flights: &mut [Flight<Demo, Args, H>],
+    plan: &[u32],
+    handler: &mut H,
+) -> Result<Vec<u8>, NoMemory>
+where
+    H::Output: Responder<Demo>,
+    requires room { length flights.old < 2 ^ 64 }
+    requires ready { H.ready handler.old }
+    ensures ready { H.ready handler.new }
+    ensures same_promises { SamePromises (H.answers handler.old) (H.answers handler.new) }
+    ensures text { FlightsOf flights.old plan.now (λ script. IfOk result (λ text. AreRepliesTo
+        (⟦<H as Serves<Demo, Args>>⟧.setting handler.old demo_pool) script text.items)) }
+    ensures calls { FlightsOf flights.old plan.now (λ script. OnOk result (AppendsCallsTo
+        (⟦<H as Serves<Demo, Args>>⟧.setting handler.old demo_pool)
+        (H.calls handler.old) (H.calls handler.new) script)) }
+{
+    let mut worker = worker(alloc)?;
+    serve_flights(alloc, &mut worker, flights, plan, handler);
+    if any_lacks_memory(flights) {
+        return Err(NoMemory);
+    }
+    let pool = worker.pool();
+    printed(alloc, flights, pool.serials(), pool.made())
+}
+
+/// Reads a script, serves its exchanges, and returns the text of the replies. The flights are made
+/// straight from the lines, and their bodies and targets are parts of the script's bytes.
+///
+/// # Errors
+///
+/// `NoMemory` where an allocation failed, for one exchange too. An invalid script is no error, but
+/// refused.
+pub(crate) fn answer_script<Args: FromRequest<Demo>, H: Handler<Args>>(
+    alloc: Global,
+    bytes: Vec<u8>,
+    handler: &mut H,
+) -> Result<ScriptAnswer, NoMemory>
+where
+    H::Output: Responder<Demo>,
+    requires ready { H.ready handler.old }
+    ensures ready { H.ready handler.new }
+    ensures same_promises { SamePromises (H.answers handler.old) (H.answers handler.new) }
+    ensures valid { IfOk result (λ answer. IsValid answer bytes.items) }
+    ensures text { IfOk result (λ answer. OnReplies answer (λ text. AreReplies
+        (⟦<H as Serves<Demo, Args>>⟧.setting handler.old demo_pool) bytes.items text)) }
+    ensures calls { IfOk result (λ answer. OnReplies answer (λ _. AppendsScriptCalls
+        (⟦<H as Serves<Demo, Args>>⟧.setting handler.old demo_pool)
+        (H.calls handler.old) (H.calls handler.new) bytes.items)) }
+    ensures refused { IfOk result (λ answer. OnRefused answer (handler.new ≡ handler.old)) }
+{
+    let mut sink = DemoFlights::<Args, H>::new(alloc);
+    match read_script_into(alloc, Bytes::from_vec(bytes)?, &mut sink) {
+        Ok(plan) => {
+            let text = replies::<Args, H>(alloc, sink.flights.as_mut_slice(), &plan, handler)?;
+            Ok(ScriptAnswer::Replies(text))
+        }
+        Err(Fail::Of(_)) => Ok(ScriptAnswer::Refused),
+        Err(Fail::NoMemory) => Err(NoMemory),
+    }
+}

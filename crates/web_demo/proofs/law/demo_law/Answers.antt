@@ -1,0 +1,10 @@
+use Rattle.std.proofs.Common.{ap, ◌∙◌}
+use Rattle.web_demo.specs.DemoReplies.{answer_reply}
+use Rattle.web_demo.proofs.PickedArgumentsLemmas.{picked_meets}
+use Rattle.web_demo.proofs.law.demo_law.Goals as goal
+
+pub returns-clause-arguments : goal.returns-clause-arguments
+returns-clause-arguments c = picked_meets
+
+pub returns-clause-handler : goal.returns-clause-handler
+returns-clause-handler c = λ h v n y answers. (answers.0, λ q r responds. responds ∙ ap answer_reply answers.1)

@@ -1,0 +1,27 @@
+use Rattle.web_demo.specs.declared.choice.Choice.TheVariants as choice
+use Rattle.web_demo.proofs.PickedArgumentsLemmas.{extracts_choice}
+use Rattle.web_demo.proofs.picked.PickedFromRequestDemo.from_request.Goals as goal
+
+pub returns-in_ok-future-in-Bytes-clause-extracts : goal.returns-in_ok-future-in-Bytes-clause-extracts
+returns-in_ok-future-in-Bytes-clause-extracts c =
+    extracts_choice c.args.req.now.request choice.Bytes _ _ _
+    (rw (← c.path.ensures, ← c.choice_of.ensures) c.in-Bytes.is)
+    c.in_ok-future-in-Bytes.ensures.extracts
+
+pub returns-in_ok-future-in-Both-clause-extracts : goal.returns-in_ok-future-in-Both-clause-extracts
+returns-in_ok-future-in-Both-clause-extracts c =
+    extracts_choice c.args.req.now.request choice.Both _ _ _
+    (rw (← c.path.ensures, ← c.choice_of.ensures) c.in-Both.is)
+    c.in_ok-future-in-Both.ensures.extracts
+
+pub returns-in_ok-future-in-Wait-clause-extracts : goal.returns-in_ok-future-in-Wait-clause-extracts
+returns-in_ok-future-in-Wait-clause-extracts c =
+    extracts_choice c.args.req.now.request choice.Wait _ _ _
+    (rw (← c.path.ensures, ← c.choice_of.ensures) c.in-Wait.is)
+    c.in_ok-future-in-Wait.ensures.extracts
+
+pub returns-in_ok-future-in-Other-clause-extracts : goal.returns-in_ok-future-in-Other-clause-extracts
+returns-in_ok-future-in-Other-clause-extracts c =
+    extracts_choice c.args.req.now.request choice.Other _ _ _
+    (rw (← c.path.ensures, ← c.choice_of.ensures) c.in-Other.is)
+    c.in_ok-future-in-Other.ensures.extracts

@@ -1,0 +1,44 @@
+//! The output of the handler.
+ghost use Rattle.std.specs.Prelude.{◌≡◌};
+
+use bytes::Bytes;
+use std::alloc::Global;
+use web_reply::{BoxBody, Done, Error, HttpResponse, Responder};
+use web_request::{App, HttpRequest, NoMemory};
+
+/// The output of the handler.
+#[derive(Debug, Drop)]
+pub enum Answer {
+    /// A 200 with these bytes.
+    Bytes(Bytes),
+    /// An empty 204, as `Done(Ok(()))` responds.
+    Done,
+    /// An empty 404, as `None` responds.
+    None,
+}
+
+impl<A: App> Responder<A> for Answer {
+    ghost use Rattle.web_demo.specs.DemoReplies.{answer_reply};
+
+    type Body = BoxBody<A::Source>;
+
+    ghost responds = { λ answer q r. r ≡ answer_reply answer };
+
+    fn respond_to(
+        self,
+        alloc: Global,
+        req: &HttpRequest<A>,
+    ) -> Result<HttpResponse<BoxBody<A::Source>>, NoMemory> {
+        match self {
+            Answer::Bytes(bytes) => bytes.respond_to(alloc, req)?.map_into_boxed_body(alloc),
+            Answer::Done => {
+                let done: Done<Error> = Done(Ok(()));
+                done.respond_to(alloc, req)?.map_into_boxed_body(alloc)
+            }
+            Answer::None => {
+                let none: Option<Bytes> = None;
+                none.respond_to(alloc, req)?.map_into_boxed_body(alloc)
+            }
+        }
+    }
+}

@@ -1,0 +1,64 @@
+//! The future of the handler.
+ghost use Rattle.std.specs.Prelude.{◌≡◌, Some};
+
+use crate::answer::Answer;
+use crate::delayed::Delayed;
+use std::alloc::Global;
+use std::marker::Model;
+use web_body::{Poll, Step};
+
+/// The output of the handler, after as many polls as it waits.
+#[derive(Debug, Drop)]
+pub struct Answering {
+    delayed: Delayed<Answer>,
+}
+
+impl Model for Answering {
+    ghost use Rattle.web_demo.specs.DelayedValue.{DelayedView};
+    ghost use Rattle.web_demo.specs.declared.answer.Answer.{Answer};
+
+    ghost Value = { DelayedView Answer };
+
+    ghost view = { λ f. f.delayed };
+}
+
+impl Answering {
+    /// The output after `wait` polls that return `Pending`.
+    pub fn new(wait: u64, answer: Answer) -> Answering
+        ensures { result ≡ record { left = wait; value = Some answer } }
+    {
+        Answering {
+            delayed: Delayed::new(wait, answer),
+        }
+    }
+}
+
+/// A poll needs no memory, so it never returns `NoMemory`.
+impl Poll for Answering {
+    ghost use Rattle.std.specs.Prelude.{◌≡◌, false, is_none};
+    ghost use Rattle.web_body.specs.PollSteps.{Ends, IfReady, Shifts};
+    ghost use Rattle.web_demo.specs.DelayedValue.{CountsDown, GivesDelayed, delayed_some};
+
+    type Output = Answer;
+
+    ghost is_finished = { λ f. is_none f.value };
+
+    ghost gives = { λ f n x. GivesDelayed f n x };
+
+    ghost some = { λ f h. delayed_some f.left f.value h };
+
+    fn finished(&self) -> bool {
+        self.delayed.finished()
+    }
+
+    fn poll(&mut self, alloc: Global) -> Step<Answer>
+        requires unfinished { is_none self.old.value ≡ false }
+        ensures ends { Ends result (is_none self.new.value) }
+        ensures value { IfReady result (λ x. GivesDelayed self.old 0 x) }
+        ensures shift { Shifts result
+            (λ n x. GivesDelayed self.old n x) (λ n x. GivesDelayed self.new n x) }
+        ensures counts { CountsDown self.old result self.new }
+    {
+        self.delayed.poll(alloc)
+    }
+}

@@ -1,0 +1,42 @@
+//! The choice that the first segment of a path makes.
+ghost use Rattle.std.specs.Prelude.{◌≡◌};
+ghost use Rattle.std.specs.Str.{bytes_eq};
+ghost use Rattle.web_demo.specs.Choices.{choice_named, choice_of};
+
+use web_script::first_segment;
+
+/// The arguments that a request gets.
+#[derive(Clone, Copy, Debug, PartialEq, Eq)]
+pub enum Choice {
+    Bytes,
+    Both,
+    Wait,
+    Other,
+}
+
+fn is_named(segment: &[u8], name: &[u8]) -> bool
+    ensures { result ≡ bytes_eq segment.now name.now }
+{
+    segment == name
+}
+
+fn choice_named(segment: &[u8]) -> Choice
+    ensures { result ≡ choice_named segment.now }
+{
+    if is_named(segment, b"bytes") {
+        Choice::Bytes
+    } else if is_named(segment, b"both") {
+        Choice::Both
+    } else if is_named(segment, b"wait") {
+        Choice::Wait
+    } else {
+        Choice::Other
+    }
+}
+
+/// The choice of the path's first segment.
+pub(crate) fn choice_of(path: &str) -> Choice
+    ensures { result ≡ choice_of path.now }
+{
+    choice_named(first_segment(path))
+}

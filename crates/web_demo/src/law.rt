@@ -1,0 +1,21 @@
+//! The functions that the program's arguments and handler meet.
+ghost use Rattle.web_demo.specs.DemoFunctions.{demo_handler, picked_arguments};
+ghost use Rattle.web_demo.specs.ServiceFunctions.{ArgumentsMeet, HandlerMeets};
+
+use crate::answer::Answer;
+use crate::app::Demo;
+use crate::handler::DemoHandler;
+use crate::picked::Picked;
+use web_extract::FromRequest;
+use web_reply::{Error, Responder};
+use web_worker::Handler;
+
+/// The program's arguments have one delay and one result for each request and its marks, and its
+/// handler has one wait and one reply for each of their values.
+pub fn demo_law()
+    ensures arguments { ArgumentsMeet ⟦<Picked as FromRequest<Demo>>⟧.means
+        ⟦<Error as Into<Error>>⟧.converts picked_arguments }
+    ensures handler { (h : DemoHandler)
+        → HandlerMeets (⟦<DemoHandler as Handler<Picked>>⟧.answers h)
+        ⟦<Answer as Responder<Demo>>⟧.responds demo_handler }
+{}

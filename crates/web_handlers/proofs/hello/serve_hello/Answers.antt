@@ -1,0 +1,12 @@
+use Rattle.std.proofs.Common.{rules, [], ◌∷◌}
+use Rattle.web_handlers.proofs.EchoLemmas.{held}
+use Rattle.web_handlers.proofs.HelloLemmas.{hello_once, on_mapped, only_outcome}
+use Rattle.web_handlers.proofs.hello.serve_hello.Goals as goal
+
+pub returns : goal.returns
+returns c =
+    on_mapped c.serve_all.result c.map_err.result _ _ _
+    (λ os functions. only_outcome _ c.in_ok-new_exchange.field-0 1 _
+    (hello_once _ (λ body n y answer. held answer.0 body n y (search rules) answer.2) _ _ _ c.in_ok-worker.worker c.in_ok-new_exchange.field-0 c.in_ok-new_exchange.ensures)
+    (0 ∷ 0 ∷ []) _ c.in_ok-exchanges.ensures.items _ functions)
+    c.map_err.ensures.cases c.serve_all.ensures.functions

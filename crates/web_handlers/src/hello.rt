@@ -1,0 +1,73 @@
+//! The first example: one request, served by a closure.
+ghost use Rattle.std.specs.Prelude.{◌≡◌, ◌⊎◌, [], ◌∷◌, Some, codes, IfOk};
+ghost use Rattle.web_request.specs.declared.source.Mark.TheVariants.{Piece, Stall};
+ghost use Rattle.web_body.specs.Payload.{payload_feed};
+ghost use Rattle.web_reply.specs.Responders.{bytes_reply};
+ghost use Rattle.web_worker.specs.Outcomes.{OutcomeView.NoMemory as no_memory, OutcomeView.Replied};
+ghost use Rattle.web_worker.specs.Outcomes.{outcome_views};
+
+use bytes::Bytes;
+use std::alloc::Global;
+use std::rc::Rc;
+use web_body::{Mark, Marks, Payload};
+use web_extract::Ready;
+use web_request::{
+    AppConfig, IpAddr, NoData, NoMemory, PlainApp, RequestHead, SocketAddr, Source, Text,
+};
+use web_worker::{Exchange, FnHandler, Outcome, Worker, serve_all};
+
+/// An application without configuration or data of its own, whose bodies are in memory.
+pub type Site = PlainApp<Marks>;
+
+/// A worker that made no record yet.
+fn new_worker(alloc: Global) -> Result<Worker<Site>, NoMemory>
+    ensures { IfOk result (λ worker. worker.made ≡ 0) }
+{
+    let config = AppConfig {
+        host: Text::of(alloc, "localhost:8080")?,
+        secure: false,
+        local_addr: SocketAddr {
+            ip: IpAddr::V4([127, 0, 0, 1]),
+            port: 8080,
+        },
+    };
+    let root = Rc::new(alloc, NoData)?;
+    Worker::new(alloc, root, config, 0)
+}
+
+/// A request whose body comes in two pieces with a stall between.
+fn new_exchange(alloc: Global, head: RequestHead) -> Result<Exchange<Site>, NoMemory>
+    ensures { IfOk result (λ x. (payload_feed ⟦<Marks as Source>⟧.feed x.body).marks
+        ≡ Some (Piece (codes "he") ∷ Stall ∷ Piece (codes "llo") ∷ [])) }
+{
+    let marks = vec![in alloc;
+        Mark::Piece(Bytes::from_static(b"he")),
+        Mark::Stall,
+        Mark::Piece(Bytes::from_static(b"llo")),
+    ]?;
+    Ok(Exchange {
+        head,
+        params: Vec::new(alloc),
+        layers: Vec::new(alloc),
+        conn: None,
+        local: None,
+        body: Payload::Stream(Marks::new(marks)),
+    })
+}
+
+/// Serves a request of this head by a handler that responds with the body, in two polls.
+///
+/// The one outcome is a reply with status 200 and the bytes `hello`, unless an allocation fails.
+pub fn serve_hello(alloc: Global, head: RequestHead) -> Result<Vec<Outcome<Site>>, NoMemory>
+    ensures { IfOk result (λ os.
+        (outcome_views ⟦<Marks as Source>⟧.feed os.items
+        ≡ Replied (bytes_reply (codes "hello")) ∷ [])
+        ⊎ (outcome_views ⟦<Marks as Source>⟧.feed os.items ≡ no_memory ∷ [])) }
+{
+    let mut worker = new_worker(alloc)?;
+    let exchanges = vec![in alloc; new_exchange(alloc, head)?]?;
+    let mut handler = FnHandler(|body: Bytes| -> Result<Ready<Bytes>, NoMemory> {
+        Ok(Ready::new(body))
+    });
+    serve_all(alloc, &mut worker, exchanges, &[0, 0], &mut handler).map_err(|_| NoMemory)
+}

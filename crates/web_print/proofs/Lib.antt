@@ -1,0 +1,4 @@
+pub mod HexadecimalLemmas
+pub mod MappedListsLemmas
+pub mod SortedNamesLemmas
+pub mod TextLinesLemmas

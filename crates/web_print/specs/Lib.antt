@@ -1,0 +1,4 @@
+pub mod BodyLines
+pub mod HeaderLines
+pub mod OutcomeText
+pub mod TextLines

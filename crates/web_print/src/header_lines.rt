@@ -1,0 +1,90 @@
+//! The lines of the headers.
+ghost use Rattle.std.specs.Prelude.{◌≡◌, ◌++◌, IfOk, OnOk, flat_map, map};
+ghost use Rattle.http_header.specs.HeaderMap.{keys};
+ghost use Rattle.web_print.specs.HeaderLines.{header_line, header_lines, name_lines, sorted_names};
+
+use crate::lines::put;
+use http_header::{HeaderMap, HeaderName, HeaderValue};
+use std::alloc::Global;
+use web_texts::NoMemory;
+
+/// The names of a map, sorted by their bytes. A map has each name once.
+fn sorted_names(
+    alloc: Global,
+    headers: &HeaderMap<HeaderValue>,
+) -> Result<Vec<&HeaderName>, NoMemory>
+    ensures { IfOk result (λ names.
+        map (λ n. n.now) names.items ≡ sorted_names (keys headers.now)) }
+{
+    let mut names = Vec::with_capacity(alloc, headers.keys_len())?;
+    for name in headers.keys() {
+        names.push(name)?;
+    }
+    names.sort_unstable_by(|a, b| a.as_str().cmp(b.as_str()));
+    Ok(names)
+}
+
+fn put_value(out: &mut Vec<u8>, name: &HeaderName, value: &HeaderValue) -> Result<(), NoMemory>
+    ensures { OnOk result (out.new.items ≡ out.old.items ++ header_line name.now value.now) }
+{
+    put(out, name.as_bytes())?;
+    put(out, b": ")?;
+    put(out, value.as_bytes())?;
+    put(out, b"\n")
+}
+
+/// The lines of the values of one name.
+fn put_values(
+    out: &mut Vec<u8>,
+    headers: &HeaderMap<HeaderValue>,
+    name: &HeaderName,
+) -> Result<(), NoMemory>
+    ensures { OnOk result (out.new.items ≡ out.old.items ++ name_lines headers.now name.now) }
+{
+    for value in headers.get_all(name) {
+        put_value(out, name, value)?;
+    }
+    Ok(())
+}
+
+fn put_names(
+    out: &mut Vec<u8>,
+    headers: &HeaderMap<HeaderValue>,
+    names: Vec<&HeaderName>,
+) -> Result<(), NoMemory>
+    ensures { OnOk result (out.new.items
+        ≡ out.old.items
+        ++ flat_map (name_lines headers.now) (map (λ n. n.now) names.entry.items)) }
+{
+    for name in names {
+        put_values(out, headers, name)?;
+    }
+    Ok(())
+}
+
+/// The lines of all headers, in the order of the map.
+fn put_keys(out: &mut Vec<u8>, headers: &HeaderMap<HeaderValue>) -> Result<(), NoMemory>
+    ensures { OnOk result (out.new.items
+        ≡ out.old.items ++ flat_map (name_lines headers.now) (keys headers.now)) }
+{
+    for name in headers.keys() {
+        put_values(out, headers, name)?;
+    }
+    Ok(())
+}
+
+/// The lines of all headers, sorted by the bytes of their names. A single name is not sorted, which
+/// would allocate.
+pub(crate) fn put_headers(
+    alloc: Global,
+    out: &mut Vec<u8>,
+    headers: &HeaderMap<HeaderValue>,
+) -> Result<(), NoMemory>
+    ensures { OnOk result (out.new.items ≡ out.old.items ++ header_lines headers.now) }
+{
+    if headers.keys_len() < 2 {
+        return put_keys(out, headers);
+    }
+    let names = sorted_names(alloc, headers)?;
+    put_names(out, headers, names)
+}

@@ -1,0 +1,18 @@
+-- Layers stay ready where more that are ready stand behind them.
+use Rattle.std.proofs.Common.{suc, List, ◌++◌, ◌≡◌, sym, ◌∙◌, ap, subst, arith}
+use Rattle.std.specs.Prelude.{Option, None, Some}
+use Rattle.std.specs.declared.rc.Rc.{Rc}
+use Rattle.std.proofs.lemmas.List.{map-append}
+use Rattle.std.proofs.lemmas.List.Elements.{All-append, All-cons}
+use Rattle.web_request.specs.ReadyLayers.{AllReady}
+use Rattle.web_request.specs.Shared.{values, values_behind}
+
+module _ {L Z : Type 0} (ready : L → Type 0) where
+  ready_list : (o : Option (Rc L Z)) (ls : List (Rc L Z)) → AllReady ready (values_behind o ls) → AllReady ready (values ls)
+  ready_list None ls all = all
+  ready_list (Some r) ls all = λ k d lt. all (suc k) d (omega (arith, lt))
+
+  pub ready_behind : (o : Option (Rc L Z)) (ls ms ns : List (Rc L Z)) (r : Rc L Z) → ns ≡ ls ++ ms → AllReady ready (values_behind o ls) → ready r.value → AllReady ready (values ms)
+      → AllReady ready (values_behind (Some r) ns)
+  ready_behind o ls ms ns r e before here behind =
+      All-cons ready r.value (values ns) here (subst (AllReady ready) (sym (ap values e ∙ map-append (λ x. x.value) ls ms)) (All-append ready (values ls) (values ms) (ready_list o ls before) behind))

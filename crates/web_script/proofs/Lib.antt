@@ -1,0 +1,10 @@
+pub mod InvalidLinesLemmas
+pub mod LineArgumentsLemmas
+pub mod MarksLemmas
+pub mod NewlineLemmas
+pub mod PlanEntriesLemmas
+pub mod ReaderLemmas
+pub mod ScriptLoopLemmas
+pub mod ScriptSizeLemmas
+pub mod TargetFormsLemmas
+pub mod UniqueTargetLemmas

@@ -1,0 +1,12 @@
+use Rattle.std.proofs.Common.{◌<◌, ◌^◌, length}
+use Rattle.web_script.proofs.ScriptLoopLemmas.{IsAtLine}
+use Rattle.web_script.proofs.script.read_lines.Given as goal
+
+abbrev pub invariant-lines : goal.invariant-lines
+invariant-lines g l = record {
+  at : IsAtLine g.S.ExchangeSink.holds l.fn.bytes l.rest l.fn.sink l.sink l.reader;
+  small : length l.fn.bytes < 2 ^ 63;
+}
+
+abbrev pub decreases-lines : goal.decreases-lines
+decreases-lines g l = length l.rest

@@ -1,0 +1,13 @@
+pub mod ExchangeSinks
+pub mod InvalidLines
+pub mod Line
+pub mod LineArguments
+pub mod LineKinds
+pub mod PlanEntries
+pub mod Reader
+pub mod Script
+pub mod ScriptExchanges
+pub mod ScriptReading
+pub mod ScriptedView
+pub mod Segments
+pub mod Targets

@@ -1,0 +1,65 @@
+"""What the tools of this folder know of the repository: its crates, their sources, and where programs lie."""
+import hashlib
+import os
+import shutil
+
+TOP = os.path.dirname(os.path.dirname(os.path.abspath(__file__)))
+PROGRAM = "rothveng"
+PROVED = os.path.join(TOP, "crates", PROGRAM, "out", PROGRAM)
+# Holds the digest of the sources that PROVED was proved and built from.
+PROVED_FROM = PROVED + ".sources"
+UNPROVED = os.path.join(TOP, "out", "unproved", PROGRAM)
+
+
+def crates():
+    """The crates of crates.txt in its order, each with the libraries that it uses, without the kit's."""
+    listed = {}
+    with open(os.path.join(TOP, "crates.txt"), encoding="utf-8") as lines:
+        for line in lines:
+            name, colon, uses = line.partition("#")[0].partition(":")
+            if colon:
+                listed[name.split()[0]] = uses.split()
+    return {name: [it for it in uses if it in listed] for name, uses in listed.items()}
+
+
+def below(name):
+    """The crate and all that it stands on, lowest first."""
+    listed, found = crates(), []
+
+    def visit(it):
+        if it not in found:
+            for use in listed[it]:
+                visit(use)
+            found.append(it)
+
+    visit(name)
+    return found
+
+
+def sources(name, parts=("src", "specs", "proofs"), ends=(".rt", ".antt")):
+    """The paths of a crate's sources, sorted."""
+    found = []
+    for part in parts:
+        for folder, _, files in os.walk(os.path.join(TOP, "crates", name, part)):
+            found += [os.path.join(folder, it) for it in files if it.endswith(ends)]
+    return sorted(found)
+
+
+def digest(parts=("src", "specs", "proofs")):
+    """One text that changes where a source of the program changes, or the toolchain's folder."""
+    whole = hashlib.sha256(os.path.realpath(shutil.which("rt") or "").encode())
+    files = [it for name in below(PROGRAM) for it in sources(name, parts)]
+    for path in [os.path.join(TOP, "crates.txt"), *files]:
+        with open(path, "rb") as opened:
+            content = opened.read()
+        whole.update(f"{os.path.relpath(path, TOP)} {len(content)}\n".encode() + content)
+    return whole.hexdigest()
+
+
+def is_built_from(program, record, wanted):
+    """Whether the program is there, and the file beside it names these sources."""
+    try:
+        with open(record, encoding="utf-8") as opened:
+            return os.access(program, os.X_OK) and opened.read().strip() == wanted
+    except OSError:
+        return False
