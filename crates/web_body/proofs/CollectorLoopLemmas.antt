@@ -8,7 +8,7 @@ use Rattle.web_body.specs.declared.held.Held.{Held}
 use Rattle.web_body.specs.declared.message_body.PayloadError.TheVariants.{Overflow, Io}
 use Rattle.web_body.specs.declared.poll.Step.TheVariants.{Pending, Ready}
 use Rattle.web_body.specs.HeldBytes.{held_bytes, IsCopied}
-use Rattle.web_body.specs.Payload.{payload_feed, gave, Gave}
+use Rattle.web_body.specs.Payload.{payload_feed, bytes_between, GivesBytes}
 use Rattle.web_body.specs.Collector.{reading_of, NeedsNoMemory}
 use Rattle.web_body.proofs.CollectorMemoryLemmas.{NoneNeeded, needed_from, needed_on}
 use Rattle.web_body.specs.CollectorPolls.{Collects}
@@ -19,7 +19,7 @@ pub record Reading_on {S : Type 0} (feed : S → Feed) (limit : ℕ) (first : Pa
   pub within : length (held_bytes now_held) ≤ limit
   pub same : reading_of limit (payload_feed feed now).marks (held_bytes now_held) ≡ reading_of limit (payload_feed feed first).marks (held_bytes first_held)
   pub given : ℕ
-  pub gave : Gave feed first given now
+  pub gave : GivesBytes feed first given now
   pub grew : length (held_bytes now_held) ≡ length (held_bytes first_held) + given
   pub faults : (payload_feed feed now).faults ≡ (payload_feed feed first).faults
   pub stalls : (payload_feed feed first).stalls ≤ (payload_feed feed now).stalls
@@ -40,7 +40,7 @@ module _ {S : Type 0} (feed : S → Feed) (limit : ℕ) where
 
   module _ (first : Payload S) (first_held : Held) (now : Payload S) (held : Held) (on : Reading_on feed limit first first_held now held) (new : Payload S) where
     pub reads_piece : (b : List ℕ) (more : Held) → held_bytes more ≡ held_bytes held ++ b → (held_bytes held ≡ [] → IsCopied more → ⊥) → length (held_bytes held) + length b ≤ limit
-        → GivesPiece b (payload_feed feed now) (payload_feed feed new) → Gave feed now (length b) new
+        → GivesPiece b (payload_feed feed now) (payload_feed feed new) → GivesBytes feed now (length b) new
         → Reading_on feed limit first first_held new more
     reads_piece b more items single fits next gave =
         let size : length (held_bytes more) ≡ length (held_bytes held) + length b = ap length items ∙ length-append (held_bytes held) b in

@@ -3,15 +3,15 @@ use Rattle.std.proofs.Common.{ℕ, ◌+◌, refl, arith}
 use Rattle.web_request.specs.Feed.{Feed}
 use Rattle.web_body.specs.declared.payload.Payload.{Payload}
 use Rattle.web_body.specs.declared.payload.Payload.TheVariants.{None, Whole, Stream}
-use Rattle.web_body.specs.Payload.{Gave}
+use Rattle.web_body.specs.Payload.{GivesBytes}
 
 module _ {S : Type 0} (feed : S → Feed) where
-  pub gave_none : (p : Payload S) → Gave feed p 0 p
+  pub gave_none : (p : Payload S) → GivesBytes feed p 0 p
   gave_none None = refl
   gave_none (Whole b) = omega arith
   gave_none (Stream s) = omega arith
 
-  pub gave_more : (p : Payload S) (n : ℕ) (q : Payload S) (m : ℕ) (r : Payload S) → Gave feed p n q → Gave feed q m r → Gave feed p (n + m) r
+  pub gave_more : (p : Payload S) (n : ℕ) (q : Payload S) (m : ℕ) (r : Payload S) → GivesBytes feed p n q → GivesBytes feed q m r → GivesBytes feed p (n + m) r
   gave_more None n None m None h k = omega (arith, h, k)
   gave_more None n None m (Whole c) h k = omega (arith, h, k)
   gave_more None n (Whole b) m None h k = omega (arith, h, k)

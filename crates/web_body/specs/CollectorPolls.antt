@@ -7,7 +7,7 @@ use Rattle.web_body.specs.declared.payload.Payload.{Payload}
 use Rattle.web_body.specs.declared.message_body.PayloadError.{PayloadError}
 use Rattle.web_body.specs.declared.message_body.PayloadError.TheVariants.{Overflow, Io}
 use Rattle.web_body.specs.declared.poll.Step.{Step}
-use Rattle.web_body.specs.Payload.{payload_feed, gave, KeepsPayload}
+use Rattle.web_body.specs.Payload.{payload_feed, bytes_between, KeepsPayload}
 use Rattle.web_body.specs.PollSteps.{IfReady, OnPending, Shifts}
 use Rattle.web_body.specs.Collector.{reading_of, Allows}
 
@@ -47,8 +47,8 @@ pub record PollCounts {S : Type 0} (feed : S → Feed) (limit : ℕ) (old : Payl
     (s : Step (Result (List ℕ) PayloadError)) (new : Payload S) (held_new : List ℕ) : Type 0 where
   pub payload : KeepsPayload feed old new
   pub pending : OnPending s (Rose (payload_feed feed old).stalls (payload_feed feed new).stalls)
-  pub grew : OnPending s (length held_new ≡ length held + gave feed old new)
+  pub grew : OnPending s (length held_new ≡ length held + bytes_between feed old new)
   pub io : OnIo s (Rose (payload_feed feed old).faults (payload_feed feed new).faults)
   pub whole_ended : OnWhole s ((payload_feed feed new).answers ≡ 0)
   pub whole_unfailed : OnWhole s ((payload_feed feed new).faults ≡ (payload_feed feed old).faults)
-  pub overflow : OnOverflow s (limit < length held + gave feed old new)
+  pub overflow : OnOverflow s (limit < length held + bytes_between feed old new)

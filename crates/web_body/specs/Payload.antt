@@ -27,32 +27,32 @@ in_memory (payload.Whole b) = length b
 in_memory (payload.Stream s) = 0
 
 -- the bytes that a source gave, by its own count
-abbrev pub stream_gave : {S : Type 0} → (S → Feed) → S → Payload S → ℕ
-stream_gave feed s payload.None = 0
-stream_gave feed s (payload.Whole b) = 0
-stream_gave feed s (payload.Stream t) = (feed t).given - (feed s).given
+abbrev pub stream_bytes_between : {S : Type 0} → (S → Feed) → S → Payload S → ℕ
+stream_bytes_between feed s payload.None = 0
+stream_bytes_between feed s (payload.Whole b) = 0
+stream_bytes_between feed s (payload.Stream t) = (feed t).given - (feed s).given
 
 -- how many bytes a payload gave from old to new
-abbrev pub gave : {S : Type 0} → (S → Feed) → Payload S → Payload S → ℕ
-gave feed payload.None new = 0
-gave feed (payload.Whole b) new = length b - in_memory new
-gave feed (payload.Stream s) new = stream_gave feed s new
+abbrev pub bytes_between : {S : Type 0} → (S → Feed) → Payload S → Payload S → ℕ
+bytes_between feed payload.None new = 0
+bytes_between feed (payload.Whole b) new = length b - in_memory new
+bytes_between feed (payload.Stream s) new = stream_bytes_between feed s new
 
-abbrev pub StreamGave : {S : Type 0} → (S → Feed) → S → ℕ → Payload S → Type 0
-StreamGave feed s n payload.None = ⊥
-StreamGave feed s n (payload.Whole b) = ⊥
-StreamGave feed s n (payload.Stream t) = (feed t).given ≡ (feed s).given + n
+abbrev pub StreamGives : {S : Type 0} → (S → Feed) → S → ℕ → Payload S → Type 0
+StreamGives feed s n payload.None = ⊥
+StreamGives feed s n (payload.Whole b) = ⊥
+StreamGives feed s n (payload.Stream t) = (feed t).given ≡ (feed s).given + n
 
-abbrev pub PlainGave : {S : Type 0} → ℕ → ℕ → Payload S → Type 0
-PlainGave size n payload.None = size ≡ n
-PlainGave size n (payload.Whole b) = size ≡ n + length b
-PlainGave size n (payload.Stream t) = ⊥
+abbrev pub PlainGives : {S : Type 0} → ℕ → ℕ → Payload S → Type 0
+PlainGives size n payload.None = size ≡ n
+PlainGives size n (payload.Whole b) = size ≡ n + length b
+PlainGives size n (payload.Stream t) = ⊥
 
 -- the payload gave n bytes from old to new, and a stream stayed a stream
-abbrev pub Gave : {S : Type 0} → (S → Feed) → Payload S → ℕ → Payload S → Type 0
-Gave feed payload.None n new = PlainGave 0 n new
-Gave feed (payload.Whole b) n new = PlainGave (length b) n new
-Gave feed (payload.Stream s) n new = StreamGave feed s n new
+abbrev pub GivesBytes : {S : Type 0} → (S → Feed) → Payload S → ℕ → Payload S → Type 0
+GivesBytes feed payload.None n new = PlainGives 0 n new
+GivesBytes feed (payload.Whole b) n new = PlainGives (length b) n new
+GivesBytes feed (payload.Stream s) n new = StreamGives feed s n new
 
 -- no count fell
 pub record NoneFell (old new : Feed) : Type 0 where

@@ -1,6 +1,6 @@
 //! The collector of a whole body under a limit.
 ghost use Rattle.std.specs.Prelude.{◌≡◌, ◌≤◌, [], length, false};
-ghost use Rattle.web_body.specs.Payload.{payload_feed, gave, KeepsPayload};
+ghost use Rattle.web_body.specs.Payload.{payload_feed, bytes_between, KeepsPayload};
 ghost use Rattle.web_body.specs.Collector.{Collector, default_limit, new_collector};
 ghost use Rattle.web_body.specs.Collector.{body_gives, MeansReading};
 
@@ -124,7 +124,7 @@ impl<S: Source> Poll for HttpMessageBody<S> {
     ghost use Rattle.web_body.specs.PollSteps.{Ends, IfReady, Shifts, OnPending};
     ghost use Rattle.web_body.specs.PollSteps.{IsPending, NeverNoMemory};
     ghost use Rattle.web_body.specs.CollectorPolls.{OnWhole, OnOverflow, OnIo};
-    ghost use Rattle.web_body.specs.Payload.{payload_feed, gave, KeepsPayload};
+    ghost use Rattle.web_body.specs.Payload.{payload_feed, bytes_between, KeepsPayload};
     ghost use Rattle.web_body.specs.Collector.{body_gives, body_some};
     ghost use Rattle.web_body.specs.Collector.{NeedsNoMemory, StallsNext};
 
@@ -157,7 +157,7 @@ impl<S: Source> Poll for HttpMessageBody<S> {
             (payload_feed S.feed self.old.payload).stalls
             (payload_feed S.feed self.new.payload).stalls) }
         ensures held { OnPending result (length self.new.held
-            ≡ length self.old.held + gave S.feed self.old.payload self.new.payload) }
+            ≡ length self.old.held + bytes_between S.feed self.old.payload self.new.payload) }
         ensures within { OnPending result (length self.new.held ≤ self.new.limit) }
         ensures io { OnIo result (Rose
             (payload_feed S.feed self.old.payload).faults
@@ -166,7 +166,7 @@ impl<S: Source> Poll for HttpMessageBody<S> {
         ensures whole_unfailed { OnWhole result ((payload_feed S.feed self.new.payload).faults
             ≡ (payload_feed S.feed self.old.payload).faults) }
         ensures overflow { OnOverflow result (self.old.limit
-            < length self.old.held + gave S.feed self.old.payload self.new.payload) }
+            < length self.old.held + bytes_between S.feed self.old.payload self.new.payload) }
     {
         let step = collect(alloc, &mut self.payload, &mut self.held, self.limit);
         self.is_finished = match &step {

@@ -1,7 +1,7 @@
 //! Payloads of requests.
 ghost use Rattle.std.specs.Prelude.{◌≡◌};
 ghost use Rattle.web_request.specs.Feed.{Next, bytes_given};
-ghost use Rattle.web_body.specs.Payload.{payload_feed, Gave};
+ghost use Rattle.web_body.specs.Payload.{payload_feed, GivesBytes};
 
 use bytes::Bytes;
 use web_request::{Source, Turn};
@@ -39,7 +39,7 @@ impl<S: Source> Payload<S> {
     /// its one piece and then the end. `NoMemory` comes only from a stream.
     pub fn poll_next(&mut self) -> Turn
         ensures next { Next result (payload_feed S.feed self.old) (payload_feed S.feed self.new) }
-        ensures gave { Gave S.feed self.old (bytes_given result) self.new }
+        ensures gave { GivesBytes S.feed self.old (bytes_given result) self.new }
     {
         match self {
             Payload::None => Turn::End,

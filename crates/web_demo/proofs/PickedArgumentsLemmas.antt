@@ -6,9 +6,9 @@ use Rattle.web_request.specs.declared.source.Mark.{Mark}
 use Rattle.web_request.specs.Head.{head_path}
 use Rattle.web_request.specs.Reading.{reading}
 use Rattle.web_request.specs.Request.{Request}
-use Rattle.web_body.specs.Collector.{answer_of}
+use Rattle.web_body.specs.Collector.{answer_of, default_limit}
 use Rattle.web_reply.specs.Replies.{Fault}
-use Rattle.web_extract.specs.ArgumentLists.{Turned, grouped}
+use Rattle.web_extract.specs.ArgumentLists.{ConvertsRefusal, map_value}
 use Rattle.web_extract.specs.BytesArgument.{MeansBytes}
 use Rattle.web_extract.specs.ConvertedFutures.{converted_result}
 use Rattle.web_extract.specs.Extracts.{Extracts}
@@ -33,13 +33,13 @@ use Rattle.web_demo.specs.declared.picked.Picked.TheVariants as picked
 
 module _ {T E : Type 0} (error : E → Fault) where
   member_to : (gives : ℕ → Result T E → Type 0) (n : ℕ) (x : Result T Fault)
-      → Turned (λ e f. f ≡ error e) gives n x
+      → ConvertsRefusal (λ e f. f ≡ error e) gives n x
       → (y : Result T E) × gives n y × (x ≡ converted_result (λ v. v) error y)
   member_to gives n (Ok v) h = (Ok v, h, refl)
   member_to gives n (Err f) h = (Err h.0, h.1, rw h.2 refl)
 
   member_from : (gives : ℕ → Result T E → Type 0) (n : ℕ) (y : Result T E)
-      → gives n y → Turned (λ e f. f ≡ error e) gives n (converted_result (λ v. v) error y)
+      → gives n y → ConvertsRefusal (λ e f. f ≡ error e) gives n (converted_result (λ v. v) error y)
   member_from gives n (Ok v) h = h
   member_from gives n (Err e) h = (e, h, refl)
 
@@ -56,15 +56,15 @@ module _ {T E : Type 0} (error : E → Fault) where
         let is = (one left n y.0).0 y.1 in
         (is.0, is.1, y.2 ∙ ap (converted_result (λ v. v) error) is.2),
     λ e.
-        subst (λ (z : Result T Fault). Turned (λ e f. f ≡ error e) (means m left) n z) (sym e.2)
+        subst (λ (z : Result T Fault). ConvertsRefusal (λ e f. f ≡ error e) (means m left) n z) (sym e.2)
         (member_from (means m left) n r ((one left n r).1 (e.0, e.1, refl))),
   )
 
 exactly_body : (m : List Mark)
     → Exactly (Member (λ e f. f ≡ payload_fault e) MeansBytes) m [] (body_result m)
 exactly_body m =
-    member_exactly payload_fault MeansBytes m [] (reading 262144 m).delay
-    (answer_of (reading 262144 m).content) (λ left n y. (λ h. h, λ h. h))
+    member_exactly payload_fault MeansBytes m [] (reading default_limit m).delay
+    (answer_of (reading default_limit m).content) (λ left n y. (λ h. h, λ h. h))
 
 converted_same : {T : Type 0} (r : Result T Fault) → converted_result (λ v. v) same_fault r ≡ r
 converted_same (Ok v) = refl
@@ -79,13 +79,13 @@ exactly_late params m =
     (λ left n y. (λ h. h, λ h. h)))
 
 grouped_result : {T V : Type 0} (value : T → V) (r : Result T Fault)
-    → converted_result value same_fault r ≡ grouped value r
+    → converted_result value same_fault r ≡ map_value value r
 grouped_result value (Ok v) = refl
 grouped_result value (Err e) = refl
 
 body_picked : {E : Type 0} (error : E → Fault) (r : Result (List ℕ) E)
     → converted_result (λ v. picked.Bytes v) error r
-    ≡ grouped (λ v. picked.Bytes v) (converted_result (λ v. v) error r)
+    ≡ map_value (λ v. picked.Bytes v) (converted_result (λ v. v) error r)
 body_picked error (Ok v) = refl
 body_picked error (Err e) = refl
 
@@ -104,9 +104,9 @@ choice_only : (c : Choice) (params : List Pair) (m rest : List Mark)
     → GivesOnly (λ n x. MeansChoice c params m rest n x) (choice_result c params m).delay
     (choice_result c params m).result
 choice_only choice.Bytes params m rest n x h =
-    let answer = answer_of (reading 262144 m).content in
+    let answer = answer_of (reading default_limit m).content in
     let once = converted_only (λ v. picked.Bytes v) payload_fault (MeansBytes m rest)
-    (reading 262144 m).delay answer (λ k y g. (g.1, g.2)) n x h in
+    (reading default_limit m).delay answer (λ k y g. (g.1, g.2)) n x h in
     (once.0, once.1 ∙ body_picked payload_fault answer)
 choice_only choice.Both params m rest n x h =
     let once = converted_only (λ v. picked.Both v.0 v.1) same_fault (MeansBoth params m rest) _ _

@@ -1,5 +1,5 @@
 -- The replies of the program's handler.
-use Rattle.std.specs.Prelude.{◌≡◌, ℕ}
+use Rattle.std.specs.Prelude.{◌≡◌, ℕ, ⊤}
 use Rattle.web_reply.specs.ResponseBodies.{Plain}
 use Rattle.web_reply.specs.Replies.{Reply}
 use Rattle.web_reply.specs.Responders.{bytes_reply, empty_reply}
@@ -31,6 +31,12 @@ abbrev pub answer_reply : Answer → Reply Plain
 answer_reply (answer.Bytes bytes) = bytes_reply bytes
 answer_reply answer.Done = empty_reply 204
 answer_reply answer.None = empty_reply 404
+
+-- each but one with a body has a reply that allocates nothing
+abbrev pub AnswerNeedsNoMemory : Answer → Type 0
+AnswerNeedsNoMemory (answer.Bytes bytes) = ⊥
+AnswerNeedsNoMemory answer.Done = ⊤
+AnswerNeedsNoMemory answer.None = ⊤
 
 -- the reply for these arguments
 abbrev pub demo_reply : Picked → Reply Plain

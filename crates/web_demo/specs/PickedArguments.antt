@@ -1,11 +1,11 @@
 -- The argument `Picked`, which the first segment of the path decides.
-use Rattle.std.specs.Prelude.{◌≡◌, ℕ, List, Result, Ok}
+use Rattle.std.specs.Prelude.{◌≡◌, ℕ, List, None, Result, Ok, ⊤}
 use Rattle.web_texts.specs.declared.text.Pair.{Pair}
 use Rattle.web_request.specs.declared.source.Mark.{Mark}
 use Rattle.web_request.specs.Head.{head_path}
 use Rattle.web_request.specs.Reading.{reading}
 use Rattle.web_request.specs.Request.{Request}
-use Rattle.web_body.specs.Collector.{answer_of}
+use Rattle.web_body.specs.Collector.{answer_of, default_limit}
 use Rattle.web_body.specs.declared.message_body.PayloadError.{PayloadError}
 use Rattle.web_reply.specs.declared.cause.Cause.TheVariants.{Io, Payload}
 use Rattle.web_reply.specs.declared.cause.IoKind.TheVariants.{Other}
@@ -21,7 +21,7 @@ use Rattle.web_extract.specs.ReadyFuture.{MeansUnit, unit_some}
 use Rattle.web_extract.specs.declared.never.Never.{Never}
 use Rattle.web_demo.specs.Choices.{choice_of}
 use Rattle.web_demo.specs.LateAndWait.{MeansLate, MeansWait, delay_in, late_result, late_some}
-use Rattle.web_demo.specs.LateAndWait.{wait_some}
+use Rattle.web_demo.specs.LateAndWait.{refusal_in, wait_some}
 use Rattle.web_demo.specs.declared.choice.Choice.{Choice}
 use Rattle.web_demo.specs.declared.choice.Choice.TheVariants as choice
 use Rattle.web_demo.specs.declared.late.Late.{Late}
@@ -78,8 +78,9 @@ choice_some choice.Other params m =
 -- the whole body, after as many polls as it stalls
 abbrev pub body_result : List Mark → DelayedResult (List ℕ)
 body_result m = record {
-  delay = (reading 262144 m).delay;
-  result = converted_result (λ bytes. bytes) payload_fault (answer_of (reading 262144 m).content);
+  delay = (reading default_limit m).delay;
+  result = converted_result (λ bytes. bytes) payload_fault
+      (answer_of (reading default_limit m).content);
 }
 
 -- the argument that comes late
@@ -99,7 +100,17 @@ choice_result choice.Wait params m =
     immediate_result (picked.Wait (record { 0 = delay_in params }))
 choice_result choice.Other params m = immediate_result picked.Other
 
+-- to begin with the arguments of this choice allocates nothing: only a refusal has a text
+abbrev pub ChoiceNeedsNoMemory : Choice → List Pair → Type 0
+ChoiceNeedsNoMemory choice.Bytes params = ⊤
+ChoiceNeedsNoMemory choice.Both params = refusal_in params ≡ None
+ChoiceNeedsNoMemory choice.Wait params = ⊤
+ChoiceNeedsNoMemory choice.Other params = ⊤
+
 module _ {L D C : Type 0} where
+  abbrev pub PickedNeedsNoMemory : Request L D C → Type 0
+  PickedNeedsNoMemory q = ChoiceNeedsNoMemory (choice_of (head_path q.head)) q.params
+
   -- the first segment of the path chooses
   abbrev pub MeansPicked : Request L D C → List Mark → List Mark → ℕ → Result Picked Fault → Type 0
   MeansPicked q m rest n x = MeansChoice (choice_of (head_path q.head)) q.params m rest n x

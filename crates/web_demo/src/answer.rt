@@ -18,11 +18,13 @@ pub enum Answer {
 }
 
 impl<A: App> Responder<A> for Answer {
-    ghost use Rattle.web_demo.specs.DemoReplies.{answer_reply};
+    ghost use Rattle.web_demo.specs.DemoReplies.{AnswerNeedsNoMemory, answer_reply};
 
     type Body = BoxBody<A::Source>;
 
     ghost responds = { λ answer q r. r ≡ answer_reply answer };
+
+    ghost needs_no_memory = { λ answer. AnswerNeedsNoMemory answer };
 
     fn respond_to(
         self,

@@ -1,6 +1,5 @@
 //! An argument that comes late.
-ghost use Rattle.std.specs.Prelude.{◌≡◌, IfOk, IsOk};
-ghost use Rattle.std.specs.Option.{IfNone};
+ghost use Rattle.std.specs.Prelude.{◌≡◌, IfOk, IsOk, None};
 ghost use Rattle.web_demo.specs.LateAndWait.{late_result, refusal_in};
 
 use crate::delayed::Delayed;
@@ -37,7 +36,7 @@ fn refusal_in(params: &[Pair]) -> Option<StatusCode>
 /// The refusal that the parameters ask for, else the empty value. Only a refusal needs memory.
 fn late_result(alloc: Global, params: &[Pair]) -> Result<Result<Late, Error>, NoMemory>
     ensures value { IfOk result (λ answer. answer ≡ late_result params.now) }
-    ensures ok { IfNone (refusal_in params.now) (IsOk result) }
+    ensures memory { refusal_in params.now ≡ None → IsOk result }
 {
     match refusal_in(params) {
         Some(status) => {
@@ -63,6 +62,8 @@ impl<A: App> FromRequest<A> for Late {
 
     ghost means = { λ q m rest n x. MeansLate q.params m rest n x };
 
+    ghost needs_no_memory = { λ q. refusal_in q.params ≡ None };
+
     ghost some = { λ q m. late_some q.params m };
 
     ghost converted = { itself };
@@ -77,7 +78,7 @@ impl<A: App> FromRequest<A> for Late {
             (λ m rest n x. MeansLate req.now.request.params m rest n x) (λ n x. GivesDelayed f n x)
             (payload_feed A.Source.feed _payload.old).marks
             (payload_feed A.Source.feed _payload.new).marks) }
-        ensures ok { IfNone (refusal_in req.now.request.params) (IsOk result) }
+        ensures memory { refusal_in req.now.request.params ≡ None → IsOk result }
         ensures kept { _payload.new ≡ _payload.old }
     {
         let params = req.match_info();

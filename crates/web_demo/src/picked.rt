@@ -110,13 +110,16 @@ pub type PickedFuture = EitherFuture<
 /// The arguments that the first segment of the path asks for, and no others.
 impl FromRequest<Demo> for Picked {
     ghost use Rattle.web_extract.specs.SomeAnswer.{itself};
-    ghost use Rattle.web_demo.specs.PickedArguments.{MeansPicked, picked_some};
+    ghost use Rattle.web_demo.specs.PickedArguments.{MeansPicked, PickedNeedsNoMemory};
+    ghost use Rattle.web_demo.specs.PickedArguments.{picked_some};
 
     type Error = Error;
 
     type Future = PickedFuture;
 
     ghost means = { λ q m rest n x. MeansPicked q m rest n x };
+
+    ghost needs_no_memory = { λ q. PickedNeedsNoMemory q };
 
     ghost some = { λ q m. picked_some q m };
 

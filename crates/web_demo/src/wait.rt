@@ -12,7 +12,7 @@ pub struct Wait(pub u64);
 
 /// It leaves the payload as it is, is never refused, and needs no memory.
 impl<A: App> FromRequest<A> for Wait {
-    ghost use Rattle.std.specs.Prelude.{◌≡◌, IfOk, IsOk, false, is_none};
+    ghost use Rattle.std.specs.Prelude.{◌≡◌, IfOk, IsOk, false, is_none, ⊤};
     ghost use Rattle.web_body.specs.Payload.{payload_feed};
     ghost use Rattle.web_extract.specs.Extracts.{Extracts};
     ghost use Rattle.web_extract.specs.Never.{never_converted};
@@ -24,6 +24,8 @@ impl<A: App> FromRequest<A> for Wait {
     type Future = Ready<Result<Wait, Never>>;
 
     ghost means = { λ q m rest n x. MeansWait q.params m rest n x };
+
+    ghost needs_no_memory = { λ q. ⊤ };
 
     ghost some = { λ q m. wait_some q.params m };
 
@@ -39,7 +41,7 @@ impl<A: App> FromRequest<A> for Wait {
             (λ m rest n x. MeansWait req.now.request.params m rest n x) (λ n x. GivesHeld f n x)
             (payload_feed A.Source.feed _payload.old).marks
             (payload_feed A.Source.feed _payload.new).marks) }
-        ensures ok { IsOk result }
+        ensures memory { IsOk result }
         ensures kept { _payload.new ≡ _payload.old }
     {
         Ok(Ready::new(Ok(Wait(delay_in(req.match_info())))))

@@ -8,11 +8,11 @@ use Rattle.web_extract.specs.declared.place.Place.TheVariants.{Done}
 use Rattle.web_extract.specs.declared.place.Stop.{Stop}
 use Rattle.web_extract.specs.declared.place.Stop.TheVariants.{Refused, NoMemory}
 use Rattle.web_extract.specs.Place.{place_finished, place_gives, place_comes, stop_step, HoldsOrWaits, MayStop}
-use Rattle.web_extract.specs.ArgumentLists.{Coming, RefusedBefore, Precedes, NeedNot, Joins2}
+use Rattle.web_extract.specs.ArgumentLists.{Gives, RefusedBefore, Precedes, NeedNot, Joins2}
 use Rattle.web_extract.specs.SomeAnswer.{Converted, place_some}
 
 -- where the value is there, it came at this poll or before and comes at the next; else all comes one poll later
-abbrev pub Moved : {T : Type 0} → Bool → Coming T → Coming T → Type 0
+abbrev pub Moved : {T : Type 0} → Bool → Gives T → Gives T → Type 0
 Moved {T} true old new = (v : T) × old 0 (Ok v) × ((n : ℕ) (x : Result T Fault) → new n x → (n ≡ 0) × (x ≡ Ok v))
 Moved {T} false old new = (n : ℕ) (x : Result T Fault) → new n x → old (suc n) x
 
@@ -38,10 +38,10 @@ before_less n k (Ok v) h = h
 before_less n k (Err e) h = omega arith
 
 -- what can come does not precede a refusal at zero
-pub not_first : {T : Type 0} (g : Coming T) → GivesSome g → Precedes g 0 → ⊥
+pub not_first : {T : Type 0} (g : Gives T) → GivesSome g → Precedes g 0 → ⊥
 not_first g some p = some (λ k x h. never_before_zero k x (p k x h))
 
-module _ {T : Type 0} (old new : Coming T) where
+module _ {T : Type 0} (old new : Gives T) where
   moved_not_first : (has : Bool) → Moved has old new → GivesSome new → Precedes old 1 → ⊥
   moved_not_first true w some p = p 0 (Ok w.0) w.1
   moved_not_first false w some p = some (λ k x h. never_before_zero k x (before_less 0 k x (p (suc k) x (w k x h))))
@@ -66,7 +66,7 @@ abbrev WhenLater : Bool → ℕ → ℕ → Type 0
 WhenLater true n k = (n ≡ 0) × (k ≡ 0)
 WhenLater false n k = k ≡ suc n
 
-value_later : {T : Type 0} (old new : Coming T) (has : Bool) → Moved has old new → (n : ℕ) (v : T) → new n (Ok v) → (k : ℕ) × old k (Ok v) × WhenLater has n k
+value_later : {T : Type 0} (old new : Gives T) (has : Bool) → Moved has old new → (n : ℕ) (v : T) → new n (Ok v) → (k : ℕ) × old k (Ok v) × WhenLater has n k
 value_later {T} old new true w n v h =
     let d = w.2 n (Ok v) h in
     let same : w.0 ≡ v = cc (d.1) in
@@ -79,7 +79,7 @@ max_later true false e n1 n2 k1 k2 n h1 h2 h = omega arith
 max_later false true e n1 n2 k1 k2 n h1 h2 h = omega arith
 max_later false false e n1 n2 k1 k2 n h1 h2 h = omega arith
 
-module _ {A B : Type 0} (old1 new1 : Coming A) (old2 new2 : Coming B) where
+module _ {A B : Type 0} (old1 new1 : Gives A) (old2 new2 : Gives B) where
   pub shifts2 : (b1 b2 : Bool) → Moved b1 old1 new1 → Moved b2 old2 new2 → (b1 && b2) ≡ false
       → (n : ℕ) (x : Result (A × B) Fault) → Joins2 new1 new2 n x → Joins2 old1 old2 (suc n) x
   shifts2 b1 b2 w1 w2 e n (Ok v) h =
@@ -91,12 +91,12 @@ module _ {A B : Type 0} (old1 new1 : Coming A) (old2 new2 : Coming B) where
 
 -- what the poll of a list returns where a place ends it
 module _ {T E U : Type 0} (c : E → Fault → Type 0) (gives : U → ℕ → Result T E → Type 0) (old : Place U T) where
-  pub first_stops : {B : Type 0} (second : Coming B) → GivesSome second
+  pub first_stops : {B : Type 0} (second : Gives B) → GivesSome second
       → (stop : Stop) → MayStop c gives old stop → IfReady (stop_step stop) (λ x. Joins2 (place_comes c gives old) second 0 x)
   first_stops second some (Refused x) h = inl (h, not_first second some)
   first_stops second some NoMemory h = tt
 
-  pub second_stops : {A : Type 0} (first : Coming A) → NeedNot first 1
+  pub second_stops : {A : Type 0} (first : Gives A) → NeedNot first 1
       → (stop : Stop) → MayStop c gives old stop → IfReady (stop_step stop) (λ x. Joins2 first (place_comes c gives old) 0 x)
   second_stops first need (Refused x) h = inr (h, need)
   second_stops first need NoMemory h = tt

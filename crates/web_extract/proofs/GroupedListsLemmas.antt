@@ -3,8 +3,8 @@ use Rattle.std.proofs.Common.{◌≡◌, ℕ, Bool, true, false, max, ltb, cond,
 use Rattle.std.proofs.lemmas.Bool.{cases_lt, cond_below, cond_above}
 use Rattle.std.specs.Prelude.{⊤, Option, None, Some, Result, Ok, Err}
 use Rattle.web_reply.specs.Replies.{Fault}
-use Rattle.web_extract.specs.ArgumentLists.{grouped}
-use Rattle.web_extract.specs.ListResults.{DelayedResult, Refusal, refused, refusal, earlier, earliest, greatest, decided, values2, values3, values4, list2, list3, list4, with_value}
+use Rattle.web_extract.specs.ArgumentLists.{map_value}
+use Rattle.web_extract.specs.ListResults.{DelayedResult, Refusal, refusal_at, refusal, earlier, earliest, greatest, deciding_result, values2, values3, values4, list2, list3, list4, with_value}
 
 abbrev at : {T : Type 0} → ℕ → Result T Fault → DelayedResult T
 at n x = record { delay = n; result = x }
@@ -58,26 +58,26 @@ record Decision {T : Type 0} (v : DelayedResult T) : Type 0 where
   refusal : Option Refusal
   delay : ℕ
   values : Result T Fault
-  is : v ≡ decided refusal delay values
+  is : v ≡ deciding_result refusal delay values
   there : refusal ≡ None → IsValue values
 
-leaf_is : {T : Type 0} (n : ℕ) (x : Result T Fault) → at n x ≡ decided (refused n x) n x
+leaf_is : {T : Type 0} (n : ℕ) (x : Result T Fault) → at n x ≡ deciding_result (refusal_at n x) n x
 leaf_is n (Ok v) = refl
 leaf_is n (Err e) = refl
 
-leaf_there : {T : Type 0} (n : ℕ) (x : Result T Fault) → refused n x ≡ None → IsValue x
+leaf_there : {T : Type 0} (n : ℕ) (x : Result T Fault) → refusal_at n x ≡ None → IsValue x
 leaf_there n (Ok v) h = tt
 leaf_there n (Err e) h = absurd (cc h)
 
 abbrev leaf : {T : Type 0} (v : DelayedResult T) → Decision v
-leaf v = record { refusal = refused v.delay v.result; delay = v.delay; values = v.result; is = leaf_is v.delay v.result; there = leaf_there v.delay v.result }
+leaf v = record { refusal = refusal_at v.delay v.result; delay = v.delay; values = v.result; is = leaf_is v.delay v.result; there = leaf_there v.delay v.result }
 
-decided_some : {T : Type 0} (b : Bool) (p q : Refusal) (n m : ℕ) (x y : Result T Fault) → decided (cond b (Some p) (Some q)) n x ≡ decided (cond b (Some p) (Some q)) m y
+decided_some : {T : Type 0} (b : Bool) (p q : Refusal) (n m : ℕ) (x y : Result T Fault) → deciding_result (cond b (Some p) (Some q)) n x ≡ deciding_result (cond b (Some p) (Some q)) m y
 decided_some true p q n m x y = refl
 decided_some false p q n m x y = refl
 
 node_is : {A B : Type 0} (p q : Option Refusal) (n m : ℕ) (x : Result A Fault) (y : Result B Fault) → (p ≡ None → IsValue x) → (q ≡ None → IsValue y)
-    → list2 (decided p n x) (decided q m y) ≡ decided (earlier p q) (max n m) (values2 x y)
+    → list2 (deciding_result p n x) (deciding_result q m y) ≡ deciding_result (earlier p q) (max n m) (values2 x y)
 node_is (Some p) (Some q) n m x y f g = decided_some (ltb q.delay p.delay) q p (max p.delay (max q.delay 0)) (max n m) (Err p.error) (values2 x y)
 node_is (Some p) None n m x (Ok b) f g = refl
 node_is (Some p) None n m x (Err e) f g = absurd (g refl)
@@ -108,18 +108,18 @@ node a b s t = record {
   there = node_there s.refusal t.refusal s.values t.values s.there t.there;
 }
 
-regrouped_is : {T U : Type 0} (f : T → U) (r : Option Refusal) (n : ℕ) (x : Result T Fault) → decided r n (grouped f x) ≡ with_value f (decided r n x)
+regrouped_is : {T U : Type 0} (f : T → U) (r : Option Refusal) (n : ℕ) (x : Result T Fault) → deciding_result r n (map_value f x) ≡ with_value f (deciding_result r n x)
 regrouped_is f None n x = refl
 regrouped_is f (Some r) n x = refl
 
 same_decision : {T U : Type 0} (f : T → U) (v : DelayedResult U) (s : Decision v) (r : Option Refusal) (n : ℕ) (x : Result T Fault)
-    → s.refusal ≡ r → s.delay ≡ n → s.values ≡ grouped f x → v ≡ with_value f (decided r n x)
+    → s.refusal ≡ r → s.delay ≡ n → s.values ≡ map_value f x → v ≡ with_value f (deciding_result r n x)
 same_decision f v s r n x hr hn hx = s.is ∙ (rw (hr, hn, hx) (regrouped_is f r n x))
 
 -- the values of four in each nesting of pairs
 module _ {A B C D : Type 0} where
   values_pairs : (x : Result A Fault) (y : Result B Fault) (z : Result C Fault) (w : Result D Fault)
-      → values2 (values2 x y) (values2 z w) ≡ grouped (λ v. ((v.0, v.1), (v.2, v.3))) (values4 x y z w)
+      → values2 (values2 x y) (values2 z w) ≡ map_value (λ v. ((v.0, v.1), (v.2, v.3))) (values4 x y z w)
   values_pairs (Err e) y z w = refl
   values_pairs (Ok a) (Err e) z w = refl
   values_pairs (Ok a) (Ok b) (Err e) w = refl
@@ -127,7 +127,7 @@ module _ {A B C D : Type 0} where
   values_pairs (Ok a) (Ok b) (Ok c) (Ok d) = refl
 
   values_right : (x : Result A Fault) (y : Result B Fault) (z : Result C Fault) (w : Result D Fault)
-      → values2 x (values2 y (values2 z w)) ≡ grouped (λ v. (v.0, (v.1, (v.2, v.3)))) (values4 x y z w)
+      → values2 x (values2 y (values2 z w)) ≡ map_value (λ v. (v.0, (v.1, (v.2, v.3)))) (values4 x y z w)
   values_right (Err e) y z w = refl
   values_right (Ok a) (Err e) z w = refl
   values_right (Ok a) (Ok b) (Err e) w = refl
@@ -135,7 +135,7 @@ module _ {A B C D : Type 0} where
   values_right (Ok a) (Ok b) (Ok c) (Ok d) = refl
 
   values_left : (x : Result A Fault) (y : Result B Fault) (z : Result C Fault) (w : Result D Fault)
-      → values2 (values2 (values2 x y) z) w ≡ grouped (λ v. (((v.0, v.1), v.2), v.3)) (values4 x y z w)
+      → values2 (values2 (values2 x y) z) w ≡ map_value (λ v. (((v.0, v.1), v.2), v.3)) (values4 x y z w)
   values_left (Err e) y z w = refl
   values_left (Ok a) (Err e) z w = refl
   values_left (Ok a) (Ok b) (Err e) w = refl
@@ -143,7 +143,7 @@ module _ {A B C D : Type 0} where
   values_left (Ok a) (Ok b) (Ok c) (Ok d) = refl
 
   values_inner : (x : Result A Fault) (y : Result B Fault) (z : Result C Fault) (w : Result D Fault)
-      → values2 x (values2 (values2 y z) w) ≡ grouped (λ v. (v.0, ((v.1, v.2), v.3))) (values4 x y z w)
+      → values2 x (values2 (values2 y z) w) ≡ map_value (λ v. (v.0, ((v.1, v.2), v.3))) (values4 x y z w)
   values_inner (Err e) y z w = refl
   values_inner (Ok a) (Err e) z w = refl
   values_inner (Ok a) (Ok b) (Err e) w = refl
@@ -151,7 +151,7 @@ module _ {A B C D : Type 0} where
   values_inner (Ok a) (Ok b) (Ok c) (Ok d) = refl
 
   values_outer : (x : Result A Fault) (y : Result B Fault) (z : Result C Fault) (w : Result D Fault)
-      → values2 (values2 x (values2 y z)) w ≡ grouped (λ v. ((v.0, (v.1, v.2)), v.3)) (values4 x y z w)
+      → values2 (values2 x (values2 y z)) w ≡ map_value (λ v. ((v.0, (v.1, v.2)), v.3)) (values4 x y z w)
   values_outer (Err e) y z w = refl
   values_outer (Ok a) (Err e) z w = refl
   values_outer (Ok a) (Ok b) (Err e) w = refl
@@ -162,7 +162,7 @@ module _ {A B C D : Type 0} where
     as_list4 : {T : Type 0} (f : A × B × C × D → T) (v : DelayedResult T) (s : Decision v)
         → s.refusal ≡ earliest (refusal a ∷ refusal b ∷ refusal c ∷ refusal d ∷ [])
         → s.delay ≡ greatest (a.delay ∷ b.delay ∷ c.delay ∷ d.delay ∷ [])
-        → s.values ≡ grouped f (values4 a.result b.result c.result d.result)
+        → s.values ≡ map_value f (values4 a.result b.result c.result d.result)
         → v ≡ with_value f (list4 a b c d)
     as_list4 f v s hr hn hx =
         same_decision f v s (earliest (refusal a ∷ refusal b ∷ refusal c ∷ refusal d ∷ [])) (greatest (a.delay ∷ b.delay ∷ c.delay ∷ d.delay ∷ []))
@@ -200,7 +200,7 @@ module _ {A B C D : Type 0} where
 
 -- three values, and one
 values_three : {A B C : Type 0} (x : Result A Fault) (y : Result B Fault) (z : Result C Fault)
-    → values2 x (values2 y z) ≡ grouped (λ v. (v.0, (v.1, v.2))) (values3 x y z)
+    → values2 x (values2 y z) ≡ map_value (λ v. (v.0, (v.1, v.2))) (values3 x y z)
 values_three (Err e) y z = refl
 values_three (Ok a) (Err e) z = refl
 values_three (Ok a) (Ok b) (Err e) = refl

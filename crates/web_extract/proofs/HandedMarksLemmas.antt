@@ -3,7 +3,7 @@ use Rattle.std.proofs.Common.{◌≡◌, ℕ, max, List, refl, sym, ap, ◌∙�
 use Rattle.std.specs.Prelude.{Result, Ok, Err}
 use Rattle.web_request.specs.declared.source.Mark.{Mark}
 use Rattle.web_reply.specs.Replies.{Fault}
-use Rattle.web_extract.specs.ArgumentLists.{Coming, One, Joins1, Joins2, grouped, nested3, nested4}
+use Rattle.web_extract.specs.ArgumentLists.{Gives, One, Joins1, Joins2, map_value, nested3, nested4}
 use Rattle.web_extract.specs.ListMeanings.{Meaning, Means1, Means2, Means3, Means4}
 use Rattle.web_extract.specs.ListResults.{DelayedResult, Exactly, list1, list2, list3, list4, with_value, Decides1, Decides2, Decides3, Decides4}
 use Rattle.web_extract.proofs.ListResultsLemmas.{Only, comes, joins_only}
@@ -51,7 +51,7 @@ pub decides2 : {A B : Type 0} (first : Meaning A) (second : Meaning B) → Decid
 decides2 first second m m1 m2 a b h1 h2 left n x =
     (means2_to first second m m1 m2 a b h1 h2 left n x, means2_from first second m m1 m2 a b h1 h2 left n x)
 
-ungroup : {T U : Type 0} (f : T → U) (back : U → T) → ((t : T) → back (f t) ≡ t) → (x y : Result T Fault) → grouped f x ≡ grouped f y → x ≡ y
+ungroup : {T U : Type 0} (f : T → U) (back : U → T) → ((t : T) → back (f t) ≡ t) → (x y : Result T Fault) → map_value f x ≡ map_value f y → x ≡ y
 ungroup {T} {U} f back inv (Ok v) (Ok w) e = let d : f v ≡ f w = cc e in ap (λ (t : T). Ok t) (sym (inv v) ∙ ap back d ∙ inv w)
 ungroup f back inv (Ok v) (Err y) e = absurd (cc e)
 ungroup f back inv (Err x) (Ok w) e = absurd (cc e)
@@ -60,10 +60,10 @@ ungroup f back inv (Err x) (Err y) e = let d : x ≡ y = cc e in rw d refl
 -- a meaning that is another one with its values grouped otherwise
 module _ {T U : Type 0} (flat : Meaning T) (nested : Meaning U) (f : T → U) (back : U → T) (inv : (t : T) → back (f t) ≡ t)
     (m rest : List Mark) (v : DelayedResult T) (h : Exactly nested m rest (with_value f v))
-    (to : (left : List Mark) (n : ℕ) (x : Result T Fault) → flat m left n x → nested m left n (grouped f x))
+    (to : (left : List Mark) (n : ℕ) (x : Result T Fault) → flat m left n x → nested m left n (map_value f x))
     (there : flat m rest v.delay v.result) where
   flat_to : (left : List Mark) (n : ℕ) (x : Result T Fault) → flat m left n x → (left ≡ rest) × (n ≡ v.delay) × (x ≡ v.result)
-  flat_to left n x d = let q = (h left n (grouped f x)).0 (to left n x d) in (q.0, q.1, ungroup f back inv x v.result q.2)
+  flat_to left n x d = let q = (h left n (map_value f x)).0 (to left n x d) in (q.0, q.1, ungroup f back inv x v.result q.2)
 
   flat_from : (left : List Mark) (n : ℕ) (x : Result T Fault) → (left ≡ rest) × (n ≡ v.delay) × (x ≡ v.result) → flat m left n x
   flat_from left n x e =
@@ -80,11 +80,11 @@ one_is : {A : Type 0} (n : ℕ) (x : Result A Fault) → record { delay = n; res
 one_is {A} n (Ok v) = let e : n ≡ max n 0 = omega arith in ap (λ (k : ℕ). at k (Ok v)) e
 one_is n (Err e) = refl
 
-joins1_to : {A : Type 0} (g : Coming A) (n : ℕ) (x : Result (One A) Fault) → Joins1 g n x → g n (grouped (λ v. v.0) x)
+joins1_to : {A : Type 0} (g : Gives A) (n : ℕ) (x : Result (One A) Fault) → Joins1 g n x → g n (map_value (λ v. v.0) x)
 joins1_to g n (Ok v) h = h
 joins1_to g n (Err x) h = h
 
-joins1_from : {A : Type 0} (g : Coming A) (n : ℕ) (x : Result (One A) Fault) → g n (grouped (λ v. v.0) x) → Joins1 g n x
+joins1_from : {A : Type 0} (g : Gives A) (n : ℕ) (x : Result (One A) Fault) → g n (map_value (λ v. v.0) x) → Joins1 g n x
 joins1_from g n (Ok v) h = h
 joins1_from g n (Err x) h = h
 
@@ -93,7 +93,7 @@ decides1 {A} first m m1 a h1 =
     let h = subst (λ (w : DelayedResult A). Exactly first m m1 w) (one_is a.delay a.result) h1 in
     flat_exactly (Means1 first) first (λ v. v.0) (λ v. record { 0 = v }) (λ v. refl) m m1 (list1 a) h
     (λ left n x d. joins1_to (first m left) n x d)
-    (joins1_from (first m m1) (list1 a).delay (list1 a).result ((h m1 (list1 a).delay (grouped (λ v. v.0) (list1 a).result)).1 (refl, refl, refl)))
+    (joins1_from (first m m1) (list1 a).delay (list1 a).result ((h m1 (list1 a).delay (map_value (λ v. v.0) (list1 a).result)).1 (refl, refl, refl)))
 
 pub decides3 : {A B C : Type 0} (first : Meaning A) (second : Meaning B) (third : Meaning C) → Decides3 first second third
 decides3 {A} {B} {C} first second third m m1 m2 m3 a b c h1 h2 h3 =

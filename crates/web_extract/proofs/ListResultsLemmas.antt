@@ -3,11 +3,11 @@ use Rattle.std.proofs.Common.{◌≡◌, ℕ, suc, max, ◌<◌, ◌≤◌, ◌�
 use Rattle.std.proofs.lemmas.Bool.{cases_lt, cond_below, cond_above}
 use Rattle.std.specs.Prelude.{Option, Some, Result, Ok, Err}
 use Rattle.web_reply.specs.Replies.{Fault}
-use Rattle.web_extract.specs.ArgumentLists.{Coming, RefusedBefore, Precedes, Joins2}
-use Rattle.web_extract.specs.ListResults.{DelayedResult, Refusal, decided, list2}
+use Rattle.web_extract.specs.ArgumentLists.{Gives, RefusedBefore, Precedes, Joins2}
+use Rattle.web_extract.specs.ListResults.{DelayedResult, Refusal, deciding_result, list2}
 
 -- it allows this result at this delay and no other
-abbrev pub Only : {T : Type 0} → Coming T → DelayedResult T → Type 0
+abbrev pub Only : {T : Type 0} → Gives T → DelayedResult T → Type 0
 Only {T} g v = (n : ℕ) (x : Result T Fault) → g n x ↔ (n ≡ v.delay) × (x ≡ v.result)
 
 abbrev at : {T : Type 0} → ℕ → Result T Fault → DelayedResult T
@@ -17,13 +17,13 @@ before_only : {T : Type 0} (d n k : ℕ) (e : Fault) (y : Result T Fault) → k 
 before_only d n k e (Ok v) hk hy lt = absurd (cc hy)
 before_only d n k e (Err f) hk hy lt = omega (arith, hk, lt)
 
-precedes_only : {T : Type 0} (g : Coming T) (d n : ℕ) (e : Fault) → Only g (at d (Err e)) → d < n → Precedes g n
+precedes_only : {T : Type 0} (g : Gives T) (d n : ℕ) (e : Fault) → Only g (at d (Err e)) → d < n → Precedes g n
 precedes_only g d n e h lt k y a = let q = (h k y).0 a in before_only d n k e y q.0 q.1 lt
 
-pub comes : {T : Type 0} (g : Coming T) (v : DelayedResult T) → Only g v → g v.delay v.result
+pub comes : {T : Type 0} (g : Gives T) (v : DelayedResult T) → Only g v → g v.delay v.result
 comes g v h = (h v.delay v.result).1 (refl, refl)
 
-module _ {A B : Type 0} (g1 : Coming A) (g2 : Coming B) where
+module _ {A B : Type 0} (g1 : Gives A) (g2 : Gives B) where
   two_values : (d1 d2 : ℕ) (a : A) (b : B) → Only g1 (at d1 (Ok a)) → Only g2 (at d2 (Ok b))
       → (n : ℕ) (x : Result (A × B) Fault) → Joins2 g1 g2 n x → (n ≡ max d1 (max d2 0)) × (x ≡ Ok (a, b))
   two_values d1 d2 a b h1 h2 n (Ok v) j =
@@ -90,11 +90,11 @@ module _ {A B : Type 0} (g1 : Coming A) (g2 : Coming B) where
 
     both_refuse : (d2 < d1) ⊎ (d1 ≤ d2) → Only (Joins2 g1 g2) (list2 (at d1 (Err e1)) (at d2 (Err e2)))
     both_refuse (inl lt) =
-        subst (λ (r : Option Refusal). Only (Joins2 g1 g2) (decided r (max d1 (max d2 0)) (Err e1)))
+        subst (λ (r : Option Refusal). Only (Joins2 g1 g2) (deciding_result r (max d1 (max d2 0)) (Err e1)))
         (cond_below d2 d1 (Some (record { delay = d2; error = e2 })) (Some (record { delay = d1; error = e1 })) lt)
         (λ n x. (second_wins lt n x, λ h. refuses2 d2 e2 h2 (λ p. let q = p d1 (Err e1) (comes g1 (at d1 (Err e1)) h1) in omega (arith, lt, q)) n x h.0 h.1))
     both_refuse (inr le) =
-        subst (λ (r : Option Refusal). Only (Joins2 g1 g2) (decided r (max d1 (max d2 0)) (Err e1)))
+        subst (λ (r : Option Refusal). Only (Joins2 g1 g2) (deciding_result r (max d1 (max d2 0)) (Err e1)))
         (cond_above d2 d1 (Some (record { delay = d2; error = e2 })) (Some (record { delay = d1; error = e1 })) (Some (record { delay = d1; error = e1 })) le refl)
         (λ n x. (first_wins le n x, λ h. refuses1 d1 e1 h1 (λ p. let q = p d2 (Err e2) (comes g2 (at d2 (Err e2)) h2) in omega (arith, le, q)) n x h.0 h.1))
 

@@ -3,18 +3,18 @@ use Rattle.std.proofs.Common.{ℕ, suc, max, ◌<◌, ◌≤◌, refl, arith, �
 use Rattle.std.proofs.lemmas.Bool.{cases_lt}
 use Rattle.std.specs.Prelude.{Result, Ok, Err}
 use Rattle.web_reply.specs.Replies.{Fault}
-use Rattle.web_extract.specs.ArgumentLists.{Coming, RefusedBefore, Precedes, NeedNot, Joins2, Joins3, Joins4}
+use Rattle.web_extract.specs.ArgumentLists.{Gives, RefusedBefore, Precedes, NeedNot, Joins2, Joins3, Joins4}
 use Rattle.web_extract.specs.PerPlace.{Refuses3, Refuses4, Values3, Values4, PerPlace3, PerPlace4}
 
 before_more : {T : Type 0} (n m k : ℕ) (x : Result T Fault) → n ≤ m → RefusedBefore n k x → RefusedBefore m k x
 before_more n m k (Ok v) le h = h
 before_more n m k (Err e) le h = omega (arith, le, h)
 
-precedes_more : {T : Type 0} (g : Coming T) (n m : ℕ) → n ≤ m → Precedes g n → Precedes g m
+precedes_more : {T : Type 0} (g : Gives T) (n m : ℕ) → n ≤ m → Precedes g n → Precedes g m
 precedes_more g n m le p k x h = before_more n m k x le (p k x h)
 
 -- where it need not have refused before n polls, it cannot be that all that may come is such a refusal
-late_or_before : {T : Type 0} (g : Coming T) (n k : ℕ) (x : Result T Fault) → g k x → ((RefusedBefore n k x → ⊥) → ⊥) → RefusedBefore n k x
+late_or_before : {T : Type 0} (g : Gives T) (n k : ℕ) (x : Result T Fault) → g k x → ((RefusedBefore n k x → ⊥) → ⊥) → RefusedBefore n k x
 late_or_before g n k (Ok v) a h = h (λ r. r)
 late_or_before {T} g n k (Err e) a h = before_cases (cases_lt k n)
   where
@@ -22,10 +22,10 @@ late_or_before {T} g n k (Err e) a h = before_cases (cases_lt k n)
     before_cases (inl lt) = lt
     before_cases (inr le) = absurd (h (λ r. omega (arith, le, r)))
 
-late : {T : Type 0} (g : Coming T) (n : ℕ) → NeedNot g n → ((k : ℕ) (x : Result T Fault) → g k x → (RefusedBefore n k x → ⊥) → ⊥) → ⊥
+late : {T : Type 0} (g : Gives T) (n : ℕ) → NeedNot g n → ((k : ℕ) (x : Result T Fault) → g k x → (RefusedBefore n k x → ⊥) → ⊥) → ⊥
 late g n need none = need (λ k x a. late_or_before g n k x a (none k x a))
 
-module _ {A B : Type 0} (g : Coming A) (h : Coming B) where
+module _ {A B : Type 0} (g : Gives A) (h : Gives B) where
   less_first : (n k : ℕ) (x : Fault) → Precedes h n → g k (Err x) → (Precedes h k → ⊥) → (k < n) ⊎ (n ≤ k) → k < n
   less_first n k x p a not (inl lt) = lt
   less_first n k x p a not (inr le) = absurd (not (precedes_more h n k le p))
@@ -64,7 +64,7 @@ module _ {A B : Type 0} (g : Coming A) (h : Coming B) where
   need_both : (n : ℕ) → NeedNot g n → NeedNot h n → NeedNot (Joins2 g h) n
   need_both n needs needs' p = late g n needs (λ k x i not. late h n needs' (λ m y j not'. join_late n k m x y i j not not' p))
 
-module _ {A B C : Type 0} (g1 : Coming A) (g2 : Coming B) (g3 : Coming C) where
+module _ {A B C : Type 0} (g1 : Gives A) (g2 : Gives B) (g3 : Gives C) where
   three_to : (n : ℕ) (x : Fault) → Joins3 g1 g2 g3 n (Err x) → Refuses3 g1 g2 g3 n x
   three_to n x (inl j) = inl (j.0, need_first g2 g3 n j.1, need_second g2 g3 n j.1)
   three_to n x (inr (inl j, need)) = inr (inl (j.0, need, j.1))
@@ -84,7 +84,7 @@ module _ {A B C : Type 0} (g1 : Coming A) (g2 : Coming B) (g3 : Coming C) where
   pub per_place3 : PerPlace3 g1 g2 g3
   per_place3 = (λ n x. (three_to n x, three_from n x), λ n v. (three_values n v, three_values_from n v))
 
-module _ {A B C D : Type 0} (g1 : Coming A) (g2 : Coming B) (g3 : Coming C) (g4 : Coming D) where
+module _ {A B C D : Type 0} (g1 : Gives A) (g2 : Gives B) (g3 : Gives C) (g4 : Gives D) where
   four_to : (n : ℕ) (x : Fault) → Joins4 g1 g2 g3 g4 n (Err x) → Refuses4 g1 g2 g3 g4 n x
   four_to n x (inl j) =
       let last = need_second g2 (Joins2 g3 g4) n j.1 in

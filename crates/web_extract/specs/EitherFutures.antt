@@ -14,6 +14,11 @@ module _ {L R : Type 0} where
   either_gives left right (Left f) n x = left f n x
   either_gives left right (Right f) n x = right f n x
 
+  -- the next poll of the future inside allocates nothing
+  abbrev pub EitherNeedsNoMemory : (L → Type 0) → (R → Type 0) → EitherFuture L R → Type 0
+  EitherNeedsNoMemory left right (Left f) = left f
+  EitherNeedsNoMemory left right (Right f) = right f
+
 -- while it is not finished, it is not the case that nothing may come
 abbrev GivesUntilFinished : {F T : Type 0} → (F → Bool) → (F → ℕ → T → Type 0) → Type 0
 GivesUntilFinished {F} finished gives = (f : F) → finished f ≡ false → GivesSome (gives f)

@@ -3,17 +3,18 @@
 use Rattle.std.specs.Prelude.{ℕ, List, Result}
 use Rattle.web_request.specs.declared.source.Mark.{Mark}
 use Rattle.web_reply.specs.Replies.{Fault}
-use Rattle.web_extract.specs.ArgumentLists.{Coming, Turned, One, Joins1, Joins2, Joins3, Joins4}
+use Rattle.web_extract.specs.ArgumentLists.{Gives, ConvertsRefusal, One}
+use Rattle.web_extract.specs.ArgumentLists.{Joins1, Joins2, Joins3, Joins4}
 
 -- what may come of these marks, with these left over
 abbrev pub Meaning : Type 0 → Type 1
-Meaning T = List Mark → List Mark → Coming T
+Meaning T = List Mark → List Mark → Gives T
 
 -- an argument as a place
 abbrev pub Member :
     {T E : Type 0} → (E → Fault → Type 0) → (List Mark → List Mark → ℕ → Result T E → Type 0)
     → Meaning T
-Member converts means m rest = Turned converts (means m rest)
+Member converts means m rest = ConvertsRefusal converts (means m rest)
 
 abbrev pub Means1 : {A : Type 0} → Meaning A → Meaning (One A)
 Means1 first m rest = Joins1 (first m rest)

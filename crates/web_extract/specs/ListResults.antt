@@ -3,7 +3,7 @@ use Rattle.std.specs.Prelude.{◌≡◌, ℕ, max, ltb, if◌then◌else◌, ◌
 use Rattle.std.specs.Prelude.{Some, Result, Ok, Err}
 use Rattle.web_request.specs.declared.source.Mark.{Mark}
 use Rattle.web_reply.specs.Replies.{Fault}
-use Rattle.web_extract.specs.ArgumentLists.{One, grouped}
+use Rattle.web_extract.specs.ArgumentLists.{One, map_value}
 use Rattle.web_extract.specs.ListMeanings.{Meaning, Means1, Means2, Means3, Means4}
 
 -- a result, and the number of polls that return Pending before it
@@ -21,12 +21,12 @@ pub record Refusal : Type 0 where
   pub delay : ℕ
   pub error : Fault
 
-abbrev pub refused : {T : Type 0} → ℕ → Result T Fault → Option Refusal
-refused n (Ok v) = None
-refused n (Err e) = Some (record { delay = n; error = e })
+abbrev pub refusal_at : {T : Type 0} → ℕ → Result T Fault → Option Refusal
+refusal_at n (Ok v) = None
+refusal_at n (Err e) = Some (record { delay = n; error = e })
 
 abbrev pub refusal : {T : Type 0} → DelayedResult T → Option Refusal
-refusal v = refused v.delay v.result
+refusal v = refusal_at v.delay v.result
 
 -- the one of less delay, of two equal ones the first
 abbrev pub earlier : Option Refusal → Option Refusal → Option Refusal
@@ -45,42 +45,42 @@ greatest (n ∷ ns) = max n (greatest ns)
 
 -- where some place refuses, the earliest refusal decides, with its delay; else all values, with the
 -- greatest delay
-abbrev pub decided : {T : Type 0} → Option Refusal → ℕ → Result T Fault → DelayedResult T
-decided (Some r) delay values = record { delay = r.delay; result = Err r.error }
-decided None delay values = record { delay = delay; result = values }
+abbrev pub deciding_result : {T : Type 0} → Option Refusal → ℕ → Result T Fault → DelayedResult T
+deciding_result (Some r) delay values = record { delay = r.delay; result = Err r.error }
+deciding_result None delay values = record { delay = delay; result = values }
 
 -- the list of the values, where all are there
 abbrev pub values1 : {A : Type 0} → Result A Fault → Result (One A) Fault
-values1 x = grouped (λ v. record { 0 = v }) x
+values1 x = map_value (λ v. record { 0 = v }) x
 
 abbrev pub values2 : {A B : Type 0} → Result A Fault → Result B Fault → Result (A × B) Fault
-values2 (Ok a) y = grouped (λ b. (a, b)) y
+values2 (Ok a) y = map_value (λ b. (a, b)) y
 values2 (Err e) y = Err e
 
 abbrev pub values3 :
     {A B C : Type 0} → Result A Fault → Result B Fault → Result C Fault → Result (A × B × C) Fault
-values3 (Ok a) y z = grouped (λ v. (a, v.0, v.1)) (values2 y z)
+values3 (Ok a) y z = map_value (λ v. (a, v.0, v.1)) (values2 y z)
 values3 (Err e) y z = Err e
 
 abbrev pub values4 :
     {A B C D : Type 0} → Result A Fault → Result B Fault → Result C Fault → Result D Fault
     → Result (A × B × C × D) Fault
-values4 (Ok a) y z w = grouped (λ v. (a, v.0, v.1, v.2)) (values3 y z w)
+values4 (Ok a) y z w = map_value (λ v. (a, v.0, v.1, v.2)) (values3 y z w)
 values4 (Err e) y z w = Err e
 
 abbrev pub list1 : {A : Type 0} → DelayedResult A → DelayedResult (One A)
-list1 a = decided (earliest (refusal a ∷ [])) (greatest (a.delay ∷ [])) (values1 a.result)
+list1 a = deciding_result (earliest (refusal a ∷ [])) (greatest (a.delay ∷ [])) (values1 a.result)
 
 abbrev pub list2 : {A B : Type 0} → DelayedResult A → DelayedResult B → DelayedResult (A × B)
 list2 a b =
-    decided (earliest (refusal a ∷ refusal b ∷ [])) (greatest (a.delay ∷ b.delay ∷ []))
+    deciding_result (earliest (refusal a ∷ refusal b ∷ [])) (greatest (a.delay ∷ b.delay ∷ []))
     (values2 a.result b.result)
 
 abbrev pub list3 :
     {A B C : Type 0} → DelayedResult A → DelayedResult B → DelayedResult C
     → DelayedResult (A × B × C)
 list3 a b c =
-    decided (earliest (refusal a ∷ refusal b ∷ refusal c ∷ []))
+    deciding_result (earliest (refusal a ∷ refusal b ∷ refusal c ∷ []))
     (greatest (a.delay ∷ b.delay ∷ c.delay ∷ []))
     (values3 a.result b.result c.result)
 
@@ -88,7 +88,7 @@ abbrev pub list4 :
     {A B C D : Type 0} → DelayedResult A → DelayedResult B → DelayedResult C → DelayedResult D
     → DelayedResult (A × B × C × D)
 list4 a b c d =
-    decided (earliest (refusal a ∷ refusal b ∷ refusal c ∷ refusal d ∷ []))
+    deciding_result (earliest (refusal a ∷ refusal b ∷ refusal c ∷ refusal d ∷ []))
     (greatest (a.delay ∷ b.delay ∷ c.delay ∷ d.delay ∷ []))
     (values4 a.result b.result c.result d.result)
 
@@ -119,7 +119,7 @@ Decides4 {A} {B} {C} {D} first second third fourth =
 
 -- the same with another form of the value
 abbrev pub with_value : {T U : Type 0} → (T → U) → DelayedResult T → DelayedResult U
-with_value group v = record { delay = v.delay; result = grouped group v.result }
+with_value group v = record { delay = v.delay; result = map_value group v.result }
 
 -- it has the delay and the error or values of the list of the four
 abbrev pub AsList4 :

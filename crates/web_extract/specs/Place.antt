@@ -4,7 +4,7 @@ use Rattle.web_body.specs.PollSteps.{GivesSome}
 use Rattle.web_body.specs.declared.poll.Step.{Step}
 use Rattle.web_body.specs.declared.poll.Step.TheVariants as step
 use Rattle.web_reply.specs.Replies.{Fault}
-use Rattle.web_extract.specs.ArgumentLists.{Coming, Turned}
+use Rattle.web_extract.specs.ArgumentLists.{Gives, ConvertsRefusal}
 use Rattle.web_extract.specs.declared.place.Stop.{Stop}
 use Rattle.web_extract.specs.declared.place.Stop.TheVariants.{Refused, NoMemory}
 use Rattle.web_extract.specs.declared.place.Place.{Place}
@@ -24,8 +24,8 @@ place_gives gives Taken n x = ⊥
 
 -- the same, with the refusal converted
 abbrev pub place_comes :
-    {F T E : Type 0} → (E → Fault → Type 0) → (F → ℕ → Result T E → Type 0) → Place F T → Coming T
-place_comes converts gives place = Turned converts (place_gives gives place)
+    {F T E : Type 0} → (E → Fault → Type 0) → (F → ℕ → Result T E → Type 0) → Place F T → Gives T
+place_comes converts gives place = ConvertsRefusal converts (place_gives gives place)
 
 -- the place holds its value, which came at this poll or before
 abbrev pub HoldsValue :

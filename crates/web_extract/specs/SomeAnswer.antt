@@ -9,7 +9,8 @@ use Rattle.web_body.specs.PollSteps.{GivesSome}
 use Rattle.web_extract.specs.Extracts.{AllowsSome}
 use Rattle.web_extract.specs.declared.place.Place.{Place}
 use Rattle.web_extract.specs.Place.{place_finished, place_gives, place_comes, unfinished_some}
-use Rattle.web_extract.specs.ArgumentLists.{Coming, Turned, Joins1, Joins2, Joins3, Joins4, nested3}
+use Rattle.web_extract.specs.ArgumentLists.{Gives, ConvertsRefusal, Joins1, Joins2, Joins3}
+use Rattle.web_extract.specs.ArgumentLists.{Joins4, nested3}
 use Rattle.web_extract.specs.ArgumentLists.{nested4}
 use Rattle.web_extract.specs.ListMeanings.{Meaning, Member, Means1, Means2, Means3, Means4}
 
@@ -22,18 +23,18 @@ pub itself : (e : Fault) → (f : Fault) × (f ≡ e)
 itself e = (e, refl)
 
 -- a result that may come
-abbrev Answer : {T : Type 0} → Coming T → Type 0
+abbrev Answer : {T : Type 0} → Gives T → Type 0
 Answer {T} g = (n : ℕ) × (x : Result T Fault) × g n x
 
 turn :
     {T E : Type 0} (c : E → Fault → Type 0) → Converted c
-    → (g : ℕ → Result T E → Type 0) (n : ℕ) (x : Result T E) → g n x → Answer (Turned c g)
+    → (g : ℕ → Result T E → Type 0) (n : ℕ) (x : Result T E) → g n x → Answer (ConvertsRefusal c g)
 turn c t g n (Ok v) h = (n, Ok v, h)
 turn c t g n (Err e) h = let x = t e in (n, Err x.0, (e, h, x.1))
 
 turned_some :
     {T E : Type 0} (c : E → Fault → Type 0) → Converted c → (g : ℕ → Result T E → Type 0)
-    → GivesSome g → GivesSome (Turned c g)
+    → GivesSome g → GivesSome (ConvertsRefusal c g)
 turned_some c t g some none = some (λ n x h. let j = turn c t g n x h in none j.0 j.1 j.2)
 
 pub place_some :
@@ -44,11 +45,11 @@ pub place_some :
 place_some c t finished gives some p h =
     turned_some c t (place_gives gives p) (unfinished_some finished gives some p h)
 
-join1 : {A : Type 0} (g : Coming A) (n : ℕ) (x : Result A Fault) → g n x → Answer (Joins1 g)
+join1 : {A : Type 0} (g : Gives A) (n : ℕ) (x : Result A Fault) → g n x → Answer (Joins1 g)
 join1 g n (Ok a) h = (n, Ok record { 0 = a }, h)
 join1 g n (Err e) h = (n, Err e, h)
 
-module _ {A B : Type 0} (g1 : Coming A) (g2 : Coming B) where
+module _ {A B : Type 0} (g1 : Gives A) (g2 : Gives B) where
   both_refuse :
       (n1 n2 : ℕ) (e f : Fault) → g1 n1 (Err e) → g2 n2 (Err f) → (n2 < n1) ⊎ (n1 ≤ n2)
       → Answer (Joins2 g1 g2)
@@ -69,7 +70,7 @@ module _ {A B : Type 0} (g1 : Coming A) (g2 : Coming B) where
   joins2_some some1 some2 none =
       some1 (λ n1 x1 h1. some2 (λ n2 x2 h2. let j = join2 n1 x1 n2 x2 h1 h2 in none j.0 j.1 j.2))
 
-pub joins1_some : {A : Type 0} (g : Coming A) → GivesSome g → GivesSome (Joins1 g)
+pub joins1_some : {A : Type 0} (g : Gives A) → GivesSome g → GivesSome (Joins1 g)
 joins1_some g some none = some (λ n x h. let j = join1 g n x h in none j.0 j.1 j.2)
 
 or_first : (a b : Bool) → (a || b) ≡ false → a ≡ false
@@ -99,19 +100,19 @@ places_some c1 t1 finished1 gives1 some1 c2 t2 finished2 gives2 some2 p q h =
 
 -- a result of nested pairs as one of a list
 listed3 :
-    {A B C : Type 0} (g : Coming (A × (B × C))) (n : ℕ) (x : Result (A × (B × C)) Fault) → g n x
+    {A B C : Type 0} (g : Gives (A × (B × C))) (n : ℕ) (x : Result (A × (B × C)) Fault) → g n x
     → (y : Result (A × B × C) Fault) × g n (nested3 y)
 listed3 g n (Ok v) h = (Ok (v.0, v.1.0, v.1.1), h)
 listed3 g n (Err e) h = (Err e, h)
 
 listed4 :
-    {A B C D : Type 0} (g : Coming (A × (B × (C × D)))) (n : ℕ)
+    {A B C D : Type 0} (g : Gives (A × (B × (C × D)))) (n : ℕ)
     (x : Result (A × (B × (C × D))) Fault) → g n x
     → (y : Result (A × B × C × D) Fault) × g n (nested4 y)
 listed4 g n (Ok v) h = (Ok (v.0, v.1.0, v.1.1.0, v.1.1.1), h)
 listed4 g n (Err e) h = (Err e, h)
 
-module _ {A B C : Type 0} (g1 : Coming A) (g2 : Coming B) (g3 : Coming C) where
+module _ {A B C : Type 0} (g1 : Gives A) (g2 : Gives B) (g3 : Gives C) where
   join3 :
       (n1 : ℕ) (x1 : Result A Fault) (n2 : ℕ) (x2 : Result B Fault) (n3 : ℕ) (x3 : Result C Fault)
       → g1 n1 x1 → g2 n2 x2 → g3 n3 x3 → Answer (Joins3 g1 g2 g3)
@@ -121,7 +122,7 @@ module _ {A B C : Type 0} (g1 : Coming A) (g2 : Coming B) (g3 : Coming C) where
       let l = listed3 (Joins2 g1 (Joins2 g2 g3)) k.0 k.1 k.2 in
       (k.0, l.0, l.1)
 
-module _ {A B C D : Type 0} (g1 : Coming A) (g2 : Coming B) (g3 : Coming C) (g4 : Coming D) where
+module _ {A B C D : Type 0} (g1 : Gives A) (g2 : Gives B) (g3 : Gives C) (g4 : Gives D) where
   join4 :
       (n1 : ℕ) (x1 : Result A Fault) (n2 : ℕ) (x2 : Result B Fault) (n3 : ℕ) (x3 : Result C Fault)
       (n4 : ℕ) (x4 : Result D Fault)
@@ -134,11 +135,11 @@ module _ {A B C D : Type 0} (g1 : Coming A) (g2 : Coming B) (g3 : Coming C) (g4 
       (k.0, l.0, l.1)
 
 pub nested3_some :
-    {A B C : Type 0} (g : Coming (A × (B × C))) → GivesSome g → GivesSome (λ n x. g n (nested3 x))
+    {A B C : Type 0} (g : Gives (A × (B × C))) → GivesSome g → GivesSome (λ n x. g n (nested3 x))
 nested3_some g some none = some (λ n x h. let j = listed3 g n x h in none n j.0 j.1)
 
 pub nested4_some :
-    {A B C D : Type 0} (g : Coming (A × (B × (C × D)))) → GivesSome g
+    {A B C D : Type 0} (g : Gives (A × (B × (C × D)))) → GivesSome g
     → GivesSome (λ n x. g n (nested4 x))
 nested4_some g some none = some (λ n x h. let j = listed4 g n x h in none n j.0 j.1)
 

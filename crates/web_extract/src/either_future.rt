@@ -11,13 +11,16 @@ pub enum EitherFuture<L, R> {
 }
 
 impl<T: Drop, L: Poll<Output = T>, R: Poll<Output = T>> Poll for EitherFuture<L, R> {
-    ghost use Rattle.web_extract.specs.EitherFutures.{either_finished, either_gives, either_some};
+    ghost use Rattle.web_extract.specs.EitherFutures.{EitherNeedsNoMemory, either_finished};
+    ghost use Rattle.web_extract.specs.EitherFutures.{either_gives, either_some};
 
     type Output = T;
 
     ghost is_finished = { λ f. either_finished L.is_finished R.is_finished f };
 
     ghost gives = { λ f n x. either_gives L.gives R.gives f n x };
+
+    ghost needs_no_memory = { λ f. EitherNeedsNoMemory L.needs_no_memory R.needs_no_memory f };
 
     ghost some = { λ f h. either_some L.is_finished R.is_finished L.gives R.gives
         L.some R.some f h };

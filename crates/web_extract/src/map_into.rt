@@ -1,5 +1,5 @@
 //! A future whose value and refusal are converted by `Into`.
-ghost use Rattle.std.specs.Prelude.{◌≡◌, ◌⊎◌, false, IfOk};
+ghost use Rattle.std.specs.Prelude.{◌≡◌, ◌⊎◌, false, IfOk, IsOk};
 ghost use Rattle.web_body.specs.Payload.{payload_feed};
 ghost use Rattle.web_extract.specs.ConvertedFutures.{ConvertsStep, GivesConverted};
 ghost use Rattle.web_extract.specs.Extracts.{Extracts};
@@ -66,6 +66,8 @@ impl<
 
     ghost gives = { λ f n x. GivesConverted T.converts E.converts (Fut.gives f) n x };
 
+    ghost needs_no_memory = { λ f. Fut.needs_no_memory f };
+
     ghost some = { λ f h. converted_some T.converts E.converts T.converted E.converted
         (Fut.gives f) (Fut.some f h) };
 
@@ -96,6 +98,7 @@ where
         (payload_feed A.Source.feed payload.old).marks
         (payload_feed A.Source.feed payload.new).marks) }
     ensures payload { (payload.new ≡ payload.old) ⊎ (payload.new ≡ Payload.None) }
+    ensures memory { T.needs_no_memory req.now.request → IsOk result }
 {
     match T::from_request(alloc, req, payload) {
         Ok(fut) => Ok(MapInto::new(fut)),
