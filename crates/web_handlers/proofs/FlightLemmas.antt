@@ -14,11 +14,11 @@ one_at_most true = omega arith
 one_at_most false = omega arith
 
 module _ {S L D C U W : Type 0} where
-  most : (o : Option (FlightView S L D C U W)) → may_make o ≤ 1
-  most None = omega arith
-  most (Some f) = one_at_most (is_waiting f)
+  pub may_make_most : (o : Option (FlightView S L D C U W)) → may_make o ≤ 1
+  may_make_most None = omega arith
+  may_make_most (Some f) = one_at_most (is_waiting f)
 
   -- one record more can be counted, which is the most that a poll makes
   pub room : (made top : ℕ) (o : Option (FlightView S L D C U W)) → made + 1 < top
       → made + may_make o < top
-  room made top o more = let least = most o in omega (arith, more, least)
+  room made top o more = let least = may_make_most o in omega (arith, more, least)

@@ -83,11 +83,15 @@ fn refused_place(rt: &impl Abort, alloc: Global) {
 /// Pairs of pairs whose places are never refused.
 type NeverRefused = (((), Option<Bytes>), (Result<Bytes, PayloadError>, ()));
 
-/// Lists in a list.
+/// Lists in a list, over a payload.
 fn nested_lists(rt: &impl Abort, alloc: Global) {
     let mut payload = faulty_payload(rt, alloc);
     let (stalls, list) = argument_of::<NeverRefused>(rt, alloc, &mut payload);
     assert_same(rt, (stalls, list.is_ok()), (1, true));
+}
+
+/// Lists in a list, without a payload.
+fn nested_lists_alone(rt: &impl Abort, alloc: Global) {
     let (stalls, list) = argument_alone::<(Bytes, (Bytes, ()))>(rt, alloc);
     assert_same(rt, (stalls, list.is_ok()), (0, true));
 }
@@ -103,6 +107,7 @@ fn refusal_as_value(rt: &impl Abort, alloc: Global) {
 fn a_refused_place_decides(rt: HostRuntime) {
     refused_place(&rt, rt.alloc());
     nested_lists(&rt, rt.alloc());
+    nested_lists_alone(&rt, rt.alloc());
     refusal_as_value(&rt, rt.alloc());
 }
 
