@@ -130,7 +130,11 @@ fn each_output_takes_bytes_and_gives_faults(rt: HostRuntime) {
     assert_writes(
         &rt,
         &mut plain,
-        &[WriteAnswer::Wrote(5), WriteAnswer::Wrote(5)],
+        &[
+            WriteAnswer::Wrote(5),
+            WriteAnswer::Wrote(5),
+            WriteAnswer::Wrote(5),
+        ],
     );
     let mut few = MemOutput::new(rt.alloc(), 3, &[2]);
     assert_writes(
@@ -142,7 +146,7 @@ fn each_output_takes_bytes_and_gives_faults(rt: HostRuntime) {
             WriteAnswer::Wrote(3),
         ],
     );
-    assert!(rt; plain.as_slice() == b"abcdeabcde".as_slice());
+    assert!(rt; plain.as_slice() == b"abcdeabcdeabcde".as_slice());
     assert!(rt; few.as_slice() == b"abcabc".as_slice());
 }
 

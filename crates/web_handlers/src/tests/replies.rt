@@ -128,6 +128,8 @@ pub(crate) fn assert_reply<B: MessageBody<Marks>>(
     reply: HttpResponse<B>,
     expected: ExpectedReply<'_>,
 ) {
+    let length = expected.body.map_or(0, |bytes| bytes.len());
+    assert_same(rt, size_of(reply.body()), BodySize::Sized(length as u64));
     assert_head(rt, reply.head(), expected.status, expected.content_type);
     assert_cause(rt, alloc, reply.error(), expected.cause);
     assert_body(
