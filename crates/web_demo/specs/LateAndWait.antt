@@ -22,9 +22,13 @@ abbrev pub number_in : List ℕ → ℕ → List Pair → Option ℕ
 number_in name max params =
     option_and_then (λ p. digits_up_to max p.value) (first_param name params)
 
--- the parameter `delay`, if it is a number of at most 1,000,000, else 0
+-- the longest delay that a parameter can ask for
+abbrev pub max_delay : ℕ
+max_delay = 1000000
+
+-- the parameter `delay`, if it is a number of at most the longest delay, else 0
 abbrev pub delay_in : List Pair → ℕ
-delay_in params = unwrap_or (number_in (codes "delay") 1000000 params) 0
+delay_in params = unwrap_or (number_in (codes "delay") max_delay params) 0
 
 -- the number, if it is not below the least
 abbrev pub at_least : ℕ → Option ℕ → Option ℕ

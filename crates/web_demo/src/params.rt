@@ -4,6 +4,9 @@ ghost use Rattle.web_demo.specs.LateAndWait.{delay_in, first_param, number_in};
 
 use web_texts::{Pair, read_digits};
 
+/// The longest delay that a parameter can ask for, in polls.
+const MAX_DELAY: u64 = 1_000_000;
+
 /// The value of the first parameter of this name.
 fn first_param<'a>(params: &'a [Pair], name: &str) -> Option<&'a Pair>
     ensures { option_map (λ p. p.now) result ≡ first_param name.now params.now }
@@ -25,5 +28,5 @@ pub(crate) fn number_in(params: &[Pair], name: &str, max: u64) -> Option<u64>
 pub(crate) fn delay_in(params: &[Pair]) -> u64
     ensures { result ≡ delay_in params.now }
 {
-    number_in(params, "delay", 1_000_000).unwrap_or(0)
+    number_in(params, "delay", MAX_DELAY).unwrap_or(0)
 }
