@@ -221,6 +221,25 @@ fn assert_shows<A: App, Args: FromRequest<A>, H: Handler<Args>>(
     assert_holds(rt, "a flight's outcome", agrees);
 }
 
+/// Takes the last item out.
+fn last<T>(rt: &impl Abort, items: &mut Vec<T>) -> T {
+    items.pop().expect(rt, "an item")
+}
+
+/// Compares the outcome that a flight gives away.
+fn assert_gives<A: App, Args: FromRequest<A>, H: Handler<Args>>(
+    rt: &impl Abort,
+    flight: Flight<A, Args, H>,
+    expected: ExpectedOutcome,
+) {
+    let outcome = flight.into_outcome();
+    assert_holds(
+        rt,
+        "an outcome that is given away",
+        agrees(&outcome, expected),
+    );
+}
+
 /// Polls the first flight of these exchanges to its reply, and the last one once.
 fn show_outcomes<A: App, Args: FromRequest<A>, H: Handler<Args>>(
     rt: &impl Abort,
@@ -242,8 +261,7 @@ where
     assert_shows(rt, flights.get(0), Some(hello));
     assert_shows(rt, flights.get(1), None);
     poll(rt, alloc, worker, handler, &mut flights, (3, 2));
-    let last = flights.pop().expect(rt, "a flight").into_outcome();
-    assert_holds(rt, "no answer", agrees(&last, ExpectedOutcome::Unfinished));
+    assert_gives(rt, last(rt, &mut flights), ExpectedOutcome::Unfinished);
 }
 
 #[test]
@@ -279,8 +297,7 @@ fn assert_last<A: App, Args: FromRequest<A>, H: Handler<Args>>(
 ) {
     let hello = ExpectedOutcome::Reply(200, b"hello");
     assert_shows(rt, flights.get(3), Some(hello));
-    let last = flights.pop().expect(rt, "a flight").into_outcome();
-    assert_holds(rt, "the last answer", agrees(&last, hello));
+    assert_gives(rt, last(rt, &mut flights), hello);
 }
 
 #[test]
