@@ -15,7 +15,7 @@ use Rattle.web_worker.specs.Exchanges.{ExchangeView}
 use Rattle.web_worker.specs.OutcomeFunctions.{IsOutcome}
 use Rattle.web_worker.specs.PlanOutcomes.{poll_count, EachFrom}
 
--- the marks that are told, and none where they are not
+-- the marks that are stated, and none where they are not
 abbrev pub marks_or_none : Option (List Mark) → List Mark
 marks_or_none None = []
 marks_or_none (Some m) = m
@@ -31,7 +31,7 @@ with_rest (Ok b) = Some (b, Some [])
 with_rest (Err e) = None
 
 module _ {S L D C : Type 0} (feed : S → Feed) where
-  -- the source of the body tells its marks
+  -- the source of the body states its marks
   abbrev pub IsTold : ExchangeView S L D C → Type 0
   IsTold x = IsSome (payload_feed feed x.body).marks
 
@@ -49,7 +49,7 @@ module _ {S L D C : Type 0} (feed : S → Feed) where
   abbrev pub body_and_rest : ExchangeView S L D C → ℕ × Option (List ℕ × Option (List ℕ))
   body_and_rest x = (body_delay x, with_rest (answer_of (exchange_reading x).content))
 
-  -- Each exchange whose body tells its marks has this reply after this delay, at its number of
+  -- Each exchange whose body states its marks has this reply after this delay, at its number of
   -- polls in the plan. A failed allocation is the exception.
   abbrev pub AreAnswered : (ExchangeView S L D C → ℕ) → (ExchangeView S L D C → Reply Plain)
       → List ℕ → List (ExchangeView S L D C) → List OutcomeView → Type 0

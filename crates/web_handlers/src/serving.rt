@@ -28,7 +28,7 @@ pub type Outcomes<A> = Result<Vec<Outcome<A>>, (NoMemory, Vec<Exchange<A>>)>;
 
 /// Serves the exchanges by a handler that keeps its calls.
 ///
-/// An exchange is answered as `serve_by_closure` says. Where each body tells its marks and no
+/// An exchange is answered as `serve_by_closure` says. Where each body states its marks and no
 /// outcome lacks memory, the handler was called once for each exchange whose body came and was not
 /// refused, in the order in which the plan lets the bodies come.
 pub fn serve_echo<A: App>(
@@ -51,7 +51,7 @@ pub fn serve_echo<A: App>(
 
 /// Serves the exchanges by a closure that responds with the body of a request.
 ///
-/// An exchange whose body tells its marks is answered once the plan has polled it more often than
+/// An exchange whose body states its marks is answered once the plan has polled it more often than
 /// its body stalls: with its bytes, or with the reply to the fault that reading it meets. Before
 /// that it is unfinished. A failed allocation is the exception.
 pub fn serve_by_closure<A: App>(
@@ -73,7 +73,7 @@ pub fn serve_by_closure<A: App>(
 
 /// Serves the exchanges by a handler whose future stalls once.
 ///
-/// An exchange whose body tells its marks is answered with `hello` once the plan has polled it
+/// An exchange whose body states its marks is answered with `hello` once the plan has polled it
 /// twice, and is unfinished before that. No body is read. A failed allocation is the exception.
 pub fn serve_greeting<A: App>(
     alloc: Global,

@@ -24,7 +24,7 @@ mark_line (Piece b) = line_text (codes "mark piece ") (encode_lower b)
 mark_line Stall = codes "mark stall" ++ newline
 mark_line Fault = codes "mark fault" ++ newline
 
--- a line for each mark that is left, where they are told
+-- a line for each mark that is left, where they are stated
 abbrev pub mark_lines : Option (List Mark) → List ℕ
 mark_lines None = []
 mark_lines (Some marks) = flat_map mark_line marks

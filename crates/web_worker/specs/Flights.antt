@@ -37,13 +37,13 @@ module _ {S L D C U W : Type 0} where
   is_open (Answered o) = false
 
 module _ {S L D C V E Y U W : Type 0} (s : Setting S L D C V E Y U W) where
-  -- where the marks are told, the exchange may be answered with r after d polls that leave it
+  -- where the marks are stated, the exchange may be answered with r after d polls that leave it
   -- unanswered
   abbrev pub ExchangeGives : ExchangeView S L D C → ℕ → Reply Plain → Type 0
   ExchangeGives x d r =
       MatchOption (payload_feed s.feed x.body).marks ⊤ (λ m. Replies s.rules (s.request x) m d r)
 
-  -- the marks are told, and every answer comes before that many polls
+  -- the marks are stated, and every answer comes before that many polls
   abbrev pub ExchangeBefore : ExchangeView S L D C → ℕ → Type 0
   ExchangeBefore x n =
       MatchOption (payload_feed s.feed x.body).marks ⊥

@@ -13,7 +13,7 @@ pub data OutcomeView : Type 0 where
   -- an allocation failed
   NoMemory : OutcomeView
 
--- `feed` says what a source tells of itself
+-- `feed` says what a source states of itself
 abbrev pub outcome_view : {A L D C S : Type 0} → (S → Feed) → Outcome A L D C S → OutcomeView
 outcome_view feed (outcome.Reply r) = OutcomeView.Replied (plain_reply (box_plain feed) r)
 outcome_view feed outcome.Unfinished = OutcomeView.Unfinished

@@ -75,8 +75,8 @@ module _ {S L D C V E Y U W : Type 0} (s : Setting S L D C V E Y U W) where
       EntryCall (poll_count (take i plan) k) (slice_get xs k) (lacks k) call) 0 plan calls
       × (vs ≡ filter_map (λ call. call) calls)
 
-  -- the marks are told, and the arguments come after d polls and as this value or refused, and not
-  -- otherwise
+  -- the marks are stated, and the arguments come after d polls and as this value or refused, and
+  -- not otherwise
   abbrev pub ArgumentsOnce : ExchangeView S L D C → ℕ → Option V → Type 0
   ArgumentsOnce x d y =
       MatchOption (payload_feed s.feed x.body).marks ⊥

@@ -17,7 +17,7 @@ pub record Setting (S L D C V E Y U W : Type 0) : Type 1 where
   pub rules : Rules L D C V E Y
   -- the request of an exchange
   pub request : ExchangeView S L D C → Request L D C
-  -- what a source tells of itself
+  -- what a source states of itself
   pub feed : S → Feed
   -- what the future of the arguments may give, and after how many polls
   pub arguments : U → ℕ → Result V E → Type 0
