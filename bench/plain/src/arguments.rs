@@ -1,15 +1,15 @@
 //! The arguments of a request, which the first segment of its path chooses.
-use crate::reply::Reply;
+use crate::layer;
+use crate::reply::Refusal;
 use crate::request::{Request, Segment};
 use crate::script::{self, Mark};
 use std::borrow::Cow;
 
-/// The most bytes that a body may have.
-const BODY_LIMIT: usize = 262_144;
-
 /// The arguments of a handler.
 pub enum Picked<'a> {
     Bytes(Cow<'a, [u8]>),
+    /// Bytes that are UTF-8.
+    Text(Cow<'a, [u8]>),
     Wait(u64),
     Other,
 }
@@ -17,25 +17,27 @@ pub enum Picked<'a> {
 /// Arguments on their way.
 pub enum Arguments<'a> {
     Bytes(Collector<'a>),
+    Text(Collector<'a>),
     Both(Box<Both<'a>>),
     Wait(u64),
     Other,
 }
 
-/// A body and an argument that comes late, both on their way.
+/// A text body and an argument that comes late, both on their way.
 pub struct Both<'a> {
     collector: Collector<'a>,
-    body: Option<Cow<'a, [u8]>>,
+    text: Option<Cow<'a, [u8]>>,
     late: Late,
 }
 
 impl<'a> Arguments<'a> {
     pub fn of(request: &Request<'a>, marks: Vec<Mark<'a>>) -> Arguments<'a> {
         match request.segment {
-            Segment::Bytes => Arguments::Bytes(Collector::of(marks)),
+            Segment::Bytes => Arguments::Bytes(Collector::of(request, marks, false)),
+            Segment::Text => Arguments::Text(Collector::of(request, marks, true)),
             Segment::Both => Arguments::Both(Box::new(Both {
-                collector: Collector::of(marks),
-                body: None,
+                collector: Collector::of(request, marks, true),
+                text: None,
                 late: Late::of(request),
             })),
             Segment::Wait => Arguments::Wait(delay(request)),
@@ -43,11 +45,12 @@ impl<'a> Arguments<'a> {
         }
     }
 
-    /// The arguments, or the reply to their refusal, where they are there at this poll.
-    pub fn poll(&mut self) -> Option<Result<Picked<'a>, Reply<'a>>> {
+    /// The arguments, or their refusal, where they are there at this poll.
+    pub fn poll(&mut self) -> Option<Result<Picked<'a>, Refusal>> {
         match self {
             Arguments::Bytes(collector) => Some(collector.poll()?.map(Picked::Bytes)),
-            Arguments::Both(both) => Some(both.poll()?.map(Picked::Bytes)),
+            Arguments::Text(collector) => Some(collector.poll_text()?.map(Picked::Text)),
+            Arguments::Both(both) => Some(both.poll()?.map(Picked::Text)),
             Arguments::Wait(delay) => Some(Ok(Picked::Wait(*delay))),
             Arguments::Other => Some(Ok(Picked::Other)),
         }
@@ -55,10 +58,10 @@ impl<'a> Arguments<'a> {
 }
 
 impl<'a> Both<'a> {
-    fn poll(&mut self) -> Option<Result<Cow<'a, [u8]>, Reply<'a>>> {
-        if self.body.is_none() {
-            match self.collector.poll() {
-                Some(Ok(bytes)) => self.body = Some(bytes),
+    fn poll(&mut self) -> Option<Result<Cow<'a, [u8]>, Refusal>> {
+        if self.text.is_none() {
+            match self.collector.poll_text() {
+                Some(Ok(text)) => self.text = Some(text),
                 Some(Err(refusal)) => return Some(Err(refusal)),
                 None => {}
             }
@@ -70,7 +73,7 @@ impl<'a> Both<'a> {
                 None => return None,
             }
         }
-        self.body.take().map(Ok)
+        self.text.take().map(Ok)
     }
 }
 
@@ -78,35 +81,71 @@ impl<'a> Both<'a> {
 pub struct Collector<'a> {
     marks: std::vec::IntoIter<Mark<'a>>,
     body: Cow<'a, [u8]>,
+    limit: u64,
+    /// What the headers refuse.
+    refusal: Option<Refusal>,
 }
 
 impl<'a> Collector<'a> {
-    fn of(marks: Vec<Mark<'a>>) -> Collector<'a> {
+    fn of(request: &Request<'a>, marks: Vec<Mark<'a>>, is_text: bool) -> Collector<'a> {
+        let (headers, config) = (&request.headers, layer::nearest(&request.layers));
+        let tested = config
+            .required
+            .map_or(Ok(()), |required| headers.test_type(required))
+            .and_then(|()| {
+                if is_text {
+                    headers.test_charset()
+                } else {
+                    Ok(())
+                }
+            })
+            .and_then(|()| headers.test_length(config.limit));
         Collector {
             marks: marks.into_iter(),
             body: Cow::Borrowed(&[]),
+            limit: config.limit,
+            refusal: tested.err(),
         }
     }
 
     /// Takes the marks up to the next stall, or to the answer.
-    fn poll(&mut self) -> Option<Result<Cow<'a, [u8]>, Reply<'a>>> {
+    fn poll(&mut self) -> Option<Result<Cow<'a, [u8]>, Refusal>> {
+        if let Some(refusal) = self.refusal {
+            return Some(Err(refusal));
+        }
         loop {
             let fits = match self.marks.next() {
                 Some(Mark::Text(piece)) => self.add(piece),
                 Some(Mark::Piece(digits)) => self.add_decoded(digits),
                 Some(Mark::Stall) => return None,
-                Some(Mark::Fault) => return Some(Err(Reply::error(400, "payload read failed"))),
+                Some(Mark::Fault) => return Some(Err(Refusal(400, "payload read failed"))),
                 None => return Some(Ok(std::mem::take(&mut self.body))),
             };
             if !fits {
-                return Some(Err(Reply::error(413, "payload reached its limit")));
+                return Some(Err(Refusal::TOO_LONG));
             }
         }
     }
 
+    /// The same, where the body has to be UTF-8.
+    fn poll_text(&mut self) -> Option<Result<Cow<'a, [u8]>, Refusal>> {
+        Some(self.poll()?.and_then(|body| {
+            if std::str::from_utf8(&body).is_ok() {
+                Ok(body)
+            } else {
+                Err(Refusal(400, "Can not decode body"))
+            }
+        }))
+    }
+
+    /// Whether the body is within its limit with so many more bytes.
+    fn has_room(&self, more: usize) -> bool {
+        (self.body.len() + more) as u64 <= self.limit
+    }
+
     /// Adds a piece, and says whether the body is within its limit. A piece alone is not copied.
     fn add(&mut self, piece: &'a [u8]) -> bool {
-        if self.body.len() + piece.len() > BODY_LIMIT {
+        if !self.has_room(piece.len()) {
             return false;
         }
         match &mut self.body {
@@ -119,7 +158,7 @@ impl<'a> Collector<'a> {
 
     /// Adds a piece of these digits, which are hexadecimal and an even number.
     fn add_decoded(&mut self, digits: &[u8]) -> bool {
-        if self.body.len() + digits.len() / 2 > BODY_LIMIT {
+        if !self.has_room(digits.len() / 2) {
             return false;
         }
         script::decode_into(self.body.to_mut(), digits);
@@ -146,13 +185,13 @@ impl Late {
         }
     }
 
-    fn poll<'a>(&mut self) -> Option<Result<(), Reply<'a>>> {
+    fn poll(&mut self) -> Option<Result<(), Refusal>> {
         if self.left > 0 {
             self.left -= 1;
             return None;
         }
         Some(match self.refusal {
-            Some(status) => Err(Reply::error(status, "late")),
+            Some(status) => Err(Refusal(status, "late")),
             None => Ok(()),
         })
     }

@@ -1,11 +1,15 @@
 //! Serves a script as the program rothveng does, in plain Rust, to measure against.
 mod arguments;
+mod headers;
+mod layer;
+mod media_type;
 mod printing;
 mod reply;
 mod request;
 mod script;
 mod serving;
 mod target;
+mod text;
 
 use std::io::{Read, Write};
 use std::process::ExitCode;
@@ -14,7 +18,6 @@ use std::process::ExitCode;
 const SCRIPT_LIMIT: u64 = 16_777_216;
 
 const USAGE: &[u8] = b"usage: serve --pool=N | generate SEED COUNT | replay SEED COUNT\n";
-const NOT_BUILT: &[u8] = b"not built\n";
 
 fn main() -> ExitCode {
     let words: Vec<String> = std::env::args().skip(1).collect();
@@ -31,13 +34,18 @@ fn main() -> ExitCode {
         return ExitCode::from(3);
     }
     if bytes.len() as u64 > SCRIPT_LIMIT {
-        return say(NOT_BUILT, 2);
+        return say(b"line 0: too long\n", 2);
     }
-    let Some(script) = script::read(&bytes) else {
-        return say(NOT_BUILT, 2);
-    };
-    let (mut flights, made) = serving::serve(script);
-    say(&printing::printed(&mut flights, made), 0)
+    match script::read(&bytes) {
+        Ok(script) => {
+            let (mut flights, made) = serving::serve(script);
+            say(&printing::printed(&mut flights, made), 0)
+        }
+        Err(fault) => {
+            let text = format!("line {}: {}\n", fault.line, fault.reason);
+            say(text.as_bytes(), 2)
+        }
+    }
 }
 
 /// Writes the text, and gives the status, or that writing failed.

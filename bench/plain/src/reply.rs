@@ -1,6 +1,14 @@
 //! Replies.
 use std::borrow::Cow;
 
+/// Why arguments are refused: the status and the text of the reply.
+#[derive(Clone, Copy)]
+pub struct Refusal(pub u16, pub &'static str);
+
+impl Refusal {
+    pub const TOO_LONG: Refusal = Refusal(413, "payload reached its limit");
+}
+
 pub struct Reply<'a> {
     pub status: u16,
     pub headers: Vec<(&'static str, Cow<'a, str>)>,
@@ -26,12 +34,14 @@ impl<'a> Reply<'a> {
         }
     }
 
-    /// The reply to an error.
-    pub fn error(status: u16, text: &'static str) -> Reply<'a> {
-        Reply::typed(
-            status,
-            "text/plain; charset=utf-8",
-            Cow::Borrowed(text.as_bytes()),
-        )
+    /// A reply with this text.
+    pub fn text(status: u16, text: Cow<'a, [u8]>) -> Reply<'a> {
+        Reply::typed(status, "text/plain; charset=utf-8", text)
+    }
+}
+
+impl From<Refusal> for Reply<'_> {
+    fn from(refusal: Refusal) -> Self {
+        Reply::text(refusal.0, Cow::Borrowed(refusal.1.as_bytes()))
     }
 }

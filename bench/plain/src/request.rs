@@ -1,5 +1,9 @@
 //! Requests, as a script asks for them. They borrow from its bytes.
+use crate::headers::Headers;
+use crate::layer::Layer;
+use crate::script::NOT_BUILT;
 use crate::target::{self, Target};
+use crate::text::{self, is_token_byte};
 
 /// A request without its body.
 pub struct Request<'a> {
@@ -7,22 +11,40 @@ pub struct Request<'a> {
     pub method: &'a str,
     #[expect(dead_code, reason = "no handler asks for it yet")]
     pub target: Target<'a>,
+    pub headers: Headers<'a>,
     /// As a router would match them, in their order.
     pub params: Vec<(&'a str, &'a str)>,
+    /// The nearest one stands last.
+    pub layers: Vec<Layer<'a>>,
     pub segment: Segment,
 }
 
 /// What the first segment of a path asks for.
 pub enum Segment {
     Bytes,
+    Text,
     Both,
     Wait,
     Other,
 }
 
-/// Reads a method, one space and a target, or answers `None` where they are none.
-pub fn read(argument: &[u8]) -> Option<Request<'_>> {
-    let at = argument.iter().position(|byte| !is_token(*byte))?;
+const BAD_EXCHANGE: &str = "bad exchange";
+
+/// Reads a method, one space and a target, or tells why the line is faulty.
+pub fn read(argument: &[u8]) -> Result<Request<'_>, &'static str> {
+    let (method, target) = read_parts(argument).ok_or(BAD_EXCHANGE)?;
+    Ok(Request {
+        method,
+        segment: Segment::of(target.path_and_query).ok_or(NOT_BUILT)?,
+        target,
+        headers: Headers::default(),
+        params: Vec::new(),
+        layers: Vec::new(),
+    })
+}
+
+fn read_parts(argument: &[u8]) -> Option<(&str, Target<'_>)> {
+    let at = argument.iter().position(|byte| !is_token_byte(*byte))?;
     if at == 0 || argument[at] != b' ' {
         return None;
     }
@@ -30,13 +52,10 @@ pub fn read(argument: &[u8]) -> Option<Request<'_>> {
     if target.contains(&b' ') {
         return None;
     }
-    let target = target::read(target)?;
-    Some(Request {
-        method: std::str::from_utf8(&argument[..at]).ok()?,
-        segment: Segment::of(target.path_and_query)?,
-        target,
-        params: Vec::new(),
-    })
+    Some((
+        std::str::from_utf8(&argument[..at]).ok()?,
+        target::read(target)?,
+    ))
 }
 
 impl Segment {
@@ -52,10 +71,11 @@ impl Segment {
             .position(|byte| matches!(byte, b'/' | b'?'));
         match &path[start..end.map_or(path.len(), |end| start + end)] {
             b"bytes" => Some(Segment::Bytes),
+            b"text" => Some(Segment::Text),
             b"both" => Some(Segment::Both),
             b"wait" => Some(Segment::Wait),
-            b"text" | b"json" | b"form" | b"option" | b"result" | b"either" | b"path"
-            | b"query" | b"data" | b"raw" | b"header" | b"who" | b"cookies" | b"lines" => None,
+            b"json" | b"form" | b"option" | b"result" | b"either" | b"path" | b"query"
+            | b"data" | b"raw" | b"header" | b"who" | b"cookies" | b"lines" => None,
             _ => Some(Segment::Other),
         }
     }
@@ -65,14 +85,6 @@ impl Request<'_> {
     /// The number that the first parameter of this name has, where it is digits alone and at most `most`.
     pub fn number(&self, name: &str, most: u64) -> Option<u64> {
         let (_, value) = self.params.iter().find(|param| param.0 == name)?;
-        if value.is_empty() || !value.bytes().all(|byte| byte.is_ascii_digit()) {
-            return None;
-        }
-        value.parse().ok().filter(|number| *number <= most)
+        text::number(value.as_bytes(), most)
     }
-}
-
-fn is_token(byte: u8) -> bool {
-    matches!(byte, b'a'..=b'z' | b'A'..=b'Z' | b'0'..=b'9' | b'!' | b'#'..=b'\'' | b'*' | b'+'
-        | b'-' | b'.' | b'^'..=b'`' | b'|' | b'~')
 }

@@ -1,5 +1,7 @@
 //! Scripts: exchanges with the marks of their bodies, and the plan.
+use crate::layer::Layer;
 use crate::request::{self, Request};
+use crate::text::split_word;
 use std::io::BufRead;
 
 /// One mark of a body.
@@ -23,61 +25,127 @@ pub struct Script<'a> {
     pub plan: Vec<u32>,
 }
 
-/// Reads a script, or answers `None` where a line is faulty.
-pub fn read(bytes: &[u8]) -> Option<Script<'_>> {
-    let mut script = Script {
-        exchanges: Vec::new(),
-        plan: Vec::new(),
+/// The reason of what a later program will know.
+pub const NOT_BUILT: &str = "not built";
+
+/// The most headers that an exchange may have.
+const MOST_HEADERS: usize = 1_024;
+
+/// The first faulty line, counted from 1, and why it is faulty.
+pub struct Fault {
+    pub line: u64,
+    pub reason: &'static str,
+}
+
+/// What was read so far.
+struct Reader<'a> {
+    script: Script<'a>,
+    /// A `plan` line came.
+    planned: bool,
+    /// The last exchange has a `fault` line.
+    faulty: bool,
+}
+
+/// Reads a script.
+pub fn read(bytes: &[u8]) -> Result<Script<'_>, Fault> {
+    let mut reader = Reader {
+        script: Script {
+            exchanges: Vec::new(),
+            plan: Vec::new(),
+        },
+        planned: false,
+        faulty: false,
     };
-    let mut planned = false;
-    let mut faulty = false;
     let mut rest = bytes;
+    let mut number = 0;
     while !rest.is_empty() {
         let line = next_line(&mut rest);
+        number += 1;
         if line.is_empty() || line[0] == b'#' {
             continue;
         }
+        reader.add(line).map_err(|reason| Fault {
+            line: number,
+            reason,
+        })?;
+    }
+    Ok(reader.script)
+}
+
+impl<'a> Reader<'a> {
+    /// Adds a line, or tells why it is faulty.
+    fn add(&mut self, line: &'a [u8]) -> Result<(), &'static str> {
         let (word, argument) = split_word(line);
-        if word == b"plan" {
-            planned = true;
-            read_plan(argument, &mut script.plan)?;
-            continue;
+        match word {
+            b"plan" => {
+                self.planned = true;
+                read_plan(argument, &mut self.script.plan).ok_or("bad plan")
+            }
+            b"exchange" => self.add_exchange(argument),
+            b"header" | b"param" | b"layer" => self.add_part(word, argument),
+            b"text" | b"piece" | b"stall" | b"fault" => self.add_mark(word, argument),
+            b"peer" | b"local" | b"conn" => Err(NOT_BUILT),
+            _ => Err("unknown line"),
         }
-        if planned {
-            return None;
+    }
+
+    fn add_exchange(&mut self, argument: &'a [u8]) -> Result<(), &'static str> {
+        if self.planned {
+            return Err(LINE_AFTER_PLAN);
         }
-        if word == b"exchange" {
-            script.exchanges.push(Exchange {
-                request: request::read(argument)?,
-                marks: Vec::new(),
-            });
-            faulty = false;
-            continue;
+        self.script.exchanges.push(Exchange {
+            request: request::read(argument)?,
+            marks: Vec::new(),
+        });
+        self.faulty = false;
+        Ok(())
+    }
+
+    fn add_part(&mut self, word: &[u8], argument: &'a [u8]) -> Result<(), &'static str> {
+        let request = &mut self.open()?.request;
+        match word {
+            b"header" if request.headers.len() == MOST_HEADERS => return Err("too many headers"),
+            b"header" => request.headers.add(argument).ok_or("bad header")?,
+            b"param" => request
+                .params
+                .push(read_param(argument).ok_or("bad param")?),
+            _ => request.layers.push(Layer::read(argument)?),
         }
-        let exchange = script.exchanges.last_mut()?;
-        if word == b"param" {
-            exchange.request.params.push(read_param(argument)?);
-            continue;
-        }
-        let marks = &mut exchange.marks;
+        Ok(())
+    }
+
+    fn add_mark(&mut self, word: &[u8], argument: &'a [u8]) -> Result<(), &'static str> {
+        let faulty = self.faulty;
+        let marks = &mut self.open()?.marks;
         if faulty {
-            return None;
+            return Err("mark after fault");
         }
         match word {
             b"text" if argument.is_empty() => {}
             b"text" => marks.push(Mark::Text(argument)),
             b"piece" if argument.is_empty() => {}
             b"piece" if is_piece(argument) => marks.push(Mark::Piece(argument)),
-            b"stall" if argument.is_empty() => marks.push(Mark::Stall),
-            b"fault" if argument.is_empty() => {
+            b"piece" => return Err("bad piece"),
+            _ if !argument.is_empty() => return Err("bad mark"),
+            b"stall" => marks.push(Mark::Stall),
+            _ => {
                 marks.push(Mark::Fault);
-                faulty = true;
+                self.faulty = true;
             }
-            _ => return None,
         }
+        Ok(())
     }
-    Some(script)
+
+    /// The exchange that further lines are of.
+    fn open(&mut self) -> Result<&mut Exchange<'a>, &'static str> {
+        if self.planned {
+            return Err(LINE_AFTER_PLAN);
+        }
+        self.script.exchanges.last_mut().ok_or("no exchange")
+    }
 }
+
+const LINE_AFTER_PLAN: &str = "line after plan";
 
 /// Takes the next line, without its end.
 fn next_line<'a>(rest: &mut &'a [u8]) -> &'a [u8] {
@@ -88,14 +156,6 @@ fn next_line<'a>(rest: &mut &'a [u8]) -> &'a [u8] {
     let mut line = &whole[..taken];
     line = line.strip_suffix(b"\n").unwrap_or(line);
     line.strip_suffix(b"\r").unwrap_or(line)
-}
-
-/// The word before the first space, and the argument behind it.
-fn split_word(line: &[u8]) -> (&[u8], &[u8]) {
-    match line.iter().position(|byte| *byte == b' ') {
-        Some(at) => (&line[..at], &line[at + 1..]),
-        None => (line, b""),
-    }
 }
 
 /// A name that is not empty, one space, and a value.

@@ -1,6 +1,6 @@
 //! One worker that polls the exchanges in the order of the plan.
 use crate::arguments::{Arguments, Picked};
-use crate::reply::Reply;
+use crate::reply::{Refusal, Reply};
 use crate::request::Request;
 use crate::script::{Mark, Script};
 
@@ -49,12 +49,12 @@ impl<'a> Flight<'a> {
                 let mut arguments = Arguments::of(&self.request, std::mem::take(marks));
                 self.stage = match arguments.poll() {
                     None => Stage::Extracting(arguments),
-                    Some(picked) => picked.map_or_else(Stage::Answered, handle),
+                    Some(picked) => picked.map_or_else(refuse, handle),
                 };
             }
             Stage::Extracting(arguments) => {
                 if let Some(picked) = arguments.poll() {
-                    self.stage = picked.map_or_else(Stage::Answered, handle);
+                    self.stage = picked.map_or_else(refuse, handle);
                 }
             }
             Stage::Handling(left, reply) => {
@@ -70,10 +70,15 @@ impl<'a> Flight<'a> {
     }
 }
 
+fn refuse<'a>(refusal: Refusal) -> Stage<'a> {
+    Stage::Answered(Reply::from(refusal))
+}
+
 /// What a handler does in its first poll: it answers, or tells after how many more polls it will.
 fn handle(picked: Picked<'_>) -> Stage<'_> {
     match picked {
         Picked::Bytes(body) => Stage::Answered(Reply::typed(200, "application/octet-stream", body)),
+        Picked::Text(text) => Stage::Answered(Reply::text(200, text)),
         Picked::Wait(0) => Stage::Answered(Reply::empty(204)),
         Picked::Wait(delay) => Stage::Handling(delay - 1, Reply::empty(204)),
         Picked::Other => Stage::Answered(Reply::empty(404)),

@@ -5,10 +5,10 @@ use Rattle.std.proofs.lemmas.List.{length-append}
 use Rattle.web_request.specs.Feed.{Feed, GivesPiece, Stalls, Fails, Ends}
 use Rattle.web_body.specs.declared.payload.Payload.{Payload}
 use Rattle.web_body.specs.declared.held.Held.{Held}
-use Rattle.web_body.specs.declared.message_body.PayloadError.TheVariants.{Overflow, Io}
+use Rattle.web_body.specs.declared.collecting.Unread.TheVariants.{TooLong, Failed}
 use Rattle.web_body.specs.declared.poll.Step.TheVariants.{Pending, Ready}
 use Rattle.web_body.specs.HeldBytes.{held_bytes, IsCopied}
-use Rattle.web_body.specs.Payload.{payload_feed, bytes_between, GivesBytes}
+use Rattle.web_body.specs.Payload.{payload_feed, GivesBytes}
 use Rattle.web_body.specs.Collector.{reading_of, NeedsNoMemory}
 use Rattle.web_body.proofs.CollectorMemoryLemmas.{NoneNeeded, needed_from, needed_on}
 use Rattle.web_body.specs.CollectorPolls.{Collects}
@@ -57,7 +57,7 @@ module _ {S : Type 0} (feed : S → Feed) (limit : ℕ) where
 
     pub passes_reads : (b : List ℕ) → limit < length (held_bytes held) + length b
         → GivesPiece b (payload_feed feed now) (payload_feed feed new)
-        → (more : List ℕ) → Collects limit (payload_feed feed first).marks (held_bytes first_held) (Ready (Err Overflow)) (payload_feed feed new).marks more
+        → (more : List ℕ) → Collects limit (payload_feed feed first).marks (held_bytes first_held) (Ready (Err (TooLong (length (held_bytes held) + length b)))) (payload_feed feed new).marks more
     passes_reads b over next more = (over_value _ _ _ _ _ on.within on.same b over next.takes, tt)
 
     pub stalls_reads : Stalls (payload_feed feed now) (payload_feed feed new)
@@ -65,7 +65,7 @@ module _ {S : Type 0} (feed : S → Feed) (limit : ℕ) where
     stalls_reads next = (tt, stall_allows _ _ _ _ _ on.within on.same next.takes)
 
     pub fails_reads : Fails (payload_feed feed now) (payload_feed feed new)
-        → (more : List ℕ) → Collects limit (payload_feed feed first).marks (held_bytes first_held) (Ready (Err Io)) (payload_feed feed new).marks more
+        → (more : List ℕ) → Collects limit (payload_feed feed first).marks (held_bytes first_held) (Ready (Err Failed)) (payload_feed feed new).marks more
     fails_reads next more = (fault_value _ _ _ _ _ on.within on.same next.takes, tt)
 
     pub ends_reads : Ends (payload_feed feed now) (payload_feed feed new)

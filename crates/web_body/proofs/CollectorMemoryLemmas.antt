@@ -7,11 +7,11 @@ use Rattle.web_request.specs.Feed.{Takes, NoneLeft}
 use Rattle.web_request.proofs.ReadingLemmas.{reading_held, goes_on-stall}
 use Rattle.web_body.specs.declared.held.Held.{Held}
 use Rattle.web_body.specs.declared.held.Held.TheVariants.{One, Many}
-use Rattle.web_body.specs.declared.message_body.PayloadError.{PayloadError}
+use Rattle.web_body.specs.declared.collecting.Unread.{Unread}
 use Rattle.web_body.specs.declared.poll.Step.{Step}
 use Rattle.web_body.specs.declared.poll.Step.TheVariants.{Pending, Ready, NoMemory}
 use Rattle.web_body.specs.HeldBytes.{held_bytes, IsCopied}
-use Rattle.web_body.specs.Collector.{reading_of, Allows, StallsNext, pieces_next, NeedsNoMemory}
+use Rattle.web_body.specs.Collector.{reading_of, read_of, Allows, StallsNext, pieces_next, NeedsNoMemory}
 use Rattle.web_body.specs.PollSteps.{IfReady, IsPending, NeverNoMemory}
 
 -- the rest of a poll allocates nothing, from these marks and what is held on
@@ -70,8 +70,8 @@ stall_needs_none (Some (Stall ∷ m)) held s = tt
 stall_needs_none (Some (Fault ∷ m)) held s = elim s [ ]
 
 -- where a stall is next, the value does not come in this poll
-pub stall_is_pending : (limit : ℕ) (o : Option (List Mark)) (held : List ℕ) (s : Step (Result (List ℕ) PayloadError)) → length held ≤ limit → StallsNext o
-    → IfReady s (Allows (reading_of limit o held) 0) → NeverNoMemory s → IsPending s
+pub stall_is_pending : (limit : ℕ) (o : Option (List Mark)) (held : List ℕ) (s : Step (Result (List ℕ) Unread)) → length held ≤ limit → StallsNext o
+    → IfReady s (Allows read_of (reading_of limit o held) 0) → NeverNoMemory s → IsPending s
 stall_is_pending limit None held s fits next value memory = elim next [ ]
 stall_is_pending limit (Some []) held s fits next value memory = elim next [ ]
 stall_is_pending limit (Some (Piece b ∷ m)) held s fits next value memory = elim next [ ]

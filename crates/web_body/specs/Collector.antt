@@ -9,8 +9,8 @@ use Rattle.web_request.specs.Body.{whole}
 use Rattle.web_request.specs.Reading.{Content, Over, Faulty, Whole, Reading, reading}
 use Rattle.web_request.specs.Feed.{Feed}
 use Rattle.web_body.specs.declared.payload.Payload.{Payload}
-use Rattle.web_body.specs.declared.message_body.PayloadError.{PayloadError}
-use Rattle.web_body.specs.declared.message_body.PayloadError.TheVariants.{Overflow, Io}
+use Rattle.web_body.specs.declared.collecting.Unread.{Unread}
+use Rattle.web_body.specs.declared.collecting.Unread.TheVariants.{TooLong, Failed}
 use Rattle.web_body.specs.Payload.{payload_feed}
 use Rattle.web_body.specs.PollSteps.{GivesSome}
 
@@ -21,10 +21,6 @@ pub record Collector (S : Type 0) : Type 0 where
   pub limit : ℕ
   pub is_finished : Bool
 
--- the limit where no other is chosen, in bytes
-abbrev pub default_limit : ℕ
-default_limit = 262144
-
 -- a collector that was not polled yet
 abbrev pub new_collector : {S : Type 0} → Payload S → ℕ → Collector S
 new_collector payload limit = record {
@@ -34,41 +30,47 @@ new_collector payload limit = record {
   is_finished = false;
 }
 
-abbrev pub answer_of : Content → Result (List ℕ) PayloadError
-answer_of (Over size) = Err Overflow
-answer_of Faulty = Err Io
-answer_of (Whole b) = Ok b
+-- the bytes of a body, or why it was not read to its end
+abbrev pub Read : Type 0
+Read = Result (List ℕ) Unread
+
+abbrev pub read_of : Content → Read
+read_of (Over size) = Err (TooLong size)
+read_of Faulty = Err Failed
+read_of (Whole b) = Ok b
 
 -- the reading of what is held and what is left
 abbrev pub reading_of : ℕ → Option (List Mark) → List ℕ → Option Reading
 reading_of limit marks held = option_map (λ m. reading limit (whole held ++ m)) marks
 
--- the result of the reading after as many stalls as it meets; where it is unknown, all is allowed
-abbrev pub Allows : Option Reading → ℕ → Result (List ℕ) PayloadError → Type 0
-Allows None n x = ⊤
-Allows (Some r) n x = (n ≡ r.delay) × (x ≡ answer_of r.content)
+-- the answer to the reading after as many stalls as it meets; where it is unknown, all is allowed
+abbrev pub Allows : {X : Type 0} → (Content → X) → Option Reading → ℕ → X → Type 0
+Allows answer None n x = ⊤
+Allows answer (Some r) n x = (n ≡ r.delay) × (x ≡ answer r.content)
 
-abbrev pub body_reading : {S : Type 0} → (S → Feed) → Collector S → Option Reading
-body_reading feed b = reading_of b.limit (payload_feed feed b.payload).marks b.held
+abbrev pub collector_reading : {S : Type 0} → (S → Feed) → Collector S → Option Reading
+collector_reading feed b = reading_of b.limit (payload_feed feed b.payload).marks b.held
 
-abbrev pub body_gives : {S : Type 0} → (S → Feed)
-    → Collector S → ℕ → Result (List ℕ) PayloadError → Type 0
-body_gives feed b n x = Allows (body_reading feed b) n x
+abbrev pub collector_gives : {S : Type 0} → (S → Feed) → Collector S → ℕ → Read → Type 0
+collector_gives feed b n x = Allows read_of (collector_reading feed b) n x
 
-some_answer : (r : Option Reading) → (n : ℕ) × (x : Result (List ℕ) PayloadError) × Allows r n x
-some_answer None = (0, Err Io, tt)
-some_answer (Some r) = (r.delay, answer_of r.content, (refl, refl))
+pub some_answer : {X : Type 0} (answer : Content → X) (r : Option Reading)
+    → (n : ℕ) × (x : X) × Allows answer r n x
+some_answer answer None = (0, answer Faulty, tt)
+some_answer answer (Some r) = (r.delay, answer r.content, (refl, refl))
 
-pub body_some : {S : Type 0} (feed : S → Feed) (b : Collector S) → GivesSome (body_gives feed b)
-body_some feed b none = let h = some_answer (body_reading feed b) in none h.0 h.1 h.2
+pub collector_some : {S : Type 0} (feed : S → Feed) (b : Collector S)
+    → GivesSome (collector_gives feed b)
+collector_some feed b none =
+    let h = some_answer read_of (collector_reading feed b) in none h.0 h.1 h.2
 
--- where the marks are stated, only the result of reading them under the limit is allowed
-abbrev pub MeansReading : ℕ → Option (List Mark)
-    → (ℕ → Result (List ℕ) PayloadError → Type 0) → Type 0
-MeansReading limit None gives = ⊤
-MeansReading limit (Some m) gives =
-    (n : ℕ) (x : Result (List ℕ) PayloadError) → gives n x
-    → (n ≡ (reading limit m).delay) × (x ≡ answer_of ((reading limit m).content))
+-- where the marks are stated, only the answer to reading them under the limit is allowed
+abbrev pub MeansReading : {X : Type 0} → (Content → X) → ℕ → Option (List Mark)
+    → (ℕ → X → Type 0) → Type 0
+MeansReading answer limit None gives = ⊤
+MeansReading {X} answer limit (Some m) gives =
+    (n : ℕ) (x : X) → gives n x
+    → (n ≡ (reading limit m).delay) × (x ≡ answer ((reading limit m).content))
 
 -- where the marks are stated, a stall is next
 abbrev pub StallsNext : Option (List Mark) → Type 0

@@ -1,7 +1,11 @@
 pub mod MemoryBodies
 pub mod CollectorPolls
 pub mod Collector
+pub mod HeadTests
 pub mod HeldBytes
+pub mod MessageBody
+pub mod MessageBodyPolls
 pub mod Payload
 pub mod PollSteps
 pub mod ErrorTexts
+pub mod PayloadSettings

@@ -1,5 +1,5 @@
 //! The bytes that a collector holds.
-ghost use Rattle.std.specs.Prelude.{◌≡◌, ◌++◌, ◌<◌, [], length, OnOk, OnErr, IfOk};
+ghost use Rattle.std.specs.Prelude.{◌≡◌, ◌++◌, ◌<◌, ◌^◌, [], length, OnOk, OnErr, IfOk};
 ghost use Rattle.web_body.specs.HeldBytes.{held_bytes, IsCopied};
 
 use bytes::Bytes;
@@ -25,7 +25,8 @@ impl Held {
     }
 
     pub fn len(&self) -> usize
-        ensures { result ≡ length (held_bytes self.now) }
+        ensures value { result ≡ length (held_bytes self.now) }
+        ensures bound { result < 2 ^ 63 }
     {
         match self {
             Held::One(bytes) => bytes.len(),

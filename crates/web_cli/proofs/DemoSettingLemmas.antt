@@ -1,6 +1,6 @@
 -- The exchanges of a script in the setting of the program's worker.
 use Rattle.std.proofs.Common.{◌≡◌, ℕ, ◌+◌, ◌<◌, List, [], ◌∷◌, arith, refl, ◌∙◌, true}
-use Rattle.std.proofs.Common.{map, ap, sym, subst}
+use Rattle.std.proofs.Common.{map, sym, subst}
 use Rattle.std.specs.Prelude.{Option, Result, Ok, Err, unwrap_or}
 use Rattle.std.specs.List.{All, AllPass}
 use Rattle.std.specs.Result.{result_ok}
@@ -19,7 +19,7 @@ use Rattle.web_worker.specs.OutcomeFunctions.{AnswersOnce}
 use Rattle.web_worker.specs.PlanCalls.{ArgumentsOnce}
 use Rattle.web_worker.specs.Setting.{Setting}
 use Rattle.web_script.specs.ScriptedView.{ScriptedExchangeView}
-use Rattle.web_demo.specs.declared.app.DemoLayer.{DemoLayer}
+use Rattle.web_demo.specs.declared.layer.DemoLayer.{DemoLayer}
 use Rattle.web_demo.specs.declared.app.DemoLocal.{DemoLocal}
 use Rattle.web_demo.specs.declared.app.DemoConn.{DemoConn}
 use Rattle.web_demo.specs.DemoExchanges.{DemoRequest, demo_exchange, demo_pool, demo_request}

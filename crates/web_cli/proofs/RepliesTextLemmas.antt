@@ -8,14 +8,13 @@ use Rattle.std.proofs.lemmas.List.Elements.{All-head, All-tail}
 use Rattle.web_texts.proofs.LastCutLemmas.{or_false}
 use Rattle.web_request.specs.Body.{is_body}
 use Rattle.web_request.specs.Feed.{Feed}
-use Rattle.web_request.specs.Pool.{Pool}
 use Rattle.web_reply.specs.ResponseBodies.{Plain}
 use Rattle.web_reply.specs.Replies.{Fault, Reply}
 use Rattle.web_worker.specs.Exchanges.{ExchangeView, FlightView, FlightView.Waiting}
 use Rattle.web_worker.specs.Flights.{flight_outcome}
 use Rattle.web_worker.specs.Outcomes.{OutcomeView}
 use Rattle.web_worker.specs.OutcomeFunctions.{AnswersOnce, DeterministicOutcomes, IsOutcome}
-use Rattle.web_worker.specs.PlanCalls.{DeterministicCalls, calls_of}
+use Rattle.web_worker.specs.PlanCalls.{DeterministicCalls}
 use Rattle.web_worker.specs.PlanOutcomes.{EachFrom, lacks_memory, outcome_of, poll_count}
 use Rattle.web_worker.specs.PlanOutcomes.{named_count}
 use Rattle.web_worker.specs.RecordsMade.{is_waiting, waiting_count}
@@ -23,7 +22,7 @@ use Rattle.web_worker.proofs.CallsFunctionLemmas.{calls_of_map}
 use Rattle.web_print.specs.OutcomeText.{print}
 use Rattle.web_script.specs.Script.{ScriptView}
 use Rattle.web_script.specs.ScriptedView.{ScriptedExchangeView}
-use Rattle.web_demo.specs.declared.app.DemoLayer.{DemoLayer}
+use Rattle.web_demo.specs.declared.layer.DemoLayer.{DemoLayer}
 use Rattle.web_demo.specs.declared.app.DemoLocal.{DemoLocal}
 use Rattle.web_demo.specs.declared.app.DemoConn.{DemoConn}
 use Rattle.web_demo.specs.DemoExchanges.{demo_exchange}

@@ -6,7 +6,7 @@ use Rattle.web_demo.specs.DemoFunctions.{demo_handler}
 use Rattle.web_demo.specs.DemoReplies.{HandlerAnswers, answer_reply}
 use Rattle.web_demo.specs.ServiceFunctions.{HandlerMeets}
 use Rattle.web_cli.specs.ScriptAnswers.{is_valid_script}
-use Rattle.web_cli.specs.Run.{HasNoMemory, Headline, ServeResult, WritesReplies}
+use Rattle.web_cli.specs.Run.{HasNoMemory, Headline, IsRefused, ServeResult, WritesReplies}
 use Rattle.web_cli.specs.WriteOrFault.{WritesOrFaults}
 use Rattle.web_cli.specs.declared.status.Status.{Status}
 use Rattle.web_cli.specs.declared.status.Status.TheVariants as status
@@ -29,6 +29,15 @@ replied replies called untouched a came text i j o p all valid due calls (inr (f
     rw failed
     (inl (record { read = all; valid = valid; text = text; replies_are = due; cut = cut }))
 
+pub refused : (replies : List ℕ → List ℕ → Type 0) (called : List ℕ → Type 0) (untouched : Type 0)
+    (a : Status) (came text : List ℕ) (i j : InputState) (o p : OutputState)
+    → IsRefused text came i j → untouched → WritesOrFaults text status.Script a o p
+    → ServeResult replies called untouched a came i j o p
+refused replies called untouched a came text i j o p is same (inl (done, written)) =
+    rw done (record { text = text; refused = is; written = written; handler = same })
+refused replies called untouched a came text i j o p is same (inr (failed, cut)) =
+    rw failed (inr (record { text = text; refused = is; cut = cut; handler = same }))
+
 -- what a run promises of more, it promises of less
 module _ (r s : List ℕ → List ℕ → Type 0) (c d : List ℕ → Type 0)
     (f : (came text : List ℕ) → r came text → s came text) (g : (came : List ℕ) → c came → d came) where
@@ -44,7 +53,7 @@ module _ (r s : List ℕ → List ℕ → Type 0) (c d : List ℕ → Type 0)
     calls = g came h.calls;
   }
   result_as u v k status.Script came i j o p h =
-      record { read = h.read; written = h.written; handler = k h.handler }
+      record { text = h.text; refused = h.refused; written = h.written; handler = k h.handler }
   result_as u v k status.ReadFault came i j o p h =
       record { read = h.read; nothing = h.nothing; handler = k h.handler }
   result_as u v k status.WriteFault came i j o p (inl h) = inl (record {
@@ -55,7 +64,7 @@ module _ (r s : List ℕ → List ℕ → Type 0) (c d : List ℕ → Type 0)
     cut = h.cut;
   })
   result_as u v k status.WriteFault came i j o p (inr h) =
-      inr (record { read = h.read; cut = h.cut; handler = k h.handler })
+      inr (record { text = h.text; refused = h.refused; cut = h.cut; handler = k h.handler })
   result_as u v k status.NoMemory came i j o p h = h
   result_as u v k status.Usage came i j o p h = h
 

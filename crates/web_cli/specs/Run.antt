@@ -1,19 +1,26 @@
 -- What the command reads and writes, status by status.
-use Rattle.std.specs.Prelude.{◌≡◌, ◌<◌, ◌≤◌, ◌+◌, ◌⊎◌, ℕ, List, [], length, Some, true, false}
+use Rattle.std.specs.Prelude.{◌≡◌, ◌<◌, ◌≤◌, ◌+◌, ◌⊎◌, ◌++◌, ℕ, List, [], length, codes, Some, true}
 use Rattle.web_texts.specs.Counts.{Rose}
 use Rattle.web_io.specs.IoState.{InputState, OutputState}
 use Rattle.web_io.specs.WholeReading.{limit, IsAll, IsTooLong, IsFault}
 use Rattle.web_io.specs.WholeWriting.{IsWritten, IsCutOff}
+use Rattle.web_print.specs.TextLines.{newline}
 use Rattle.web_cli.specs.CommandWords.{usage}
-use Rattle.web_cli.specs.ScriptAnswers.{is_valid_script, refusal_text}
+use Rattle.web_cli.specs.ScriptAnswers.{is_valid_script, IsFaultText}
 use Rattle.web_cli.specs.declared.status.Status.{Status}
 use Rattle.web_cli.specs.declared.status.Status.TheVariants as status
 
 -- i and j: the input before and after; o and p: the output before and after
 
--- no valid script was read: more bytes than the limit came, or all was read and a line is invalid
-abbrev pub ReadsInvalid : List ℕ → InputState → InputState → Type 0
-ReadsInvalid came i j = IsTooLong came i j ⊎ (IsAll came i j × (is_valid_script came ≡ false))
+-- the text where more bytes than the limit came
+abbrev pub too_long_text : List ℕ
+too_long_text = codes "line 0: too long" ++ newline
+
+-- More bytes than the limit came; or all was read, and a line is faulty. This text says which.
+abbrev pub IsRefused : List ℕ → List ℕ → InputState → InputState → Type 0
+IsRefused text came i j =
+    (IsTooLong came i j × (text ≡ too_long_text))
+    ⊎ (IsAll came i j × IsFaultText came text)
 
 -- allocation failed; no read had failed, and nothing was written
 pub record AllocationFails (i j : InputState) (o p : OutputState) : Type 0 where
@@ -52,16 +59,18 @@ module _ (replies : List ℕ → List ℕ → Type 0) (called : List ℕ → Typ
 
 -- `untouched`: the handler is unchanged
 module _ (untouched : Type 0) where
-  -- no valid script was read, and the refusal was written
+  -- the script is refused, and the text that says why was written
   pub record RefusesScript (came : List ℕ) (i j : InputState) (o p : OutputState) : Type 0 where
-    pub read : ReadsInvalid came i j
-    pub written : IsWritten refusal_text o p
+    pub text : List ℕ
+    pub refused : IsRefused text came i j
+    pub written : IsWritten text o p
     pub handler : untouched
 
-  -- no valid script was read, and a write failed after a prefix of the refusal
+  -- the script is refused, and a write failed after a prefix of the text that says why
   pub record CutsRefusal (came : List ℕ) (i j : InputState) (o p : OutputState) : Type 0 where
-    pub read : ReadsInvalid came i j
-    pub cut : (sent : ℕ) × IsCutOff sent refusal_text o p
+    pub text : List ℕ
+    pub refused : IsRefused text came i j
+    pub cut : (sent : ℕ) × IsCutOff sent text o p
     pub handler : untouched
 
   -- a read failed, and nothing was written

@@ -1,5 +1,6 @@
 -- The text of the replies to a script, and the calls of the handler.
-use Rattle.std.specs.Prelude.{◌≡◌, ℕ, Bool, true, false, List, [], ◌++◌, Option, codes, map, ⊤}
+use Rattle.std.specs.Prelude.{◌≡◌, ℕ, Bool, true, List, [], ◌++◌, Option, Some, codes, decimal, map}
+use Rattle.std.specs.Prelude.{⊤}
 use Rattle.std.specs.List.{AllPass, enumerate_from}
 use Rattle.std.specs.Option.{option_map}
 use Rattle.std.specs.Result.{result_ok}
@@ -10,12 +11,14 @@ use Rattle.web_worker.specs.Outcomes.{OutcomeView}
 use Rattle.web_worker.specs.PlanCalls.{calls_of}
 use Rattle.web_worker.specs.PlanOutcomes.{poll_count, outcome_of, named_count}
 use Rattle.web_worker.specs.Setting.{Setting}
+use Rattle.web_script.specs.ReasonTexts.{reason_text}
 use Rattle.web_script.specs.Script as script
 use Rattle.web_script.specs.Script.{ScriptView, script_lines, script_view}
 use Rattle.web_script.specs.ScriptedView.{ScriptedExchangeView}
+use Rattle.web_script.specs.declared.script.InvalidScript.{InvalidScript}
 use Rattle.web_print.specs.OutcomeText.{print}
 use Rattle.web_print.specs.TextLines.{newline}
-use Rattle.web_demo.specs.declared.app.DemoLayer.{DemoLayer}
+use Rattle.web_demo.specs.declared.layer.DemoLayer.{DemoLayer}
 use Rattle.web_demo.specs.declared.app.DemoLocal.{DemoLocal}
 use Rattle.web_demo.specs.declared.app.DemoConn.{DemoConn}
 use Rattle.web_demo.specs.DemoExchanges.{demo_exchange, demo_request}
@@ -45,7 +48,11 @@ arguments_of a e = (a.delay (demo_request e) e.marks, result_ok (a.result (demo_
 abbrev pub calls_to : {V : Type 0} → ArgumentFunctions V → ScriptView → List V
 calls_to a s = calls_of (arguments_of a) s.exchanges s.plan
 
--- no line of the script is invalid
+-- the first faulty line of the script
+abbrev pub first_fault : List ℕ → Option InvalidScript
+first_fault bytes = script.first_fault (script_lines bytes)
+
+-- no line of the script is faulty
 abbrev pub is_valid_script : List ℕ → Bool
 is_valid_script bytes = script.is_valid_script (script_lines bytes)
 
@@ -57,9 +64,10 @@ replies_text a h bytes = replies_to a h (script_view (script_lines bytes))
 abbrev pub script_calls : {V : Type 0} → ArgumentFunctions V → List ℕ → List V
 script_calls a bytes = calls_to a (script_view (script_lines bytes))
 
--- the text where a script is refused
-abbrev pub refusal_text : List ℕ
-refusal_text = codes "not built" ++ newline
+-- `line N: reason`
+abbrev pub fault_text : InvalidScript → List ℕ
+fault_text fault =
+    codes "line " ++ decimal fault.line ++ codes ": " ++ reason_text fault.reason ++ newline
 
 -- P of what the script says, where the flights wait for its exchanges and this is its plan
 abbrev pub FlightsOf : {U W : Type 0} → List (FlightView Feed DemoLayer DemoLocal DemoConn U W)
@@ -90,17 +98,22 @@ module _ {V E Y U W : Type 0} (s : Setting Feed DemoLayer DemoLocal DemoConn V E
   abbrev pub AppendsScriptCalls : Option (List V) → Option (List V) → List ℕ → Type 0
   AppendsScriptCalls old new bytes = AppendsCallsTo old new (script_view (script_lines bytes))
 
--- a valid script has replies, and any other is refused
+-- the text says the first faulty line of the script
+abbrev pub IsFaultText : List ℕ → List ℕ → Type 0
+IsFaultText script text =
+    (fault : InvalidScript) × ((first_fault script ≡ Some fault) × (text ≡ fault_text fault))
+
+-- a valid script has replies, and any other is refused for its first faulty line
 abbrev pub IsValid : ScriptAnswer → List ℕ → Type 0
 IsValid (answer.Replies text) script = is_valid_script script ≡ true
-IsValid answer.Refused script = is_valid_script script ≡ false
+IsValid (answer.Refused text) script = IsFaultText script text.items
 
 -- P of the text of the replies, where there are some
 abbrev pub OnReplies : ScriptAnswer → (List ℕ → Type 0) → Type 0
 OnReplies (answer.Replies text) P = P text.items
-OnReplies answer.Refused P = ⊤
+OnReplies (answer.Refused text) P = ⊤
 
 -- P where the script is refused
 abbrev pub OnRefused : ScriptAnswer → Type 0 → Type 0
 OnRefused (answer.Replies text) P = ⊤
-OnRefused answer.Refused P = P
+OnRefused (answer.Refused text) P = P

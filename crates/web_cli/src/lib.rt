@@ -20,7 +20,7 @@ pub use web_io::{
     SCRIPT_LIMIT, StdInput, StdOutput, WriteAnswer, read_whole, write_whole,
 };
 pub use web_script::{
-    ExchangeSink, InvalidScript, Script, ScriptedExchange, read_script, read_script_into,
-    target_law, valid_script_law,
+    ExchangeSink, InvalidScript, LayerSettings, Reason, Script, ScriptedExchange, first_fault_law,
+    read_script, read_script_into, target_law,
 };
 pub use words::is_serve;

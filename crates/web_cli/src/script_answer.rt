@@ -7,7 +7,7 @@ ghost use Rattle.web_worker.specs.PlanOutcomes.{lacks_memory};
 ghost use Rattle.web_demo.specs.DemoExchanges.{demo_pool};
 ghost use Rattle.web_cli.specs.ScriptAnswers.{AppendsCallsTo, AppendsScriptCalls};
 ghost use Rattle.web_cli.specs.ScriptAnswers.{AreReplies, AreRepliesTo, FlightsOf};
-ghost use Rattle.web_cli.specs.ScriptAnswers.{IsValid, OnRefused, OnReplies};
+ghost use Rattle.web_cli.specs.ScriptAnswers.{fault_text, IsValid, OnRefused, OnReplies};
 
 use bytes::Bytes;
 use std::alloc::Global;
@@ -15,7 +15,7 @@ use web_demo::{Demo, DemoFlights, worker};
 use web_extract::FromRequest;
 use web_print::printed;
 use web_reply::Responder;
-use web_script::read_script_into;
+use web_script::{InvalidScript, read_script_into};
 use web_texts::{Fail, NoMemory};
 use web_worker::{Flight, Handler, Outcome, Serves, serve_flights};
 
@@ -24,8 +24,16 @@ use web_worker::{Flight, Handler, Outcome, Serves, serve_flights};
 pub enum ScriptAnswer {
     /// The text of the replies to a valid script.
     Replies(Vec<u8>),
-    /// The script is invalid.
-    Refused,
+    /// The text that says which line of an invalid script is faulty, and why.
+    Refused(Vec<u8>),
+}
+
+/// The text that says which line is faulty, and why.
+fn fault_text(alloc: Global, fault: InvalidScript) -> Result<Vec<u8>, NoMemory>
+    ensures { IfOk result (λ text. text.items ≡ fault_text fault) }
+{
+    let InvalidScript { line, reason } = fault;
+    Ok(format!(in alloc; "line {line}: {reason}\n")?.into_bytes())
 }
 
 /// Whether an allocation failed while the exchange was served.
@@ -107,7 +115,7 @@ where
             let text = replies::<Args, H>(alloc, sink.flights.as_mut_slice(), &plan, handler)?;
             Ok(ScriptAnswer::Replies(text))
         }
-        Err(Fail::Of(_)) => Ok(ScriptAnswer::Refused),
+        Err(Fail::Of(fault)) => Ok(ScriptAnswer::Refused(fault_text(alloc, fault)?)),
         Err(Fail::NoMemory) => Err(NoMemory),
     }
 }

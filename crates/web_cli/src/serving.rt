@@ -19,8 +19,8 @@ use web_io::{Input, Output, ReadWhole, read_whole};
 use web_reply::Responder;
 use web_worker::{Handler, Serves};
 
-/// The text that is written where a script is refused.
-const NOT_BUILT: &[u8] = b"not built\n";
+/// The text that is written where more bytes than the limit came.
+const TOO_LONG: &[u8] = b"line 0: too long\n";
 
 /// Reads a script, serves it and writes the replies.
 fn serve<I: Input, O: Output, Args: FromRequest<Demo>, H: Handler<Args>>(
@@ -44,10 +44,10 @@ where
     match read_whole(alloc, input) {
         Err(_) => Status::NoMemory,
         Ok(ReadWhole::Failed) => Status::ReadFault,
-        Ok(ReadWhole::TooLong) => write_or_fault(output, NOT_BUILT, Status::Script),
+        Ok(ReadWhole::TooLong) => write_or_fault(output, TOO_LONG, Status::Script),
         Ok(ReadWhole::All(bytes)) => match answer_script::<Args, H>(alloc, bytes, handler) {
             Err(_) => Status::NoMemory,
-            Ok(ScriptAnswer::Refused) => write_or_fault(output, NOT_BUILT, Status::Script),
+            Ok(ScriptAnswer::Refused(text)) => write_or_fault(output, &text, Status::Script),
             Ok(ScriptAnswer::Replies(text)) => write_or_fault(output, &text, Status::Done),
         },
     }
@@ -96,6 +96,9 @@ where
 /// `serve --pool=0` reads a script of at most 16,777,216 bytes from `input`, serves its exchanges
 /// by `handler`, and writes the replies to `output`. The arguments of each exchange are those that
 /// the first segment of its path asks for. Any other words write the usage.
+///
+/// A script that is refused writes `line N: reason` of its first faulty line, numbered from 1, or
+/// `line 0: too long` where more bytes came.
 ///
 /// The status says what was read and written: see [`Status`].
 pub fn run<I: Input, O: Output, H: Handler<Picked>>(

@@ -7,8 +7,8 @@ ghost use Rattle.web_cli.specs.StatusCode.{status_code};
 pub enum Status {
     /// The script was served, and the replies were written.
     Done,
-    /// The script was refused: a line is invalid, or it is longer than `SCRIPT_LIMIT`. The line
-    /// `not built` was written.
+    /// The script was refused, and `line N: reason` was written: a line is faulty, or it is longer
+    /// than `SCRIPT_LIMIT`.
     Script,
     /// A read failed. Nothing was written.
     ReadFault,

@@ -9,6 +9,7 @@ use Rattle.web_demo.specs.declared.choice.Choice.TheVariants as choice
 abbrev pub choice_named : List ℕ → Choice
 choice_named segment =
     if bytes_eq segment (codes "bytes") then choice.Bytes
+    else if bytes_eq segment (codes "text") then choice.Text
     else if bytes_eq segment (codes "both") then choice.Both
     else if bytes_eq segment (codes "wait") then choice.Wait
     else choice.Other

@@ -1,5 +1,5 @@
 -- The exchanges of the program, as its worker sees them.
-use Rattle.std.specs.Prelude.{[], ◌∷◌, None, codes, true, false}
+use Rattle.std.specs.Prelude.{[], ◌∷◌, None, codes, map, true, false}
 use Rattle.http.specs.declared.version.TheConstants.Version.{HTTP_11}
 use Rattle.web_request.specs.declared.address.IpAddr.TheVariants.{V4}
 use Rattle.web_request.specs.declared.config.AppConfig.{AppConfig}
@@ -10,9 +10,10 @@ use Rattle.web_request.specs.Request.{Parts, Request}
 use Rattle.web_body.specs.MemoryBodies.{marks_feed}
 use Rattle.web_body.specs.declared.payload.Payload.TheVariants as payload
 use Rattle.web_worker.specs.Exchanges.{ExchangeView}
-use Rattle.web_demo.specs.declared.app.DemoLayer.{DemoLayer}
 use Rattle.web_demo.specs.declared.app.DemoLocal.{DemoLocal}
 use Rattle.web_demo.specs.declared.app.DemoConn.{DemoConn}
+use Rattle.web_demo.specs.declared.layer.DemoLayer.{DemoLayer}
+use Rattle.web_demo.specs.DemoLayers.{demo_layer, no_layer}
 use Rattle.web_script.specs.ScriptedView.{ScriptedExchangeView}
 
 -- `localhost:8080`, not secure, on 127.0.0.1:8080
@@ -30,11 +31,11 @@ demo_pool = record {
   made = 0;
   capacity = 0;
   enabled = true;
-  root = record {};
+  root = no_layer;
   config = demo_config;
 }
 
--- of this method and target, HTTP/1.1, without headers and without the address of a peer
+-- of this method and target, HTTP/1.1, with these headers, without the address of a peer
 abbrev pub demo_head : ScriptedExchangeView → Head
 demo_head e = record {
   scheme = e.target.scheme;
@@ -42,7 +43,7 @@ demo_head e = record {
   target = e.target.path_and_query;
   method = e.method;
   version = HTTP_11;
-  headers = [];
+  headers = e.headers;
   peer = None;
 }
 
@@ -50,7 +51,7 @@ abbrev pub demo_parts : ScriptedExchangeView → Parts DemoLayer DemoLocal DemoC
 demo_parts e = record {
   head = demo_head e;
   params = e.params;
-  layers = [];
+  layers = map demo_layer e.layers;
   conn = None;
   local = None;
 }
@@ -62,12 +63,12 @@ demo_exchange e = record { parts = demo_parts e; body = payload.Stream (marks_fe
 abbrev pub DemoRequest : Type 0
 DemoRequest = Request DemoLayer DemoLocal DemoConn
 
--- the request of that exchange, under the root layer alone
+-- the request of that exchange, under the root layer and its own
 abbrev pub demo_request : ScriptedExchangeView → DemoRequest
 demo_request e = record {
   head = demo_head e;
   params = e.params;
-  layers = record {} ∷ [];
+  layers = no_layer ∷ map demo_layer e.layers;
   conn = None;
   local = None;
   config = demo_config;

@@ -2,6 +2,7 @@ pub mod Choices
 pub mod DelayedValue
 pub mod DemoExchanges
 pub mod DemoFunctions
+pub mod DemoLayers
 pub mod DemoReplies
 pub mod LateAndWait
 pub mod PickedArguments

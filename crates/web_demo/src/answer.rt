@@ -5,12 +5,15 @@ use bytes::Bytes;
 use std::alloc::Global;
 use web_reply::{BoxBody, Done, Error, HttpResponse, Responder};
 use web_request::{App, HttpRequest, NoMemory};
+use web_texts::Text;
 
 /// The output of the handler.
 #[derive(Debug, Drop)]
 pub enum Answer {
     /// A 200 with these bytes.
     Bytes(Bytes),
+    /// A 200 with this text.
+    Text(Text),
     /// An empty 204, as `Done(Ok(()))` responds.
     Done,
     /// An empty 404, as `None` responds.
@@ -33,6 +36,7 @@ impl<A: App> Responder<A> for Answer {
     ) -> Result<HttpResponse<BoxBody<A::Source>>, NoMemory> {
         match self {
             Answer::Bytes(bytes) => bytes.respond_to(alloc, req)?.map_into_boxed_body(alloc),
+            Answer::Text(text) => text.respond_to(alloc, req)?.map_into_boxed_body(alloc),
             Answer::Done => {
                 let done: Done<Error> = Done(Ok(()));
                 done.respond_to(alloc, req)?.map_into_boxed_body(alloc)

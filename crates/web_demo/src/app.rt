@@ -2,20 +2,17 @@
 ghost use Rattle.std.specs.Prelude.{◌≡◌, IfOk};
 ghost use Rattle.web_demo.specs.DemoExchanges.{demo_pool};
 
+use crate::layer::DemoLayer;
 use std::alloc::Global;
 use std::rc::Rc;
 use web_body::Marks;
-use web_request::{App, AppConfig, AppLayer, Duplicate, IpAddr, SocketAddr};
+use web_request::{App, AppConfig, Duplicate, IpAddr, SocketAddr};
 use web_texts::{NoMemory, Text};
 use web_worker::Worker;
 
-/// The application of the program. Its layers, its request data and its connection data are empty.
+/// The application of the program. Its request data and its connection data are empty.
 #[derive(Drop)]
 pub struct Demo;
-
-/// A layer without configuration.
-#[derive(Drop)]
-pub struct DemoLayer;
 
 /// The data of a request: none.
 #[derive(Drop)]
@@ -24,8 +21,6 @@ pub struct DemoLocal;
 /// The data of a connection: none.
 #[derive(Drop)]
 pub struct DemoConn;
-
-impl AppLayer for DemoLayer {}
 
 impl Duplicate for DemoLocal {
     fn duplicate(&self, _alloc: Global) -> Result<DemoLocal, NoMemory> {
@@ -43,11 +38,11 @@ impl App for Demo {
     type Source = Marks;
 }
 
-/// A worker for `localhost:8080` whose pool keeps no record.
+/// A worker for `localhost:8080` whose root layer configures nothing. Its pool keeps no record.
 pub fn worker(alloc: Global) -> Result<Worker<Demo>, NoMemory>
     ensures { IfOk result (λ w. w ≡ demo_pool) }
 {
-    let root = Rc::new(alloc, DemoLayer)?;
+    let root = Rc::new(alloc, DemoLayer::new())?;
     let config = AppConfig {
         host: Text::of(alloc, "localhost:8080")?,
         secure: false,

@@ -9,6 +9,7 @@ use web_script::first_segment;
 #[derive(Clone, Copy, Debug, PartialEq, Eq)]
 pub enum Choice {
     Bytes,
+    Text,
     Both,
     Wait,
     Other,
@@ -25,6 +26,8 @@ fn choice_named(segment: &[u8]) -> Choice
 {
     if is_named(segment, b"bytes") {
         Choice::Bytes
+    } else if is_named(segment, b"text") {
+        Choice::Text
     } else if is_named(segment, b"both") {
         Choice::Both
     } else if is_named(segment, b"wait") {

@@ -29,7 +29,8 @@ fn answer_of(picked: Picked) -> Answer
 {
     match picked {
         Picked::Bytes(bytes) => Answer::Bytes(bytes),
-        Picked::Both(bytes, _) => Answer::Bytes(bytes),
+        Picked::Text(text) => Answer::Text(text),
+        Picked::Both(text, _) => Answer::Text(text),
         Picked::Wait(_) => Answer::Done,
         Picked::Other => Answer::None,
     }

@@ -30,9 +30,12 @@ mark_or_not Stall Fault = inr (λ e. absurd (cc e))
 mark_or_not Fault (Piece b) = inr (λ e. absurd (cc e))
 mark_or_not Fault Stall = inr (λ e. absurd (cc e))
 
-decide : {P : Type 0} → P ⊎ (P → ⊥) → ((P → ⊥) → ⊥) → P
+pub marks_or_not : (a b : List Mark) → (a ≡ b) ⊎ (a ≡ b → ⊥)
+marks_or_not a b = same_or_not mark_or_not a b
+
+pub decide : {P : Type 0} → P ⊎ (P → ⊥) → ((P → ⊥) → ⊥) → P
 decide (inl p) h = p
 decide (inr not) h = absurd (h not)
 
 pub same_marks : (a b : List Mark) → ((a ≡ b → ⊥) → ⊥) → a ≡ b
-same_marks a b h = decide (same_or_not mark_or_not a b) h
+same_marks a b h = decide (marks_or_not a b) h

@@ -12,3 +12,8 @@ pub mod Place
 pub mod ReadyFuture
 pub mod ConvertedFutures
 pub mod EitherFutures
+pub mod BodyArguments
+pub mod BodyFutures
+pub mod LayerConfigurations
+pub mod StringArgument
+pub mod FirstTaker

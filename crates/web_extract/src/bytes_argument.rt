@@ -1,45 +1,54 @@
 //! The whole body as an argument.
+ghost use Rattle.std.specs.Prelude.{◌≡◌, IfOk};
+
+use crate::body_futures::BytesExtractFut;
 use crate::from_request::FromRequest;
+use crate::head_tests::{limit_of, payload_config, required_type, type_refusal};
+use crate::layer_configs::Configs;
 use bytes::Bytes;
 use std::alloc::Global;
-use web_body::{HttpMessageBody, Payload, PayloadError};
+use web_body::Payload;
+use web_reply::Error;
 use web_request::{App, HttpRequest, NoMemory};
 
-/// The whole body, of at most `DEFAULT_LIMIT` (262,144) bytes. It takes the whole payload. Refused
-/// as `Overflow` if more bytes come, and as `Io` if the source fails.
-impl<A: App> FromRequest<A> for Bytes {
-    ghost use Rattle.std.specs.Prelude.{◌≡◌, IsOk, IfOk, false, ⊤};
-    ghost use Rattle.web_body.specs.Collector.{body_gives, default_limit, new_collector};
-    ghost use Rattle.web_body.specs.Payload.{payload_feed};
-    ghost use Rattle.web_extract.specs.BytesArgument.{MeansBytes, bytes_some, payload_converted};
-    ghost use Rattle.web_extract.specs.Extracts.{Extracts};
+/// The whole body, under the limit of the request's configuration of payloads (`PayloadConfig`),
+/// which is 262,144 bytes where no layer has one.
+///
+/// Where the configuration requires a media type, a Content-Type that is no media type is refused
+/// with its `ContentTypeError`, and one that is absent, or another media type or has other
+/// parameters, with a cause of status 400. These refusals leave the payload, and making them may
+/// allocate. Every other one takes it, and comes as `HttpMessageBody` says.
+impl<A: App> FromRequest<A> for Bytes
+where
+    A::Layer: Configs,
+{
+    ghost use Rattle.std.specs.Prelude.{◌≡◌, None};
+    ghost use Rattle.web_extract.specs.BytesArgument.{MeansBytes, bytes_some};
+    ghost use Rattle.web_extract.specs.LayerConfigurations.{payload_settings};
+    ghost use Rattle.web_extract.specs.SomeAnswer.{itself};
 
-    type Error = PayloadError;
+    type Error = Error;
 
-    type Future = HttpMessageBody<A::Source>;
+    type Future = BytesExtractFut<A::Source>;
 
-    ghost means = { λ q m rest n x. MeansBytes m rest n x };
+    ghost means = { λ q m rest n x. MeansBytes
+        (payload_settings A.Layer.Configs.configurations q.layers) q.head.headers m rest n x };
 
-    ghost needs_no_memory = { λ _. ⊤ };
+    ghost needs_no_memory = { λ q.
+        (payload_settings A.Layer.Configs.configurations q.layers).required_type ≡ None };
 
-    ghost some = { λ q m. bytes_some m };
+    ghost some = { λ q m. bytes_some
+        (payload_settings A.Layer.Configs.configurations q.layers) q.head.headers m };
 
-    ghost converted = { payload_converted };
+    ghost converted = { itself };
 
     fn from_request(
         alloc: Global,
         req: &HttpRequest<A>,
         payload: &mut Payload<A::Source>,
-    ) -> Result<HttpMessageBody<A::Source>, NoMemory>
-        ensures fresh { IfOk result (λ f. f.is_finished ≡ false) }
-        ensures extracts { IfOk result (λ f. Extracts
-            (λ m rest n x. MeansBytes m rest n x) (body_gives A.Source.feed f)
-            (payload_feed A.Source.feed payload.old).marks
-            (payload_feed A.Source.feed payload.new).marks) }
-        ensures memory { IsOk result }
-        ensures value { IfOk result (λ f. f ≡ new_collector payload.old default_limit) }
-        ensures taken { payload.new ≡ Payload.None }
-    {
-        Ok(HttpMessageBody::new(alloc, req, payload))
+    ) -> Result<BytesExtractFut<A::Source>, NoMemory> {
+        let config = payload_config(req);
+        let refusal = type_refusal(alloc, req, required_type(config))?;
+        Ok(BytesExtractFut::new(alloc, req, payload, refusal, limit_of(config)))
     }
 }

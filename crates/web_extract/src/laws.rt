@@ -3,6 +3,8 @@
 ghost use Rattle.std.specs.Prelude.{List};
 ghost use Rattle.web_request.specs.Request.{Request};
 ghost use Rattle.web_request.specs.declared.source.Mark.{Mark};
+ghost use Rattle.web_extract.specs.FirstTaker.{FirstTakes2, FirstTakes3, FirstTakes4};
+ghost use Rattle.web_extract.specs.FirstTaker.{LeavesAllOrNone};
 ghost use Rattle.web_extract.specs.ListMeanings.{Member};
 ghost use Rattle.web_extract.specs.Never.{NeverRefuses};
 ghost use Rattle.web_extract.specs.PerPlace.{PerPlace3, PerPlace4};
@@ -10,7 +12,9 @@ ghost use Rattle.web_extract.specs.ListResults.{Decides1, Decides2, Decides3, De
 
 use crate::from_request::FromRequest;
 use crate::into_some::IntoSome;
+use crate::layer_configs::Configs;
 use crate::never::Never;
+use bytes::Bytes;
 use web_reply::Error;
 use web_request::App;
 
@@ -111,4 +115,43 @@ pub fn nesting_law<
         (Member C.Error.converts (C.means q)) (Member D.Error.converts (D.means q))
         (λ v. ((v.0, (v.1, v.2)), v.3))
         (⟦<((A, (B, C)), D) as FromRequest<P>>⟧.means q) }
+{}
+
+/// In one argument list the first argument that takes the payload has its marks, and each later one
+/// gets none. The law holds of arguments that leave all marks or none, as `Bytes` and `String` do,
+/// and `Option` and `Result` of such an argument.
+pub fn first_taker_law<
+    P: App,
+    A: FromRequest<P>,
+    B: FromRequest<P>,
+    C: FromRequest<P>,
+    D: FromRequest<P>,
+>()
+where
+    P::Layer: Configs,
+    ensures bytes { (q : Request P.Layer P.Local P.Conn)
+        → LeavesAllOrNone (⟦<Bytes as FromRequest<P>>⟧.means q) }
+    ensures string { (q : Request P.Layer P.Local P.Conn)
+        → LeavesAllOrNone (⟦<String as FromRequest<P>>⟧.means q) }
+    ensures option { (q : Request P.Layer P.Local P.Conn) → LeavesAllOrNone (A.means q)
+        → LeavesAllOrNone (⟦<Option<A> as FromRequest<P>>⟧.means q) }
+    ensures result { (q : Request P.Layer P.Local P.Conn) → LeavesAllOrNone (A.means q)
+        → LeavesAllOrNone (⟦<Result<A, A::Error> as FromRequest<P>>⟧.means q) }
+    ensures two { (q : Request P.Layer P.Local P.Conn)
+        → LeavesAllOrNone (A.means q) → LeavesAllOrNone (B.means q) → FirstTakes2
+        (Member A.Error.converts (A.means q))
+        (Member B.Error.converts (B.means q)) }
+    ensures three { (q : Request P.Layer P.Local P.Conn)
+        → LeavesAllOrNone (A.means q) → LeavesAllOrNone (B.means q)
+        → LeavesAllOrNone (C.means q) → FirstTakes3
+        (Member A.Error.converts (A.means q))
+        (Member B.Error.converts (B.means q))
+        (Member C.Error.converts (C.means q)) }
+    ensures four { (q : Request P.Layer P.Local P.Conn)
+        → LeavesAllOrNone (A.means q) → LeavesAllOrNone (B.means q)
+        → LeavesAllOrNone (C.means q) → LeavesAllOrNone (D.means q) → FirstTakes4
+        (Member A.Error.converts (A.means q))
+        (Member B.Error.converts (B.means q))
+        (Member C.Error.converts (C.means q))
+        (Member D.Error.converts (D.means q)) }
 {}

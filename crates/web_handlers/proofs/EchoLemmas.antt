@@ -4,16 +4,14 @@ use Rattle.std.specs.Prelude.{Option, None, Some, Result, Ok, Err}
 use Rattle.web_request.specs.declared.source.Mark.{Mark}
 use Rattle.web_request.specs.Feed.{Feed}
 use Rattle.web_request.specs.Pool.{Pool}
-use Rattle.web_request.specs.Reading.{reading}
 use Rattle.web_request.specs.Request.{Request}
-use Rattle.web_body.specs.Collector.{answer_of, default_limit}
 use Rattle.web_body.specs.Payload.{payload_feed}
-use Rattle.web_body.specs.declared.message_body.PayloadError.{PayloadError}
-use Rattle.web_reply.specs.declared.cause.Cause.TheVariants.{Payload}
 use Rattle.web_reply.specs.ResponseBodies.{Plain}
-use Rattle.web_reply.specs.Replies.{Reply, fault_of}
+use Rattle.web_reply.specs.Replies.{Fault, Reply}
 use Rattle.web_reply.specs.Responders.{bytes_reply}
-use Rattle.web_extract.specs.BytesArgument.{MeansBytes}
+use Rattle.web_extract.specs.BytesArgument.{MeansBytes, bytes_result}
+use Rattle.web_extract.specs.LayerConfigurations.{Configurations, payload_settings}
+use Rattle.web_extract.specs.ListResults.{DelayedResult}
 use Rattle.web_extract.specs.ReadyFuture.{GivesHeld}
 use Rattle.web_worker.specs.ExchangeRules.{Replies, RepliesBefore}
 use Rattle.web_worker.specs.Exchanges.{ExchangeView}
@@ -28,17 +26,21 @@ pub held : (f : Option (List ℕ)) (body : List ℕ) (n : ℕ) (y : List ℕ) �
 held None body n y e gives = absurd cc
 held (Some b) body n y e gives = (gives.0, cc)
 
-module _ {S L D C U W : Type 0} (answers : List ℕ → ℕ → List ℕ → Type 0)
+-- the body of a request as an argument
+abbrev pub body_in : {L D C J F P Q T : Type 0} → (L → Configurations J F P Q T) → Request L D C → List Mark → DelayedResult (List ℕ)
+body_in of_layer q m = bytes_result (payload_settings of_layer q.layers) q.head.headers m
+
+module _ {S L D C U W J F P Q T : Type 0} (of_layer : L → Configurations J F P Q T)
+    (answers : List ℕ → ℕ → List ℕ → Type 0)
     (only : (body : List ℕ) (n : ℕ) (y : List ℕ) → answers body n y → (n ≡ 0) × (y ≡ body))
-    (feed : S → Feed) (arguments : U → ℕ → Result (List ℕ) PayloadError → Type 0)
+    (feed : S → Feed) (arguments : U → ℕ → Result (List ℕ) Fault → Type 0)
     (handling : W → ℕ → List ℕ → Type 0) (pool : Pool L) where
-  abbrev pub echo : Setting S L D C (List ℕ) PayloadError (List ℕ) U W
-  echo = setting_of (λ q m rest n x. MeansBytes m rest n x) (λ e f. f ≡ fault_of (Payload e))
+  abbrev pub echo : Setting S L D C (List ℕ) Fault (List ℕ) U W
+  echo = setting_of (λ q m rest n x. MeansBytes (payload_settings of_layer q.layers) q.head.headers m rest n x) (λ e f. f ≡ e)
       answers (λ b q r. r ≡ bytes_reply b) feed arguments handling pool
 
   once : (q : Request L D C) (m : List Mark) (k : ℕ) (p : Reply Plain) → Replies echo.rules q m k p
-      → (k ≡ (reading default_limit m).delay)
-      × (p ≡ content_reply (answer_of (reading default_limit m).content))
+      → (k ≡ (body_in of_layer q m).delay) × (p ≡ content_reply (body_in of_layer q m).result)
   once q m k p (rest, n, Ok v, (left, delay, value), (j, y, answer, response, sum)) =
       let one = only v j y answer in
       let now = one.0 in
@@ -46,7 +48,7 @@ module _ {S L D C U W : Type 0} (answers : List ℕ → ℕ → List ℕ → Typ
   once q m k p (rest, n, Err e, (left, delay, value), (after, (f, turns, response))) =
       (after ∙ delay, rw (← value) (rw turns at response))
 
-  before : (q : Request L D C) (m : List Mark) (polls : ℕ) → (reading default_limit m).delay < polls
+  before : (q : Request L D C) (m : List Mark) (polls : ℕ) → (body_in of_layer q m).delay < polls
       → RepliesBefore echo.rules q m polls
   before q m polls more rest n x means =
       let delay = means.1 in
@@ -54,10 +56,10 @@ module _ {S L D C U W : Type 0} (answers : List ℕ → ℕ → List ℕ → Typ
       (omega (arith, delay, more))
 
   pub echoed : (x : ExchangeView S L D C) → IsTold feed x
-      → AnswersOnce echo x (body_delay feed x) (body_reply feed x)
+      → AnswersOnce echo x (body_delay feed of_layer pool x) (body_reply feed of_layer pool x)
   echoed x told =
       let marks = (payload_feed feed x.body).marks in
-      once_told echo x (body_delay feed x) (body_reply feed x) (marks_or_none marks)
+      once_told echo x (body_delay feed of_layer pool x) (body_reply feed of_layer pool x) (marks_or_none marks)
       (is_told marks told)
       (λ k p. once (echo.request x) (marks_or_none marks) k p)
       (λ n. before (echo.request x) (marks_or_none marks) n)

@@ -1,23 +1,29 @@
 -- The request of the first example: its body stalls once and is `hello`.
-use Rattle.std.proofs.Common.{◌≡◌, ℕ, List, [], ◌∷◌, refl, inl, inr, ap, subst, ◌∙◌}
-use Rattle.std.specs.Prelude.{Some, Result, Ok, Err, IfOk, IsErrAnd, MatchResult, codes, ◌⊎◌}
+use Rattle.std.proofs.Common.{◌≡◌, ℕ, List, [], ◌∷◌, refl, inl, inr, ap, subst}
+use Rattle.std.specs.Prelude.{Option, None, Some, Result, Ok, Err, IfOk, IsErrAnd, MatchResult, codes, ◌⊎◌}
 use Rattle.web_request.specs.declared.source.Mark.{Mark}
 use Rattle.web_request.specs.declared.source.Mark.TheVariants.{Piece, Stall}
 use Rattle.web_request.specs.Feed.{Feed}
 use Rattle.web_request.specs.Pool.{Pool}
 use Rattle.web_request.specs.Reading.{reading}
-use Rattle.web_body.specs.Collector.{answer_of, default_limit}
+use Rattle.http_header.specs.FieldValue.{FieldValue}
+use Rattle.http_header.specs.HeaderMap.{Entries}
+use Rattle.web_request.specs.Nearest.{nearest}
+use Rattle.web_body.specs.HeadTests.{refusal_by}
+use Rattle.web_body.specs.MessageBody.{answer_of, default_limit}
 use Rattle.web_body.specs.Payload.{payload_feed}
-use Rattle.web_body.specs.declared.message_body.PayloadError.{PayloadError}
+use Rattle.web_body.specs.PayloadSettings.{PayloadSettings, default_payload_settings}
 use Rattle.web_reply.specs.ResponseBodies.{Plain}
-use Rattle.web_reply.specs.Replies.{Reply}
+use Rattle.web_reply.specs.Replies.{Fault, Reply}
 use Rattle.web_reply.specs.Responders.{bytes_reply}
-use Rattle.web_worker.specs.Exchanges.{ExchangeView}
+use Rattle.web_extract.specs.BytesArgument.{bytes_result}
+use Rattle.web_extract.specs.LayerConfigurations.{Configurations, holds_nothing, payload_settings}
+use Rattle.web_worker.specs.Exchanges.{ExchangeView, request_of}
 use Rattle.web_worker.specs.OutcomeFunctions.{AnswersOnce, DeterministicOutcomes}
-use Rattle.web_worker.specs.Outcomes.{OutcomeView, OutcomeView.Replied, OutcomeView.NoMemory}
+use Rattle.web_worker.specs.Outcomes.{OutcomeView, OutcomeView.NoMemory}
 use Rattle.web_worker.specs.PlanOutcomes.{outcome_of, poll_count}
 use Rattle.web_worker.specs.Setting.{Setting}
-use Rattle.web_handlers.specs.Examples.{IsTold, body_delay, body_reply}
+use Rattle.web_handlers.specs.Examples.{IsTold, body_argument}
 use Rattle.web_handlers.specs.Examples.{content_reply, marks_or_none}
 use Rattle.web_handlers.proofs.EchoLemmas.{echo, echoed}
 
@@ -59,23 +65,46 @@ on_mapped (Ok x) mapped K P Q f e p = rw e (f x p)
 on_mapped (Err y) (Ok z) K P Q f e p = absurd e
 on_mapped (Err y) (Err z) K P Q f e p = tt
 
-module _ {S L D C U W : Type 0} (answers : List ℕ → ℕ → List ℕ → Type 0)
-    (only : (body : List ℕ) (n : ℕ) (y : List ℕ) → answers body n y → (n ≡ 0) × (y ≡ body))
-    (feed : S → Feed) (arguments : U → ℕ → Result (List ℕ) PayloadError → Type 0)
-    (handling : W → ℕ → List ℕ → Type 0) (pool : Pool L) (x : ExchangeView S L D C)
-    (told : (payload_feed feed x.body).marks ≡ Some hello_marks) where
-  delay : body_delay feed x ≡ 1
-  delay = ap (λ t. (reading default_limit (marks_or_none t)).delay) told ∙ one_stall
+nearest_nothing : {L X : Type 0} (held : L → Option X) → ((l : L) → held l ≡ None)
+    → (layers : List L) → nearest held layers ≡ None
+nearest_nothing held nothing [] = refl
+nearest_nothing held nothing (l ∷ layers) = rw (nearest_nothing held nothing layers) (nothing l)
 
-  reply : body_reply feed x ≡ bytes_reply (codes "hello")
-  reply =
-      ap (λ t. content_reply (answer_of (reading default_limit (marks_or_none t)).content)) told
-      ∙ ap content_reply hello_bytes
+-- the configuration of payloads is the default where no layer has one
+default_settings : {L J F P Q T : Type 0} (of_layer : L → Configurations J F P Q T)
+    → ((l : L) → of_layer l ≡ holds_nothing) → (layers : List L)
+    → payload_settings of_layer layers ≡ default_payload_settings
+default_settings of_layer nothing layers =
+    rw (
+      nearest_nothing (λ l. (of_layer l).payload) (λ l. ap (λ c. c.payload) (nothing l)) layers,
+      nearest_nothing (λ l. (of_layer l).shared_payload) (λ l. ap (λ c. c.shared_payload) (nothing l)) layers,
+    ) refl
+
+-- a body of these marks that no test of the head refuses
+hello_body : (settings : PayloadSettings) → settings ≡ default_payload_settings → (headers : Entries FieldValue)
+    → refusal_by headers default_limit ≡ None → (marks : List Mark) → marks ≡ hello_marks
+    → bytes_result settings headers marks ≡ record { delay = 1; result = Ok (codes "hello") }
+hello_body settings default headers unrefused marks are = rw (default, are, unrefused, one_stall, hello_bytes) refl
+
+module _ {S L D C U W J F P Q T : Type 0} (of_layer : L → Configurations J F P Q T)
+    (nothing : (l : L) → of_layer l ≡ holds_nothing)
+    (answers : List ℕ → ℕ → List ℕ → Type 0)
+    (only : (body : List ℕ) (n : ℕ) (y : List ℕ) → answers body n y → (n ≡ 0) × (y ≡ body))
+    (feed : S → Feed) (arguments : U → ℕ → Result (List ℕ) Fault → Type 0)
+    (handling : W → ℕ → List ℕ → Type 0) (pool : Pool L) (x : ExchangeView S L D C)
+    (told : (payload_feed feed x.body).marks ≡ Some hello_marks)
+    (unrefused : refusal_by x.parts.head.headers default_limit ≡ None) where
+  body : body_argument feed of_layer pool x ≡ record { delay = 1; result = Ok (codes "hello") }
+  body =
+      hello_body (payload_settings of_layer (request_of pool x).layers)
+      (default_settings of_layer nothing (request_of pool x).layers)
+      x.parts.head.headers unrefused (marks_or_none (payload_feed feed x.body).marks) (ap marks_or_none told)
 
   is_told : IsTold feed x
   is_told = rw told refl
 
-  pub hello_once : AnswersOnce (echo answers only feed arguments handling pool) x 1
+  pub hello_once : AnswersOnce (echo of_layer answers only feed arguments handling pool) x 1
       (bytes_reply (codes "hello"))
   hello_once =
-      rw (← delay) (rw (← reply) (echoed answers only feed arguments handling pool x is_told))
+      rw (← (ap (λ b. b.delay) body)) (rw (← (ap (λ b. content_reply b.result) body))
+      (echoed of_layer answers only feed arguments handling pool x is_told))

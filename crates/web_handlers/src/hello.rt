@@ -1,6 +1,8 @@
 //! The first example: one request, served by a closure.
-ghost use Rattle.std.specs.Prelude.{◌≡◌, ◌⊎◌, [], ◌∷◌, Some, codes, IfOk};
+ghost use Rattle.std.specs.Prelude.{◌≡◌, ◌⊎◌, [], ◌∷◌, None, Some, codes, IfOk};
 ghost use Rattle.web_request.specs.declared.source.Mark.TheVariants.{Piece, Stall};
+ghost use Rattle.web_body.specs.HeadTests.{refusal_by};
+ghost use Rattle.web_body.specs.MessageBody.{default_limit};
 ghost use Rattle.web_body.specs.Payload.{payload_feed};
 ghost use Rattle.web_reply.specs.Responders.{bytes_reply};
 ghost use Rattle.web_worker.specs.Outcomes.{OutcomeView.NoMemory as no_memory, OutcomeView.Replied};
@@ -37,8 +39,9 @@ fn new_worker(alloc: Global) -> Result<Worker<Site>, NoMemory>
 
 /// A request whose body comes in two pieces with a stall between.
 fn new_exchange(alloc: Global, head: RequestHead) -> Result<Exchange<Site>, NoMemory>
-    ensures { IfOk result (λ x. (payload_feed ⟦<Marks as Source>⟧.feed x.body).marks
+    ensures body { IfOk result (λ x. (payload_feed ⟦<Marks as Source>⟧.feed x.body).marks
         ≡ Some (Piece (codes "he") ∷ Stall ∷ Piece (codes "llo") ∷ [])) }
+    ensures headers { IfOk result (λ x. x.parts.head.headers ≡ head.headers) }
 {
     let marks = vec![in alloc;
         Mark::Piece(Bytes::from_static(b"he")),
@@ -55,10 +58,13 @@ fn new_exchange(alloc: Global, head: RequestHead) -> Result<Exchange<Site>, NoMe
     })
 }
 
-/// Serves a request of this head by a handler that responds with the body, in two polls.
+/// Serves a request of this head by a handler that responds with the body, in two polls. The head
+/// must not refuse its body, by a Content-Length above the default limit or that cannot be read, or
+/// by a content coding.
 ///
 /// The one outcome is a reply with status 200 and the bytes `hello`, unless an allocation fails.
 pub fn serve_hello(alloc: Global, head: RequestHead) -> Result<Vec<Outcome<Site>>, NoMemory>
+    requires { refusal_by head.headers default_limit ≡ None }
     ensures { IfOk result (λ os.
         (outcome_views ⟦<Marks as Source>⟧.feed os.items
         ≡ Replied (bytes_reply (codes "hello")) ∷ [])

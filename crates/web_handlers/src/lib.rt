@@ -1,4 +1,4 @@
-//! Handlers as a user of the library writes them, and tests of the library.
+//! Handlers as a user of the library writes them, and tests of arguments, handlers and plans.
 //!
 //! Each file is an example by itself: one request from end to end (`hello`), a handler that keeps
 //! its calls (`echo`), a future of one's own (`second_poll`), an argument of one's own

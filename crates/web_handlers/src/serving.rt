@@ -19,7 +19,7 @@ use crate::echo::Echo;
 use crate::second_poll::Greeter;
 use bytes::Bytes;
 use std::alloc::Global;
-use web_extract::Ready;
+use web_extract::{Configs, Ready};
 use web_request::{App, NoMemory};
 use web_worker::{Exchange, FnHandler, Outcome, Worker, serve_all};
 
@@ -38,13 +38,18 @@ pub fn serve_echo<A: App>(
     plan: &[usize],
     echo: &mut Echo,
 ) -> Outcomes<A>
+where
+    A::Layer: Configs,
     requires room { worker.old.made + length exchanges.items < 2 ^ 64 }
     ensures answered { IfOk result (λ os. AreAnswered A.Source.feed
-        (λ x. body_delay A.Source.feed x) (λ x. body_reply A.Source.feed x)
+        (λ x. body_delay A.Source.feed A.Layer.Configs.configurations worker.old x)
+        (λ x. body_reply A.Source.feed A.Layer.Configs.configurations worker.old x)
         plan.now exchanges.items (outcome_views A.Source.feed os.items)) }
     ensures called { All (λ x. IsTold A.Source.feed x) exchanges.items → IfOk result (λ os.
         list_any lacks_memory (outcome_views A.Source.feed os.items) ≡ false → echo.new
-        ≡ echo.old ++ calls_of (λ x. body_and_rest A.Source.feed x) exchanges.items plan.now) }
+        ≡ echo.old ++ calls_of
+        (λ x. body_and_rest A.Source.feed A.Layer.Configs.configurations worker.old x)
+        exchanges.items plan.now) }
 {
     serve_all(alloc, worker, exchanges, plan, echo)
 }
@@ -53,16 +58,20 @@ pub fn serve_echo<A: App>(
 ///
 /// An exchange whose body states its marks is answered once the plan has polled it more often than
 /// its body stalls: with its bytes, or with the reply to the fault that reading it meets. Before
-/// that it is unfinished. A failed allocation is the exception.
+/// that it is unfinished. Where the head refuses the body, the reply to that comes at the first
+/// poll. A failed allocation is the exception.
 pub fn serve_by_closure<A: App>(
     alloc: Global,
     worker: &mut Worker<A>,
     exchanges: Vec<Exchange<A>>,
     plan: &[usize],
 ) -> Outcomes<A>
+where
+    A::Layer: Configs,
     requires room { worker.old.made + length exchanges.items < 2 ^ 64 }
     ensures { IfOk result (λ os. AreAnswered A.Source.feed
-        (λ x. body_delay A.Source.feed x) (λ x. body_reply A.Source.feed x)
+        (λ x. body_delay A.Source.feed A.Layer.Configs.configurations worker.old x)
+        (λ x. body_reply A.Source.feed A.Layer.Configs.configurations worker.old x)
         plan.now exchanges.items (outcome_views A.Source.feed os.items)) }
 {
     let mut handler = FnHandler(|body: Bytes| -> Result<Ready<Bytes>, NoMemory> {

@@ -1,14 +1,8 @@
-//! Tests of the library.
+//! Tests of arguments, handlers, workers and plans.
 mod arguments;
 mod bodies;
-mod causes;
+mod body_layers;
 mod compare;
 mod poll_order;
-mod records;
-mod replies;
 mod requests;
-mod responders;
-mod response_bodies;
-mod responses;
-mod texts;
 mod workers;

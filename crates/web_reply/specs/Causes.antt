@@ -1,10 +1,12 @@
 -- The status and the text of each cause.
 use Rattle.std.specs.Prelude.{ℕ, List, codes}
+use Rattle.web_texts.specs.ContentTypeTexts.{content_type_error_text}
 use Rattle.web_body.specs.declared.message_body.PayloadError.{PayloadError}
 use Rattle.web_body.specs.declared.message_body.PayloadError.TheVariants as payload
 use Rattle.web_body.specs.ErrorTexts.{payload_error_text}
 use Rattle.web_reply.specs.declared.cause.Cause.{Cause}
 use Rattle.web_reply.specs.declared.cause.Cause.TheVariants.{Payload, Http, Utf8, Io, Custom}
+use Rattle.web_reply.specs.declared.cause.Cause.TheVariants.{ContentType, Parse, HeaderValue}
 use Rattle.web_reply.specs.declared.cause.HttpError.{HttpError}
 use Rattle.web_reply.specs.declared.cause.HttpError.TheVariants.{Name, Value, MaxSize}
 use Rattle.web_reply.specs.declared.cause.IoKind.{IoKind}
@@ -22,6 +24,9 @@ io_text kind.Other = codes "input or output failed"
 
 abbrev pub cause_text : Cause → List ℕ
 cause_text (Payload e) = payload_error_text e
+cause_text (ContentType e) = content_type_error_text e
+cause_text (Parse e) = codes "invalid header"
+cause_text (HeaderValue e) = codes "invalid header value"
 cause_text (Http e) = http_text e
 cause_text Utf8 = codes "invalid UTF-8"
 cause_text (Io e) = io_text e
@@ -29,7 +34,9 @@ cause_text (Custom status text) = text
 
 abbrev pub payload_status : PayloadError → ℕ
 payload_status payload.Overflow = 413
+payload_status payload.UnknownLength = 400
 payload_status payload.Io = 400
+payload_status payload.UnsupportedEncoding = 400
 
 abbrev pub io_status : IoKind → ℕ
 io_status kind.NotFound = 404
@@ -38,6 +45,9 @@ io_status kind.Other = 500
 
 abbrev pub cause_status : Cause → ℕ
 cause_status (Payload e) = payload_status e
+cause_status (ContentType e) = 400
+cause_status (Parse e) = 400
+cause_status (HeaderValue e) = 400
 cause_status (Http e) = 500
 cause_status Utf8 = 400
 cause_status (Io e) = io_status e

@@ -3,7 +3,7 @@
 use http::StatusCode;
 use std::fmt;
 use web_body::PayloadError;
-use web_texts::Text;
+use web_texts::{ContentTypeError, InvalidHeaderValue, ParseError, Text};
 
 /// Why a header could not be set.
 #[derive(Clone, Copy, Debug, PartialEq, Eq)]
@@ -29,6 +29,12 @@ pub enum IoKind {
 pub enum Cause {
     /// A body could not be collected: 413 for `Overflow`, otherwise 400.
     Payload(PayloadError),
+    /// The content type of a request is not usable: 400.
+    ContentType(ContentTypeError),
+    /// A header of a request could not be read: 400.
+    Parse(ParseError),
+    /// A typed header could not be written as a field value: 400.
+    HeaderValue(InvalidHeaderValue),
     /// A header could not be set: 500.
     Http(HttpError),
     /// A text was not UTF-8: 400.
@@ -78,6 +84,9 @@ impl fmt::Display for Cause {
     fn fmt<W: fmt::Write>(&self, f: &mut fmt::Formatter<W>) -> fmt::Result {
         match self {
             Cause::Payload(fault) => write!(f, "{fault}"),
+            Cause::ContentType(fault) => write!(f, "{fault}"),
+            Cause::Parse(fault) => write!(f, "{fault}"),
+            Cause::HeaderValue(fault) => write!(f, "{fault}"),
             Cause::Http(fault) => write!(f, "{fault}"),
             Cause::Utf8 => f.write_str("invalid UTF-8"),
             Cause::Io(kind) => write!(f, "{kind}"),

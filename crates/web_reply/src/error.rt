@@ -14,7 +14,7 @@ use std::fmt;
 use std::fmt::Display;
 use std::marker::Model;
 use web_body::PayloadError;
-use web_texts::NoMemory;
+use web_texts::{ContentTypeError, InvalidHeaderValue, NoMemory, ParseError};
 
 /// A result whose error becomes a reply.
 pub type Result<T, E = Error> = std::result::Result<T, E>;
@@ -53,7 +53,10 @@ impl ResponseError for Cause {
     fn status_code(&self) -> StatusCode {
         match self {
             Cause::Payload(PayloadError::Overflow) => StatusCode::PAYLOAD_TOO_LARGE,
-            Cause::Payload(PayloadError::Io) => StatusCode::BAD_REQUEST,
+            Cause::Payload(_) => StatusCode::BAD_REQUEST,
+            Cause::ContentType(_) | Cause::Parse(_) | Cause::HeaderValue(_) => {
+                StatusCode::BAD_REQUEST
+            }
             Cause::Http(_) => StatusCode::INTERNAL_SERVER_ERROR,
             Cause::Utf8 => StatusCode::BAD_REQUEST,
             Cause::Io(IoKind::NotFound) => StatusCode::NOT_FOUND,
@@ -126,6 +129,45 @@ impl From<PayloadError> for Error {
     fn from(fault: PayloadError) -> Error {
         Error {
             cause: Cause::Payload(fault),
+        }
+    }
+}
+
+impl From<ContentTypeError> for Error {
+    ghost use Rattle.web_reply.specs.Replies.{fault_of};
+    ghost use Rattle.web_reply.specs.declared.cause.Cause.TheVariants.{ContentType};
+
+    ghost from_gives = { λ fault e. e ≡ fault_of (ContentType fault) };
+
+    fn from(fault: ContentTypeError) -> Error {
+        Error {
+            cause: Cause::ContentType(fault),
+        }
+    }
+}
+
+impl From<ParseError> for Error {
+    ghost use Rattle.web_reply.specs.Replies.{fault_of};
+    ghost use Rattle.web_reply.specs.declared.cause.Cause.TheVariants.{Parse};
+
+    ghost from_gives = { λ fault e. e ≡ fault_of (Parse fault) };
+
+    fn from(fault: ParseError) -> Error {
+        Error {
+            cause: Cause::Parse(fault),
+        }
+    }
+}
+
+impl From<InvalidHeaderValue> for Error {
+    ghost use Rattle.web_reply.specs.Replies.{fault_of};
+    ghost use Rattle.web_reply.specs.declared.cause.Cause.TheVariants.{HeaderValue};
+
+    ghost from_gives = { λ fault e. e ≡ fault_of (HeaderValue fault) };
+
+    fn from(fault: InvalidHeaderValue) -> Error {
+        Error {
+            cause: Cause::HeaderValue(fault),
         }
     }
 }

@@ -1,3 +1,5 @@
 pub mod PoolLemmas
+pub mod MessageFieldsLemmas
+pub mod NearestLemmas
 pub mod ReadyLayersLemmas
 pub mod ReadingLemmas

@@ -1,11 +1,12 @@
 -- Layers stay ready where more that are ready stand behind them.
-use Rattle.std.proofs.Common.{suc, List, ◌++◌, ◌≡◌, sym, ◌∙◌, ap, subst, arith}
+use Rattle.std.proofs.Common.{suc, List, [], ◌∷◌, ◌++◌, ◌≡◌, refl, sym, ◌∙◌, ap, subst, arith}
 use Rattle.std.specs.Prelude.{Option, None, Some}
 use Rattle.std.specs.declared.rc.Rc.{Rc}
 use Rattle.std.proofs.lemmas.List.{map-append}
-use Rattle.std.proofs.lemmas.List.Elements.{All-append, All-cons}
+use Rattle.std.proofs.lemmas.List.Elements.{All-append, All-cons, All-pop}
 use Rattle.web_request.specs.ReadyLayers.{AllReady}
 use Rattle.web_request.specs.Shared.{values, values_behind}
+use Rattle.web_request.proofs.NearestLemmas.{behind-push}
 
 module _ {L Z : Type 0} (ready : L → Type 0) where
   ready_list : (o : Option (Rc L Z)) (ls : List (Rc L Z)) → AllReady ready (values_behind o ls) → AllReady ready (values ls)
@@ -16,3 +17,10 @@ module _ {L Z : Type 0} (ready : L → Type 0) where
       → AllReady ready (values_behind (Some r) ns)
   ready_behind o ls ms ns r e before here behind =
       All-cons ready r.value (values ns) here (subst (AllReady ready) (sym (ap values e ∙ map-append (λ x. x.value) ls ms)) (All-append ready (values ls) (values ms) (ready_list o ls before) behind))
+
+  -- the last one, and those before it
+  pub ready_last : (root : Option (Rc L Z)) (left before : List (Rc L Z)) (r : Rc L Z) (layer : L) → left ≡ before ++ r ∷ [] → layer ≡ r.value → AllReady ready (values_behind root left)
+      → AllReady ready (values_behind root before) × ready layer
+  ready_last root left before r layer is lent all =
+      let split = All-pop ready (values_behind root before ++ r.value ∷ []) (values_behind root before) (Some r.value) refl (rw (sym (behind-push root before r), sym is) all) in
+      (split.0, rw lent split.1)

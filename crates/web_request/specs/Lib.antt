@@ -2,6 +2,9 @@ pub mod Shared
 pub mod Head
 pub mod ReadyLayers
 pub mod Request
+pub mod Nearest
+pub mod MessageFields
+pub mod Returns
 pub mod Pool
 pub mod KeptRecords
 pub mod Body

@@ -1,13 +1,16 @@
 //! Requests.
-ghost use Rattle.std.specs.Prelude.{◌≡◌, IfErr, IfOk, OnErr, OnOk};
+ghost use Rattle.std.specs.Prelude.{◌≡◌, IfErr, IfOk, IfSome, OnErr, OnOk, option_copied};
 ghost use Rattle.web_request.specs.Head.{head_path, head_view};
+ghost use Rattle.web_request.specs.Nearest.{nearest, nearest_config};
 ghost use Rattle.web_request.specs.Pool.{Clean, new_record};
 
 use crate::app::App;
 use crate::config::AppConfig;
 use crate::head::RequestHead;
+use crate::layers::{ConfigChoice, HeldValue, Holds, OwnConfig, SharedConfig, Wanted};
 use crate::parts::RequestParts;
 use crate::reuse::{move_into, put_head};
+use http_header::{HeaderMap, HeaderValue};
 use std::alloc::Global;
 use std::marker::Model;
 use std::rc::Rc;
@@ -68,11 +71,58 @@ impl<A: App> HttpRequest<A> {
         self.head.uri.path()
     }
 
+    /// The header fields.
+    pub fn headers(&self) -> &HeaderMap<HeaderValue>
+        ensures { result.now ≡ self.now.request.head.headers }
+    {
+        &self.head.headers
+    }
+
     /// The parameters that a router matched in the path, not decoded.
     pub fn match_info(&self) -> &[Pair]
         ensures { result.now ≡ self.now.request.params }
     {
         self.params.as_slice()
+    }
+
+    /// The `T` of the last layer that holds one. The root layer is the first.
+    pub fn app_data<T>(&self) -> Option<&T>
+    where
+        A::Layer: Holds<T>,
+        ensures { option_copied result ≡ nearest A.Layer.Holds.held self.now.request.layers }
+    {
+        self.nearest_value::<HeldValue<T>>()
+    }
+
+    /// The configuration of the last layer that has one of its own. Only where no layer has one,
+    /// that of the last layer that shares one.
+    pub fn nearest_config<C: ConfigChoice<A::Layer>>(&self) -> Option<&C::Config>
+        ensures value { option_copied result
+            ≡ nearest_config C.own C.shared self.now.request.layers }
+        ensures usable { IfSome result (λ found. C.usable found.now) }
+    {
+        match self.nearest_value::<OwnConfig<C>>() {
+            Some(config) => Some(config),
+            None => self.nearest_value::<SharedConfig<C>>(),
+        }
+    }
+
+    /// The wanted value of the last layer that has one.
+    fn nearest_value<W: Wanted<A::Layer>>(&self) -> Option<&W::Value>
+        ensures value { option_copied result ≡ nearest W.value self.now.request.layers }
+        ensures usable { IfSome result (λ found. W.usable found.now) }
+    {
+        let mut left = self.layers.as_slice();
+        while let Some((layer, before)) = left.split_last() {
+            if let Some(value) = W::value_in(layer) {
+                return Some(value);
+            }
+            left = before;
+        }
+        match &self.root {
+            Some(root) => W::value_in(root),
+            None => None,
+        }
     }
 
     /// The number of the record that holds the request. A pool numbers the records that it makes

@@ -39,6 +39,19 @@ pub(crate) fn assert_run(rt: &impl Abort, name: &str, found: Run, status: Status
     assert_eq!(rt; found, (status, true), "{name}");
 }
 
+/// Serves a script that is refused, by this line and for this reason.
+pub(crate) fn assert_refused(
+    rt: &impl Abort,
+    alloc: Global,
+    name: &str,
+    script: &str,
+    line: u64,
+    reason: &str,
+) {
+    let text = format!(in alloc; "line {line}: {reason}\n").expect(rt, "memory");
+    assert_script(rt, alloc, name, script, Status::Script, &text);
+}
+
 /// Serves a script that comes three bytes at a time, and compares the status and the text that is
 /// written.
 pub(crate) fn assert_script(

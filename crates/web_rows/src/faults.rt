@@ -44,7 +44,7 @@ const RUNS: &[(&[&str], &str, Status, &str)] = &[
         SERVE,
         "exchange POST /json\n",
         Status::Script,
-        "not built\n",
+        "line 1: not built\n",
     ),
     (&["serve"], "", Status::Usage, USAGE),
 ];
@@ -192,5 +192,6 @@ fn assert_size(rt: &impl Abort, alloc: Global, size: usize, status: Status, text
 #[test]
 fn a_script_of_the_limit_is_read_and_one_byte_more_is_refused(rt: HostRuntime) {
     assert_size(&rt, rt.alloc(), 16_777_216, Status::Done, "pool\nmade 0\n");
-    assert_size(&rt, rt.alloc(), 16_777_217, Status::Script, "not built\n");
+    let refused = "line 0: too long\n";
+    assert_size(&rt, rt.alloc(), 16_777_217, Status::Script, refused);
 }

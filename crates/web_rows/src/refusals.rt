@@ -1,71 +1,147 @@
 //! Scripts that are refused, and arguments that are no command.
-use crate::commands::{USAGE, assert_run, assert_script, run_demo};
+use crate::commands::{USAGE, assert_refused, assert_run, assert_script, run_demo};
 use std::alloc::Global;
 use std::process::Abort;
 use web_cli::{Input, MemInput, PlainOutput, ReadAnswer, Status};
 
-/// A name, and a script with a faulty line.
-const REFUSALS: &[(&str, &str)] = &[
+/// A name, a script, and the line and the reason by which it is refused.
+const REFUSALS: &[(&str, &str, u64, &str)] = &[
     (
-        "a segment that is not built",
-        "exchange POST /json\nplan 0\n",
-    ),
-    ("an exchange without a target", "exchange GET\nplan 0\n"),
-    ("an unknown word", "exchange POST /bytes\ntexts a\nplan 0\n"),
-    (
-        "a word in upper case",
-        "exchange POST /bytes\nTEXT a\nplan 0\n",
+        "an unknown word after the plan",
+        "exchange GET /a\nplan 0\npieces x\n",
+        3,
+        "unknown line",
     ),
     (
-        "a piece before an exchange",
-        "text a\nexchange POST /bytes\n",
+        "a word in upper case, after a comment and an empty line",
+        "# a\n\nexchange POST /bytes\nTEXT a\n",
+        4,
+        "unknown line",
     ),
-    ("a stall before an exchange", "stall\n"),
-    ("a fault before an exchange", "fault\n"),
+    ("a word that is not built", "plan\npeer x\n", 2, "not built"),
     (
-        "a piece after a fault",
-        "exchange POST /bytes\nfault\ntext a\n",
+        "an exchange after the plan",
+        "plan\nexchange\n",
+        2,
+        "line after plan",
     ),
+    ("a header before an exchange", "header\n", 1, "no exchange"),
+    ("a stall before an exchange", "stall 1\n", 1, "no exchange"),
     (
         "a stall after a fault",
         "exchange POST /bytes\nfault\nstall",
+        3,
+        "mark after fault",
     ),
     (
-        "a fault after a fault",
-        "exchange POST /bytes\nfault\nfault\n",
-    ),
-    ("an exchange after the plan", "plan\nexchange POST /bytes\n"),
-    (
-        "a piece after the plan",
-        "exchange POST /bytes\nplan 0\ntext a\n",
-    ),
-    ("a sign in the plan", "exchange POST /bytes\nplan +0\n"),
-    (
-        "two spaces in the plan",
-        "exchange POST /bytes\nplan 0  0\n",
+        "an odd piece after a fault",
+        "exchange POST /a\nfault\nheader a\npiece 6\n",
+        4,
+        "mark after fault",
     ),
     (
-        "a space at the plan's end",
-        "exchange POST /bytes\nplan 0 \n",
+        "an exchange without a target",
+        "exchange GET\nplan x\n",
+        1,
+        "bad exchange",
     ),
-    ("a great number in the plan", "plan 4294967296\n"),
     (
-        "an odd number of digits",
-        "exchange POST /bytes\npiece 6a6\n",
+        "a segment that is not built",
+        "exchange POST /json\nplan 0\n",
+        1,
+        "not built",
+    ),
+    (
+        "a header without a name",
+        "exchange POST /a\nheader  a\n",
+        2,
+        "bad header",
+    ),
+    (
+        "a control character in a header",
+        "exchange POST /a\nheader a \u{1}\n",
+        2,
+        "bad header",
+    ),
+    (
+        "a parameter without a value",
+        "exchange POST /a\nparam a\n",
+        2,
+        "bad param",
+    ),
+    (
+        "an empty setting",
+        "exchange POST /a\nlayer payload=1 \n",
+        2,
+        "bad layer",
+    ),
+    (
+        "a setting with a sign, beside one that is not built",
+        "exchange POST /a\nlayer json-any payload=+1\n",
+        2,
+        "bad layer",
+    ),
+    (
+        "a media type without a subtype",
+        "exchange POST /a\nlayer mime=text\n",
+        2,
+        "bad layer",
+    ),
+    (
+        "a setting that is not built",
+        "exchange POST /a\nlayer payload=1 json=2\n",
+        2,
+        "not built",
     ),
     (
         "a letter that is no digit",
         "exchange POST /bytes\npiece 6g\n",
+        2,
+        "bad piece",
     ),
-    ("an argument of a stall", "exchange POST /bytes\nstall 1\n"),
-    ("an argument of a fault", "exchange POST /bytes\nfault 1\n"),
+    (
+        "an argument of a fault",
+        "exchange POST /bytes\nfault 1\n",
+        2,
+        "bad mark",
+    ),
+    (
+        "a space at the plan's end",
+        "exchange POST /bytes\nplan 0 \n",
+        2,
+        "bad plan",
+    ),
+    (
+        "a great number in the plan",
+        "plan 4294967296\n",
+        1,
+        "bad plan",
+    ),
 ];
 
 #[test]
-fn each_faulty_script_is_refused(rt: HostRuntime) {
-    for (name, script) in REFUSALS {
-        assert_script(&rt, rt.alloc(), name, script, Status::Script, "not built\n");
+fn each_faulty_script_is_refused_by_line_and_reason(rt: HostRuntime) {
+    for (name, script, line, reason) in REFUSALS {
+        assert_refused(&rt, rt.alloc(), name, script, *line, reason);
     }
+}
+
+/// Serves an exchange with this number of header lines, and compares the status and the text that
+/// is written.
+fn assert_headers(rt: &impl Abort, alloc: Global, count: u64, status: Status, text: &str) {
+    let mut script = String::from_str(alloc, "exchange POST /a\n").expect(rt, "memory");
+    for _ in 0..count {
+        script.push_str("header a\n").expect(rt, "memory");
+    }
+    assert_script(rt, alloc, "many headers", &script, status, text);
+}
+
+#[test]
+fn headers_of_the_limit_are_read_and_one_more_is_refused(rt: HostRuntime) {
+    let unfinished = "exchange 0\nunfinished\npool\nmade 0\n";
+    assert_headers(&rt, rt.alloc(), 1024, Status::Done, unfinished);
+    let refused = "line 1026: too many headers\n";
+    assert_headers(&rt, rt.alloc(), 1025, Status::Script, refused);
 }
 
 /// Arguments of which the program knows no command.

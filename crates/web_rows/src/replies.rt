@@ -93,7 +93,7 @@ const REPLIES: &[(&str, &str, &str)] = &[
     (
         "a list of arguments that waits for the late one",
         "exchange POST /both\nparam delay 1\ntext ab\nplan 0 0\n",
-        "exchange 0\nstatus 200\ncontent-type: application/octet-stream\nbody text ab\npool\n\
+        "exchange 0\nstatus 200\ncontent-type: text/plain; charset=utf-8\nbody text ab\npool\n\
         made 1\n",
     ),
 ];

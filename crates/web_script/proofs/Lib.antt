@@ -1,5 +1,7 @@
-pub mod InvalidLinesLemmas
+pub mod AcceptanceLemmas
+pub mod LayerLinesLemmas
 pub mod LineArgumentsLemmas
+pub mod LineFaultsLemmas
 pub mod MarksLemmas
 pub mod NewlineLemmas
 pub mod PlanEntriesLemmas

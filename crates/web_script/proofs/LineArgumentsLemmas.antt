@@ -1,5 +1,5 @@
--- The arguments of `exchange` and `param` lines, cut at their first space.
-use Rattle.std.proofs.Common.{◌≡◌, ◌==◌, ℕ, ◌+◌, ◌-◌, ◌≤◌, Bool, true, false, not, ◌&&◌, List, [], ◌∷◌, length, drop, Option, Some, None, refl, ap, sym, ◌∙◌, arith}
+-- The arguments of `exchange`, `header` and `param` lines, cut at their first space.
+use Rattle.std.proofs.Common.{◌≡◌, ◌==◌, ℕ, zero, suc, ◌+◌, ◌-◌, ◌≤◌, Bool, true, false, not, ◌&&◌, List, [], ◌∷◌, length, drop, Option, Some, None, refl, ap, sym, ◌∙◌, arith}
 use Rattle.std.proofs.Math.Seq.{drop-append-add}
 use Rattle.std.proofs.lemmas.List.{length-append}
 use Rattle.std.specs.Prelude.{IsUtf8}
@@ -9,17 +9,23 @@ use Rattle.std.specs.Str.{is_utf8}
 use Rattle.std.proofs.lemmas.Bool.Decides.{Decides-and, Decides-ltb, not_from_Decides}
 use Rattle.std.proofs.lemmas.List.Folds.{list_any-append}
 use Rattle.std.proofs.lemmas.Str.{is_utf8-from_IsUtf8}
-use Rattle.http_header.specs.Token.{is_token_byte, IsToken}
+use Rattle.http_header.specs.FieldName.{IsFieldName}
+use Rattle.http_header.specs.FieldValue.{IsFieldValue}
+use Rattle.http_header.specs.Token.{is_token_byte, is_value_byte, IsToken}
 use Rattle.http_uri.specs.declared.uri.Uri.{Uri}
 use Rattle.http_uri.specs.Uri.{Spells, SpellsNone, uri_scheme, uri_authority, uri_data}
 use Rattle.web_texts.specs.Cut.{IsCut}
 use Rattle.web_texts.proofs.SplitLemmas.{cut_parts, no_cut}
 use Rattle.web_script.specs.Line.{is_space}
 use Rattle.web_script.specs.ScriptedView.{ScriptedExchangeView}
-use Rattle.web_script.specs.LineArguments.{before_space, after_space, has_space, is_method, is_built, is_request, is_param, param_of}
+use Rattle.web_script.specs.LineArguments.{before_space, after_space, has_space, is_method, is_request, request_fault, target_fault, is_field_name, is_field_value, is_param, param_of}
+use Rattle.web_script.specs.LineFaults.{unless}
 use Rattle.web_script.specs.Reader.{new_exchange}
 use Rattle.web_script.specs.Targets.{Target, IsReading, parts_of, target_of}
-use Rattle.web_script.proofs.TargetFormsLemmas.{reading, all_decides, utf8_decides}
+use Rattle.web_script.specs.declared.reason.Reason.{Reason}
+use Rattle.web_script.specs.declared.reason.Reason.TheVariants as reason
+use Rattle.web_script.proofs.AcceptanceLemmas.{met, not_met}
+use Rattle.web_script.proofs.TargetFormsLemmas.{reading, all_decides, le_decides, utf8_decides}
 use Rattle.web_script.proofs.UniqueTargetLemmas.{form_unique}
 
 -- ---- a method, a target and a text
@@ -41,6 +47,28 @@ method_read text h = stable (is_method text) (token text) h
 
 pub method_refused : (text : List ℕ) → ¬ (IsToken text) → is_method text ≡ false
 method_refused text h = refuted (is_method text) (token text) h
+
+-- a name and a value of a field
+
+field_name : (text : List ℕ) → Decides (is_field_name text) (IsFieldName text)
+unfolding is_field_name
+field_name text = Decides-and _ _ (token text) (le_decides (length text) 65535)
+
+pub name_read : (text : List ℕ) → ¬ (¬ (IsFieldName text)) → is_field_name text ≡ true
+name_read text h = stable (is_field_name text) (field_name text) h
+
+pub name_unread : (text : List ℕ) → ¬ (IsFieldName text) → is_field_name text ≡ false
+name_unread text h = refuted (is_field_name text) (field_name text) h
+
+field_value : (text : List ℕ) → Decides (is_field_value text) (IsFieldValue text)
+unfolding is_field_value
+field_value text = all_decides is_value_byte text
+
+pub value_read : (text : List ℕ) → IsFieldValue text → is_field_value text ≡ true
+value_read text h = (field_value text).1 h
+
+pub value_unread : (text : List ℕ) → ¬ (IsFieldValue text) → is_field_value text ≡ false
+value_unread text h = refuted (is_field_value text) (field_value text) h
 
 pub text_read : (text : List ℕ) → IsUtf8 text → is_utf8 text ≡ true
 text_read text good = is_utf8-from_IsUtf8 text good
@@ -89,7 +117,24 @@ cut_end text before after cut =
     let start : length text - length after ≡ length before + 1 = omega (arith, size) in
     rw start (rw (cut_parts 32 text before after cut).text_is (sym (drop-append-add before (32 ∷ after) 1)))
 
-pub unspaced_request : (text : List ℕ) → position_or_len is_space text ≡ length text → is_request text ≡ false
+-- the text after the first space is the end of the text, and empty where there is no space
+drop_is_end : {A : Type 0} (n : ℕ) (xs : List A) → (drop n xs ≡ drop (length xs - length (drop n xs)) xs) × (length (drop n xs) ≤ length xs)
+drop_is_end zero xs =
+    let none : length xs - length xs ≡ 0 = omega arith in
+    (rw none refl, omega arith)
+drop_is_end (suc n) [] = (refl, omega arith)
+drop_is_end (suc n) (x ∷ xs) =
+    let rest = drop_is_end n xs in
+    let one : length (x ∷ xs) - length (drop n xs) ≡ suc (length xs - length (drop n xs)) = omega (arith, rest.1) in
+    (rw one rest.0, omega (arith, rest.1))
+
+pub after_is_end : (text after : List ℕ) → after ≡ after_space text → after ≡ drop (length text - length after) text
+after_is_end text after is = rw is (drop_is_end (position_or_len is_space text + 1) text).0
+
+pub after_is_short : (text after : List ℕ) → after ≡ after_space text → length after ≤ length text
+after_is_short text after is = rw is (drop_is_end (position_or_len is_space text + 1) text).1
+
+pub unspaced_request : (text : List ℕ) → position_or_len is_space text ≡ length text → request_fault text ≡ Some reason.BadExchange
 unfolding is_request
 unspaced_request text whole = rw (no_cut 32 text whole) refl
 
@@ -98,43 +143,56 @@ unfolding is_param
 unspaced_param text whole = rw (no_cut 32 text whole) refl
 
 module _ (text method target : List ℕ) (cut : IsCut 32 text method target) where
-  request_is : is_request text ≡ (not (has_space target) && (is_method method && is_built (target_of target)))
+  request_is : is_request text ≡ (not (has_space target) && is_method method)
   unfolding is_request
   request_is = rw (cut_has text method target cut, cut.before_is, cut.after_is) refl
 
-  pub spaced_target : has_space target ≡ true → is_request text ≡ false
-  spaced_target spaced = request_is ∙ rw spaced refl
+  pub spaced_target : has_space target ≡ true → request_fault text ≡ Some reason.BadExchange
+  spaced_target spaced = rw (request_is, spaced) refl
 
-  pub no_method : has_space target ≡ false → is_method method ≡ false → is_request text ≡ false
-  no_method plain none = request_is ∙ rw (plain, none) refl
+  pub no_method : (r : Reason) → has_space target ≡ false → unless (is_method method) reason.BadExchange ≡ Some r → request_fault text ≡ Some r
+  no_method r plain none =
+      let test = not_met (is_method method) reason.BadExchange r none in
+      rw (request_is, plain, test.0, test.1) refl
 
-  pub no_target : has_space target ≡ false → is_method method ≡ true → target_of target ≡ None → is_request text ≡ false
-  no_target plain is none = request_is ∙ rw (plain, is, none) refl
+  target_tested : has_space target ≡ false → unless (is_method method) reason.BadExchange ≡ None → request_fault text ≡ target_fault (target_of target)
+  target_tested plain is =
+      let test = met (is_method method) reason.BadExchange is in
+      rw (request_is, plain, test, cut.after_is) refl
 
-  pub not_built : (t : Target) → has_space target ≡ false → is_method method ≡ true → target_of target ≡ Some t → is_built (Some t) ≡ false → is_request text ≡ false
-  not_built t plain is reads other = request_is ∙ rw (plain, is, reads) other
+  pub no_target : (r : Reason) → has_space target ≡ false → unless (is_method method) reason.BadExchange ≡ None → target_fault (target_of target) ≡ Some r → request_fault text ≡ Some r
+  no_target r plain is none = target_tested plain is ∙ none
 
-  pub asked_for : (t : Target) (m : List ℕ) (made : ScriptedExchangeView) → has_space target ≡ false → is_method method ≡ true → m ≡ method → target_of target ≡ Some t → is_built (Some t) ≡ true
-      → made ≡ record { method = m; target = t; params = []; marks = [] } → (is_request text ≡ true) × (made ≡ new_exchange text)
-  asked_for t m made plain is same reads built made_is =
+  pub asked_for : (t : Target) (m : List ℕ) (made : ScriptedExchangeView) → has_space target ≡ false → unless (is_method method) reason.BadExchange ≡ None → m ≡ method
+      → target_fault (target_of target) ≡ None → target_of target ≡ Some t
+      → made ≡ record { method = m; target = t; headers = []; params = []; layers = []; marks = [] } → (request_fault text ≡ None) × (made ≡ new_exchange text)
+  asked_for t m made plain is same none reads made_is =
       let here : target_of (after_space text) ≡ Some t = ap target_of (sym cut.after_is) ∙ reads in
       let named_count : m ≡ before_space text = same ∙ cut.before_is in
-      (request_is ∙ rw (plain, is, reads) built, made_is ∙ rw (here, named_count) refl)
+      (target_tested plain is ∙ none, made_is ∙ rw (here, named_count) refl)
 
 module _ (text name value : List ℕ) (cut : IsCut 32 text name value) where
   param_is : is_param text ≡ (not (length name == 0) && (is_utf8 name && is_utf8 value))
   unfolding is_param
   param_is = rw (cut_has text name value cut, cut.before_is, cut.after_is) refl
 
-  pub no_name : (length name == 0) ≡ true → is_param text ≡ false
-  no_name none = param_is ∙ rw none refl
+  pub no_name : (length name == 0) ≡ true → unless (is_param text) reason.BadParam ≡ Some reason.BadParam
+  no_name none = rw (param_is, none) refl
 
-  pub name_refused : (length name == 0) ≡ false → is_utf8 name ≡ false → is_param text ≡ false
-  name_refused some bad = param_is ∙ rw (some, bad) refl
+  pub name_refused : (r : Reason) → (length name == 0) ≡ false → unless (is_utf8 name) reason.BadParam ≡ Some r → unless (is_param text) reason.BadParam ≡ Some r
+  name_refused r some bad =
+      let test = not_met (is_utf8 name) reason.BadParam r bad in
+      rw (param_is, some, test.0, test.1) refl
 
-  pub value_refused : (length name == 0) ≡ false → is_utf8 name ≡ true → is_utf8 value ≡ false → is_param text ≡ false
-  value_refused some good bad = param_is ∙ rw (some, good, bad) refl
+  pub value_refused : (r : Reason) → (length name == 0) ≡ false → unless (is_utf8 name) reason.BadParam ≡ None → unless (is_utf8 value) reason.BadParam ≡ Some r → unless (is_param text) reason.BadParam ≡ Some r
+  value_refused r some good bad =
+      let first = met (is_utf8 name) reason.BadParam good in
+      let test = not_met (is_utf8 value) reason.BadParam r bad in
+      rw (param_is, some, first, test.0, test.1) refl
 
-  pub param_read : (n v : List ℕ) → (length name == 0) ≡ false → is_utf8 name ≡ true → is_utf8 value ≡ true → n ≡ name → v ≡ value
-      → (is_param text ≡ true) × (record { name = n; value = v } ≡ param_of text)
-  param_read n v some good fine same alike = (param_is ∙ rw (some, good, fine) refl, rw (same, alike, cut.before_is, cut.after_is) refl)
+  pub param_read : (n v : List ℕ) → (length name == 0) ≡ false → unless (is_utf8 name) reason.BadParam ≡ None → unless (is_utf8 value) reason.BadParam ≡ None → n ≡ name → v ≡ value
+      → (unless (is_param text) reason.BadParam ≡ None) × (record { name = n; value = v } ≡ param_of text)
+  param_read n v some good fine same alike =
+      let first = met (is_utf8 name) reason.BadParam good in
+      let second = met (is_utf8 value) reason.BadParam fine in
+      (rw (param_is, some, first, second) refl, rw (same, alike, cut.before_is, cut.after_is) refl)

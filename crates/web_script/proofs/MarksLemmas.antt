@@ -1,12 +1,13 @@
 -- The marks that the reader keeps are bodies.
-use Rattle.std.proofs.Common.{◌≡◌, ℕ, Bool, true, false, not, ◌||◌, ◌&&◌, List, [], ◌∷◌, ◌++◌, Option, Some, None, refl, sym, ◌∙◌, length, arith}
+use Rattle.std.proofs.Common.{◌≡◌, ℕ, Bool, true, false, not, ◌&&◌, List, [], ◌∷◌, ◌++◌, Option, Some, None, refl, sym, ◌∙◌, cond, length, arith}
 use Rattle.std.specs.Prelude.{⊤, is_some, nat_lt}
-use Rattle.std.specs.Option.{ForSome, option_map}
+use Rattle.std.specs.Option.{ForSome, option_map, option_or}
 use Rattle.std.specs.List.{AllPass}
 use Rattle.std.specs.Result.{result_unwrap_or}
 use Rattle.std.proofs.lemmas.Bool.Decides.{nat_tests}
 use Rattle.std.proofs.lemmas.List.{append-nil}
 use Rattle.std.proofs.lemmas.List.Elements.{All-push}
+use Rattle.http_header.specs.FieldValue.{FieldValue}
 use Rattle.hex.specs.Hex.{decode_of}
 use Rattle.web_request.specs.declared.source.Mark.{Mark}
 use Rattle.web_request.specs.declared.source.Mark.TheVariants as mark
@@ -14,10 +15,13 @@ use Rattle.web_request.specs.Body.{is_body, ends_in_fault, whole}
 use Rattle.web_texts.specs.declared.text.Pair.{Pair}
 use Rattle.web_script.specs.ScriptedView.{ScriptedExchangeView}
 use Rattle.web_script.specs.ExchangeSinks.{open_exchanges}
-use Rattle.web_script.specs.Reader.{ReaderView, new_reader, refuses, after_line, completed_by, with_marks, with_params}
+use Rattle.web_script.specs.Reader.{ReaderView, new_reader, refusal, after_line, completed_by, with_headers, with_layers, with_marks, with_params}
+use Rattle.web_script.specs.ScriptExchanges.{line_headers, line_layers}
+use Rattle.web_script.specs.declared.layer.LayerSettings.{LayerSettings}
+use Rattle.web_script.specs.declared.reason.Reason.{Reason}
+use Rattle.web_script.specs.declared.reason.Reason.TheVariants as reason
 use Rattle.web_script.specs.declared.line.Word.{Word}
 use Rattle.web_script.specs.declared.line.Word.TheVariants as word
-use Rattle.web_texts.proofs.LastCutLemmas.{or_false}
 use Rattle.web_script.proofs.ReaderLemmas.{line}
 
 -- more marks behind a body that has no fault
@@ -68,11 +72,26 @@ params_sound : (o : Option ScriptedExchangeView) (f : Bool) (p : List Pair) → 
 params_sound None f p sound = tt
 params_sound (Some e) f p sound = sound
 
+headers_sound : (o : Option ScriptedExchangeView) (f : Bool) (h : List (List ℕ × FieldValue)) → IsOpenSound o f → IsOpenSound (option_map (with_headers h) o) f
+headers_sound None f h sound = tt
+headers_sound (Some e) f h sound = sound
+
+layers_sound : (o : Option ScriptedExchangeView) (f : Bool) (l : List LayerSettings) → IsOpenSound o f → IsOpenSound (option_map (with_layers l) o) f
+layers_sound None f l sound = tt
+layers_sound (Some e) f l sound = sound
+
 -- the line of a mark is refused where the exchange has a fault
-has_none : (s : ReaderView) (invalid : Bool) → ((s.has_plan || not (is_some s.open_exchange) || s.has_fault) || invalid) ≡ false → s.has_fault ≡ false
-has_none s invalid fine =
-    let placed = or_false (s.has_plan || not (is_some s.open_exchange) || s.has_fault) invalid fine in
-    (or_false (s.has_plan || not (is_some s.open_exchange)) s.has_fault placed.0).1
+none_failed : (p b f : Bool) (argument : Option Reason)
+    → option_or (cond p (Some reason.LineAfterPlan) (cond (not b) (Some reason.NoExchange) (cond f (Some reason.MarkAfterFault) None))) argument ≡ None → f ≡ false
+none_failed true b f argument fine = absurd (cc)
+none_failed false false f argument fine = absurd (cc)
+none_failed false true true argument fine = absurd (cc)
+none_failed false true false argument fine = refl
+
+has_none : (s : ReaderView) (argument : Option Reason)
+    → option_or (cond s.has_plan (Some reason.LineAfterPlan) (cond (not (is_some s.open_exchange)) (Some reason.NoExchange) (cond s.has_fault (Some reason.MarkAfterFault) None))) argument ≡ None
+    → s.has_fault ≡ false
+has_none s argument fine = none_failed s.has_plan (is_some s.open_exchange) s.has_fault argument fine
 
 whole_sound : (whole : List ScriptedExchangeView) (o : Option ScriptedExchangeView) (f : Bool) → AllPass (λ e. is_body e.marks) whole → IsOpenSound o f → AllPass (λ e. is_body e.marks) (whole ++ open_exchanges o)
 whole_sound whole None f all sound = rw (append-nil whole) all
@@ -89,8 +108,10 @@ open_is_body (Some x) f sound = λ e is. let same : x ≡ e = cc in rw (← same
 pub open_body : (whole : List ScriptedExchangeView) (s : ReaderView) → IsSound whole s → ForSome s.open_exchange (λ e. is_body e.marks ≡ true)
 open_body whole s sound = open_is_body s.open_exchange s.has_fault sound.open_exchange
 
-open_more : (s : ReaderView) (v : Word) (text : List ℕ) → refuses s (line v text) ≡ false → IsOpenSound s.open_exchange s.has_fault → IsOpenSound (after_line s v text).open_exchange (after_line s v text).has_fault
+open_more : (s : ReaderView) (v : Word) (text : List ℕ) → refusal s (line v text) ≡ None → IsOpenSound s.open_exchange s.has_fault → IsOpenSound (after_line s v text).open_exchange (after_line s v text).has_fault
 open_more s word.Exchange text fine sound = (refl, refl)
+open_more s word.Header text fine sound = headers_sound s.open_exchange s.has_fault (line_headers word.Header text) sound
+open_more s word.Layer text fine sound = layers_sound s.open_exchange s.has_fault (line_layers word.Layer text) sound
 open_more s word.Param text fine sound = params_sound s.open_exchange s.has_fault _ sound
 open_more s word.Text text fine sound =
     marks_sound s.open_exchange s.has_fault s.has_fault _ (has_none s _ fine) ((whole_is text).0, (whole_is text).1 ∙ sym (has_none s _ fine)) sound
@@ -101,6 +122,7 @@ open_more s word.Stall text fine sound = marks_sound s.open_exchange s.has_fault
 open_more s word.Fault text fine sound = marks_sound s.open_exchange s.has_fault true _ (has_none s _ fine) (refl, refl) sound
 open_more s word.Plan text fine sound = sound
 open_more s word.Skipped text fine sound = sound
+open_more s word.Unbuilt text fine sound = sound
 open_more s word.Unknown text fine sound = sound
 
 whole_more : (whole : List ScriptedExchangeView) (s : ReaderView) (v : Word) → IsSound whole s → AllPass (λ e. is_body e.marks) (whole ++ completed_by s v)
@@ -112,9 +134,12 @@ whole_more whole s word.Fault sound = rw (append-nil whole) sound.added
 whole_more whole s word.Param sound = rw (append-nil whole) sound.added
 whole_more whole s word.Plan sound = rw (append-nil whole) sound.added
 whole_more whole s word.Skipped sound = rw (append-nil whole) sound.added
+whole_more whole s word.Unbuilt sound = rw (append-nil whole) sound.added
+whole_more whole s word.Header sound = rw (append-nil whole) sound.added
+whole_more whole s word.Layer sound = rw (append-nil whole) sound.added
 whole_more whole s word.Unknown sound = rw (append-nil whole) sound.added
 
-pub sound_more : (whole : List ScriptedExchangeView) (s : ReaderView) (v : Word) (text : List ℕ) → refuses s (line v text) ≡ false → IsSound whole s → IsSound (whole ++ completed_by s v) (after_line s v text)
+pub sound_more : (whole : List ScriptedExchangeView) (s : ReaderView) (v : Word) (text : List ℕ) → refusal s (line v text) ≡ None → IsSound whole s → IsSound (whole ++ completed_by s v) (after_line s v text)
 sound_more whole s v text fine sound = record {
   added = whole_more whole s v sound;
   open_exchange = open_more s v text fine sound.open_exchange;

@@ -74,7 +74,10 @@ marks_le word.Stall text = omega arith
 marks_le word.Fault text = omega arith
 marks_le word.Plan text = omega arith
 marks_le word.Exchange text = omega arith
+marks_le word.Header text = omega arith
 marks_le word.Param text = omega arith
+marks_le word.Layer text = omega arith
+marks_le word.Unbuilt text = omega arith
 marks_le word.Skipped text = omega arith
 marks_le word.Unknown text = omega arith
 

@@ -14,7 +14,7 @@ use Rattle.http_uri.specs.Grammar.{AllPass, IsPathAndQuery, IsPathInput, IsAutho
 use Rattle.http_uri.proofs.UriLemmas.{cut_name, cut_rest, cut_authority, cut_tail, cut_scheme, absolute_from_cuts, none_of}
 use Rattle.web_script.specs.Targets.{IsReading, is_path_and_query, is_path_input, may_follow, each_follows, is_authority, is_origin, is_absolute, after_scheme, authority_after_scheme, text_after_authority, absolute_of, form_of, target_of}
 
-le_decides : (a b : ℕ) → Decides (nat_le a b) (a ≤ b)
+pub le_decides : (a b : ℕ) → Decides (nat_le a b) (a ≤ b)
 le_decides a b = elim (leb_tells a b) [
   | inl h ↦ (λ e. h.1, λ p. h.0)
   | inr h ↦ (λ e. absurd (cc), λ p. absurd (omega (arith, h.1)))

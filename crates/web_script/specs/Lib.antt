@@ -1,10 +1,13 @@
+pub mod Acceptance
 pub mod ExchangeSinks
-pub mod InvalidLines
+pub mod LayerLines
 pub mod Line
 pub mod LineArguments
+pub mod LineFaults
 pub mod LineKinds
 pub mod PlanEntries
 pub mod Reader
+pub mod ReasonTexts
 pub mod Script
 pub mod ScriptExchanges
 pub mod ScriptReading

@@ -1,7 +1,7 @@
 -- A line's word and argument.
-use Rattle.std.specs.Prelude.{ℕ, ◌==◌, ◌||◌, Bool, List, [], length, slice_index, codes}
-use Rattle.std.specs.Prelude.{if◌then◌else◌}
-use Rattle.std.specs.List.{before_first, after_first}
+use Rattle.std.specs.Prelude.{ℕ, ◌==◌, ◌||◌, Bool, List, [], ◌∷◌, length, slice_index}
+use Rattle.std.specs.Prelude.{codes, if◌then◌else◌}
+use Rattle.std.specs.List.{list_any, before_first, after_first}
 use Rattle.std.specs.Str.{bytes_eq}
 use Rattle.web_script.specs.declared.line.Word.{Word}
 use Rattle.web_script.specs.declared.line.Word.TheVariants as word
@@ -13,15 +13,23 @@ pub record Line : Type 0 where
 abbrev pub is_space : ℕ → Bool
 is_space b = b == 32
 
+-- the words that are not built yet
+abbrev pub is_unbuilt : List ℕ → Bool
+is_unbuilt name =
+    list_any (bytes_eq name) (codes "peer" ∷ codes "local" ∷ codes "conn" ∷ [])
+
 abbrev pub word_of : List ℕ → Word
 word_of name =
     if bytes_eq name (codes "text") then word.Text
     else if bytes_eq name (codes "plan") then word.Plan
     else if bytes_eq name (codes "exchange") then word.Exchange
+    else if bytes_eq name (codes "header") then word.Header
     else if bytes_eq name (codes "param") then word.Param
+    else if bytes_eq name (codes "layer") then word.Layer
     else if bytes_eq name (codes "piece") then word.Piece
     else if bytes_eq name (codes "stall") then word.Stall
     else if bytes_eq name (codes "fault") then word.Fault
+    else if is_unbuilt name then word.Unbuilt
     else word.Unknown
 
 -- Empty lines and comments are skipped. Else the word is what precedes the first space, and the

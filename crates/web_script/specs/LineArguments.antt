@@ -1,13 +1,16 @@
--- The arguments of `exchange` and `param` lines.
+-- The arguments of `exchange`, `header` and `param` lines.
 use Rattle.std.specs.Prelude.{ℕ, ◌==◌, Bool, false, not, ◌&&◌, List, [], ◌∷◌, length, codes, Option}
-use Rattle.std.specs.Prelude.{None, Some, unwrap_or, nat_lt}
+use Rattle.std.specs.Prelude.{None, Some, is_some, unwrap_or, nat_lt, nat_le, if◌then◌else◌}
 use Rattle.std.specs.List.{list_all, list_any, before_first, after_first}
 use Rattle.std.specs.Str.{bytes_eq, is_utf8}
-use Rattle.http_header.specs.Token.{is_token_byte}
+use Rattle.http_header.specs.FieldValue.{FieldValue, plain_value}
+use Rattle.http_header.specs.Token.{is_token_byte, is_value_byte, lowercase}
 use Rattle.web_texts.specs.declared.text.Pair.{Pair}
 use Rattle.web_script.specs.Line.{is_space}
 use Rattle.web_script.specs.Segments.{first_segment}
 use Rattle.web_script.specs.Targets.{Target, target_of, target_path}
+use Rattle.web_script.specs.declared.reason.Reason.{Reason}
+use Rattle.web_script.specs.declared.reason.Reason.TheVariants as reason
 
 -- the text before the first space, and the text after it
 abbrev pub before_space : List ℕ → List ℕ
@@ -26,9 +29,9 @@ is_method text = nat_lt 0 (length text) && list_all is_token_byte text
 -- the first segments that are not built yet
 abbrev pub unbuilt_segments : List (List ℕ)
 unbuilt_segments =
-    codes "text" ∷ codes "json" ∷ codes "form" ∷ codes "option" ∷ codes "result"
-    ∷ codes "either" ∷ codes "path" ∷ codes "query" ∷ codes "data" ∷ codes "raw"
-    ∷ codes "header" ∷ codes "who" ∷ codes "cookies" ∷ codes "lines" ∷ []
+    codes "json" ∷ codes "form" ∷ codes "option" ∷ codes "result" ∷ codes "either"
+    ∷ codes "path" ∷ codes "query" ∷ codes "data" ∷ codes "raw" ∷ codes "header"
+    ∷ codes "who" ∷ codes "cookies" ∷ codes "lines" ∷ []
 
 -- the segment is one of them
 abbrev pub is_unbuilt : List ℕ → Bool
@@ -39,18 +42,45 @@ abbrev pub is_built : Option Target → Bool
 is_built None = false
 is_built (Some t) = not (is_unbuilt (first_segment (target_path t)))
 
--- METHOD, one space and TARGET, which has a valid form and is built
+-- why TARGET is faulty
+abbrev pub target_fault : Option Target → Option Reason
+target_fault target =
+    if not (is_some target) then Some reason.BadExchange
+    else if not (is_built target) then Some reason.NotBuilt
+    else None
+
+-- METHOD, one space and TARGET, which has no space
 unfoldable pub is_request : List ℕ → Bool
 is_request text =
-    has_space text
-    && (not (has_space (after_space text))
-    && (is_method (before_space text) && is_built (target_of (after_space text))))
+    has_space text && (not (has_space (after_space text)) && is_method (before_space text))
+
+-- Why the argument of an `exchange` line is faulty: its form is tested before what is built.
+abbrev pub request_fault : List ℕ → Option Reason
+request_fault text =
+    if is_request text then target_fault (target_of (after_space text))
+    else Some reason.BadExchange
 
 -- the parts of TARGET, where it has a valid form
 abbrev pub request_target : List ℕ → Target
 request_target text =
     unwrap_or (target_of (after_space text))
     (record { scheme = None; authority = None; path_and_query = [] })
+
+-- the name of a field, in any case (RFC 9110, section 5.1)
+unfoldable pub is_field_name : List ℕ → Bool
+is_field_name text = is_method text && nat_le (length text) 65535
+
+-- the value of a field (RFC 9110, section 5.5)
+unfoldable pub is_field_value : List ℕ → Bool
+is_field_value text = list_all is_value_byte text
+
+-- NAME, and VALUE after the first space, which is empty where there is none
+abbrev pub is_header : List ℕ → Bool
+is_header text = is_field_name (before_space text) && is_field_value (after_space text)
+
+-- NAME in lower case, and VALUE
+abbrev pub header_of : List ℕ → List ℕ × FieldValue
+header_of text = (lowercase (before_space text), plain_value (after_space text))
 
 -- NAME, one space and VALUE, which may be empty
 unfoldable pub is_param : List ℕ → Bool

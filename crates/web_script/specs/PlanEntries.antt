@@ -7,9 +7,10 @@ use Rattle.web_texts.specs.Digits.{digits_up_to}
 use Rattle.web_script.specs.Line.{is_space}
 
 -- all of the values, if each is there
-abbrev pub all_values : List (Option ℕ) → Option (List ℕ)
+abbrev pub all_values : {X : Type 0} → List (Option X) → Option (List X)
 all_values [] = Some []
-all_values (x ∷ more) = option_and_then (λ n. option_map (λ ns. n ∷ ns) (all_values more)) x
+all_values (x ∷ more) =
+    option_and_then (λ first. option_map (λ rest. first ∷ rest) (all_values more)) x
 
 -- the greatest entry that there can be, 2^32 - 1
 abbrev pub max_entry : ℕ

@@ -1,15 +1,22 @@
 -- What the reader knows of the lines that it has read, and how a line changes it.
-use Rattle.std.specs.Prelude.{◌≡◌, ℕ, Bool, true, false, not, ◌||◌, List, [], ◌++◌, Option, None}
-use Rattle.std.specs.Prelude.{Some, is_some}
-use Rattle.std.specs.Bool.{OnTrue}
-use Rattle.std.specs.Option.{option_map}
+use Rattle.std.specs.Prelude.{◌≡◌, ℕ, Bool, true, false, not, List, [], ◌++◌, nat_le, Option, None}
+use Rattle.std.specs.Prelude.{Some, is_some, Result, if◌then◌else◌}
+use Rattle.std.specs.Option.{option_map, option_or}
+use Rattle.http_header.specs.FieldValue.{FieldValue}
+use Rattle.http_header.specs.HeaderMap.{append_all, value_count}
+use Rattle.web_texts.specs.declared.memory.Fail.{Fail}
 use Rattle.web_texts.specs.declared.text.Pair.{Pair}
 use Rattle.web_request.specs.declared.source.Mark.{Mark}
+use Rattle.web_script.specs.Acceptance.{Accepts}
 use Rattle.web_script.specs.ExchangeSinks.{open_exchanges}
 use Rattle.web_script.specs.Line.{Line}
 use Rattle.web_script.specs.ScriptedView.{ScriptedExchangeView}
-use Rattle.web_script.specs.InvalidLines.{is_invalid_argument}
-use Rattle.web_script.specs.ScriptExchanges.{line_marks, line_params, exchange_of, line_entries}
+use Rattle.web_script.specs.LineFaults.{argument_fault, max_headers}
+use Rattle.web_script.specs.ScriptExchanges.{line_headers, line_layers, line_marks, line_params}
+use Rattle.web_script.specs.ScriptExchanges.{exchange_of, line_entries}
+use Rattle.web_script.specs.declared.layer.LayerSettings.{LayerSettings}
+use Rattle.web_script.specs.declared.reason.Reason.{Reason}
+use Rattle.web_script.specs.declared.reason.Reason.TheVariants as reason
 use Rattle.web_script.specs.declared.line.Word.{Word}
 use Rattle.web_script.specs.declared.line.Word.TheVariants as word
 
@@ -24,30 +31,70 @@ pub record ReaderView : Type 0 where
 abbrev pub new_reader : ReaderView
 new_reader = record { open_exchange = None; has_fault = false; has_plan = false; plan = [] }
 
--- no line of this word may stand here
-abbrev pub is_out_of_place : ReaderView → Word → Bool
-is_out_of_place s word.Skipped = false
-is_out_of_place s word.Plan = false
-is_out_of_place s word.Unknown = true
-is_out_of_place s word.Exchange = s.has_plan
-is_out_of_place s word.Param = s.has_plan || not (is_some s.open_exchange)
-is_out_of_place s w = s.has_plan || not (is_some s.open_exchange) || s.has_fault
+-- how many `header` lines the open exchange has
+abbrev pub header_count : Option ScriptedExchangeView → ℕ
+header_count None = 0
+header_count (Some e) = value_count e.headers
 
-abbrev pub refuses : ReaderView → Line → Bool
-refuses s line = is_out_of_place s line.word || is_invalid_argument line.word line.argument
+-- Why no line of this word may stand here: whether a plan came, whether an exchange is begun, and
+-- whether it has a fault and as many headers as it may have.
+abbrev pub word_fault : Bool → Bool → Bool → Bool → Word → Option Reason
+word_fault planned begun failed full word.Skipped = None
+word_fault planned begun failed full word.Unknown = Some reason.UnknownLine
+word_fault planned begun failed full word.Unbuilt = Some reason.NotBuilt
+word_fault planned begun failed full word.Plan = None
+word_fault planned begun failed full word.Exchange =
+    if planned then Some reason.LineAfterPlan else None
+word_fault planned begun failed full word.Header =
+    if planned then Some reason.LineAfterPlan
+    else if not begun then Some reason.NoExchange
+    else if full then Some reason.TooManyHeaders
+    else None
+word_fault planned begun failed full word.Param =
+    if planned then Some reason.LineAfterPlan
+    else if not begun then Some reason.NoExchange
+    else None
+word_fault planned begun failed full word.Layer =
+    if planned then Some reason.LineAfterPlan
+    else if not begun then Some reason.NoExchange
+    else None
+word_fault planned begun failed full _ =
+    if planned then Some reason.LineAfterPlan
+    else if not begun then Some reason.NoExchange
+    else if failed then Some reason.MarkAfterFault
+    else None
 
--- an exchange with no parameter and no mark yet
+abbrev pub reader_fault : ReaderView → Word → Option Reason
+reader_fault s w =
+    word_fault s.has_plan (is_some s.open_exchange) s.has_fault
+    (nat_le max_headers (header_count s.open_exchange)) w
+
+-- why the reader refuses a line
+abbrev pub refusal : ReaderView → Line → Option Reason
+refusal s line = option_or (reader_fault s line.word) (argument_fault line.word line.argument)
+
+-- an exchange of which no further line was read
 abbrev pub new_exchange : List ℕ → ScriptedExchangeView
 new_exchange text = exchange_of text []
 
+abbrev pub with_headers : List (List ℕ × FieldValue) → ScriptedExchangeView → ScriptedExchangeView
+with_headers more e = record e { headers = append_all e.headers more }
+
 abbrev pub with_params : List Pair → ScriptedExchangeView → ScriptedExchangeView
 with_params more e = record e { params = e.params ++ more }
+
+abbrev pub with_layers : List LayerSettings → ScriptedExchangeView → ScriptedExchangeView
+with_layers more e = record e { layers = e.layers ++ more }
 
 abbrev pub with_marks : List Mark → ScriptedExchangeView → ScriptedExchangeView
 with_marks more e = record e { marks = e.marks ++ more }
 
 -- the open exchange after a line of this word, which is not `exchange`
 abbrev pub open_after : ReaderView → Word → List ℕ → Option ScriptedExchangeView
+open_after s word.Header text =
+    option_map (with_headers (line_headers word.Header text)) s.open_exchange
+open_after s word.Layer text =
+    option_map (with_layers (line_layers word.Layer text)) s.open_exchange
 open_after s word.Param text =
     option_map (with_params (line_params word.Param text)) s.open_exchange
 open_after s word.Text text = option_map (with_marks (line_marks word.Text text)) s.open_exchange
@@ -60,6 +107,8 @@ open_after s _ text = s.open_exchange
 abbrev pub after_line : ReaderView → Word → List ℕ → ReaderView
 after_line s word.Exchange text =
     record s { open_exchange = Some (new_exchange text); has_fault = false }
+after_line s word.Header text = record s { open_exchange = open_after s word.Header text }
+after_line s word.Layer text = record s { open_exchange = open_after s word.Layer text }
 after_line s word.Param text = record s { open_exchange = open_after s word.Param text }
 after_line s word.Text text = record s { open_exchange = open_after s word.Text text }
 after_line s word.Piece text = record s { open_exchange = open_after s word.Piece text }
@@ -69,6 +118,7 @@ after_line s word.Fault text =
 after_line s word.Plan text =
     record s { has_plan = true; plan = s.plan ++ line_entries word.Plan text }
 after_line s word.Skipped text = s
+after_line s word.Unbuilt text = s
 after_line s word.Unknown text = s
 
 -- the exchange that a line of this word completes, which goes to the sink
@@ -76,7 +126,7 @@ abbrev pub completed_by : ReaderView → Word → List ScriptedExchangeView
 completed_by s word.Exchange = open_exchanges s.open_exchange
 completed_by s _ = []
 
--- The line is valid and changes the reader, or it is invalid.
-abbrev pub Reads : ReaderView → ReaderView → Line → Bool → Type 0
-Reads old new line valid =
-    (valid ≡ not (refuses old line)) × OnTrue valid (new ≡ after_line old line.word line.argument)
+-- The line is valid and changes the reader, or it is refused.
+abbrev pub Reads : ReaderView → ReaderView → Line → Result Unit (Fail Reason) → Type 0
+Reads old new line result =
+    Accepts result (refusal old line) (λ _. new ≡ after_line old line.word line.argument)

@@ -3,6 +3,8 @@ use Rattle.std.specs.Prelude.{ℕ, List, [], ◌∷◌, if◌then◌else◌, unw
 use Rattle.std.specs.List.{flat_map, before_first}
 use Rattle.std.specs.Result.{result_unwrap_or}
 use Rattle.hex.specs.Hex.{decode_of}
+use Rattle.http_header.specs.FieldValue.{FieldValue}
+use Rattle.http_header.specs.HeaderMap.{append_all}
 use Rattle.web_request.specs.declared.source.Mark.{Mark}
 use Rattle.web_request.specs.declared.source.Mark.TheVariants as mark
 use Rattle.web_request.specs.Body.{whole}
@@ -10,8 +12,10 @@ use Rattle.web_texts.specs.declared.text.Pair.{Pair}
 use Rattle.web_script.specs.Line.{Line}
 use Rattle.web_script.specs.ScriptedView.{ScriptedExchangeView}
 use Rattle.web_script.specs.LineKinds.{has}
-use Rattle.web_script.specs.LineArguments.{before_space, request_target, param_of}
+use Rattle.web_script.specs.LayerLines.{layer_of}
+use Rattle.web_script.specs.LineArguments.{before_space, request_target, header_of, param_of}
 use Rattle.web_script.specs.PlanEntries.{entries_of}
+use Rattle.web_script.specs.declared.layer.LayerSettings.{LayerSettings}
 use Rattle.web_script.specs.declared.line.Word.{Word}
 use Rattle.web_script.specs.declared.line.Word.TheVariants as word
 
@@ -23,6 +27,16 @@ line_marks word.Stall text = mark.Stall ∷ []
 line_marks word.Fault text = mark.Fault ∷ []
 line_marks _ text = []
 
+-- the header of a line of this word, where it is one
+abbrev pub line_headers : Word → List ℕ → List (List ℕ × FieldValue)
+line_headers word.Header text = header_of text ∷ []
+line_headers _ text = []
+
+-- the layer of a line of this word, where it is one
+abbrev pub line_layers : Word → List ℕ → List LayerSettings
+line_layers word.Layer text = layer_of text ∷ []
+line_layers _ text = []
+
 -- the parameter of a line of this word, where it is one
 abbrev pub line_params : Word → List ℕ → List Pair
 line_params word.Param text = param_of text ∷ []
@@ -33,7 +47,9 @@ abbrev pub exchange_of : List ℕ → List Line → ScriptedExchangeView
 exchange_of head lines = record {
   method = before_space head;
   target = request_target head;
+  headers = append_all [] (flat_map (λ line. line_headers line.word line.argument) lines);
   params = flat_map (λ line. line_params line.word line.argument) lines;
+  layers = flat_map (λ line. line_layers line.word line.argument) lines;
   marks = flat_map (λ line. line_marks line.word line.argument) lines;
 }
 

@@ -1,11 +1,17 @@
 -- One exchange that a script asks for.
 use Rattle.std.specs.Prelude.{ℕ, List}
+use Rattle.http_header.specs.FieldValue.{FieldValue}
+use Rattle.http_header.specs.HeaderMap.{Entries}
 use Rattle.web_texts.specs.declared.text.Pair.{Pair}
 use Rattle.web_request.specs.declared.source.Mark.{Mark}
 use Rattle.web_script.specs.Targets.{Target}
+use Rattle.web_script.specs.declared.layer.LayerSettings.{LayerSettings}
 
 pub record ScriptedExchangeView : Type 0 where
   pub method : List ℕ
   pub target : Target
+  pub headers : Entries FieldValue
   pub params : List Pair
+  -- one for each `layer` line, the outermost first
+  pub layers : List LayerSettings
   pub marks : List Mark

@@ -1,20 +1,26 @@
 //! An exchange of a script, and what an `exchange` line asks for.
-ghost use Rattle.std.specs.Prelude.{◌≡◌, Some, None, true, false, IfOk, MatchOption};
-ghost use Rattle.web_script.specs.LineArguments.{has_space, is_built, is_method, is_request};
-ghost use Rattle.web_script.specs.LineArguments.{is_unbuilt};
-ghost use Rattle.web_script.specs.Targets.{parts_of, target_of};
+ghost use Rattle.std.specs.Prelude.{◌≡◌, Some, is_some};
+ghost use Rattle.web_script.specs.Acceptance.{Accepts};
+ghost use Rattle.web_script.specs.LineArguments.{has_space, is_built, is_method, is_unbuilt};
+ghost use Rattle.web_script.specs.LineArguments.{request_fault, target_fault};
+ghost use Rattle.web_script.specs.LineFaults.{unless};
 ghost use Rattle.web_script.specs.Reader.{new_exchange};
+ghost use Rattle.web_script.specs.Targets.{parts_of, target_of};
+ghost use Rattle.web_script.specs.declared.reason.Reason.TheVariants.{BadExchange};
 
+use crate::layer::LayerSettings;
 use crate::part::part_of;
+use crate::reason::Reason;
 use crate::segment::first_segment;
 use bytes::Bytes;
 use http::Method;
 use http::method::MethodError;
+use http_header::{HeaderMap, HeaderName, HeaderValue};
 use http_uri::{Uri, UriError};
 use std::alloc::Global;
 use std::marker::Model;
 use web_request::Mark;
-use web_texts::{NoMemory, Pair, bytes_equal, split_once_at};
+use web_texts::{Fail, NoMemory, Pair, bytes_equal, split_once_at};
 
 /// An exchange that a script asks for.
 #[derive(Drop)]
@@ -23,8 +29,12 @@ pub struct ScriptedExchange {
     pub method: Method,
     /// The target (RFC 9112, section 3.2), as `http_uri` reads it.
     pub uri: Uri,
+    /// The header fields, in the order of their lines. There are at most 1,024.
+    pub headers: HeaderMap<HeaderValue>,
     /// The parameters, as a router would find them, in the order of their lines.
     pub params: Vec<Pair>,
+    /// What the `layer` lines set, in the order of their lines: the outermost layer first.
+    pub layers: Vec<LayerSettings>,
     /// The marks of the body. In those of a script no piece is empty, and a fault is the last mark.
     pub marks: Vec<Mark>,
 }
@@ -38,7 +48,9 @@ impl Model for ScriptedExchange {
     ghost view = { λ e. record {
       method = e.method;
       target = parts_of e.uri;
+      headers = e.headers;
       params = e.params.items;
+      layers = e.layers.items;
       marks = e.marks.items;
     } };
 }
@@ -47,8 +59,7 @@ impl Model for ScriptedExchange {
 fn is_unbuilt(segment: &[u8]) -> bool
     ensures { result ≡ is_unbuilt segment.now }
 {
-    bytes_equal(segment, b"text")
-        || bytes_equal(segment, b"json")
+    bytes_equal(segment, b"json")
         || bytes_equal(segment, b"form")
         || bytes_equal(segment, b"option")
         || bytes_equal(segment, b"result")
@@ -76,71 +87,81 @@ fn has_space(text: &[u8]) -> bool
 }
 
 /// The method that is written so, if the text is a token.
-fn read_method(alloc: Global, text: &[u8]) -> Result<Option<Method>, NoMemory>
-    ensures { IfOk result (λ read. MatchOption read (is_method text.now ≡ false)
-        (λ method. (is_method text.now ≡ true) × (method ≡ text.now))) }
+fn read_method(alloc: Global, text: &[u8]) -> Result<Method, Fail<Reason>>
+    ensures { Accepts result (unless (is_method text.now) BadExchange)
+        (λ method. method ≡ text.now) }
 {
     match Method::from_bytes(alloc, text) {
-        Ok(method) => Ok(Some(method)),
-        Err(MethodError::Invalid) => Ok(None),
-        Err(MethodError::OutOfMemory) => Err(NoMemory),
+        Ok(method) => Ok(method),
+        Err(MethodError::Invalid) => Err(Fail::Of(Reason::BadExchange)),
+        Err(MethodError::OutOfMemory) => Err(Fail::NoMemory),
     }
 }
 
 /// The target that is written so, if the text has the form of one. It is not copied.
-fn read_target(text: Bytes) -> Result<Option<Uri>, NoMemory>
-    ensures { IfOk result (λ read. MatchOption read (target_of text ≡ None)
-        (λ uri. target_of text ≡ Some (parts_of uri))) }
+fn read_target(text: Bytes) -> Result<Uri, Fail<Reason>>
+    ensures { Accepts result (unless (is_some (target_of text)) BadExchange)
+        (λ uri. target_of text ≡ Some (parts_of uri)) }
 {
     match Uri::from_shared(text) {
-        Ok(uri) => Ok(Some(uri)),
-        Err(UriError::Invalid(_)) => Ok(None),
-        Err(UriError::OutOfMemory) => Err(NoMemory),
+        Ok(uri) => Ok(uri),
+        Err(UriError::Invalid(_)) => Err(Fail::Of(Reason::BadExchange)),
+        Err(UriError::OutOfMemory) => Err(Fail::NoMemory),
     }
 }
 
-/// The exchange that the argument of an `exchange` line asks for, without a body: a method, one
-/// space and a target. The target is a part of the argument, which is not copied.
-pub fn read_request(alloc: Global, text: &Bytes) -> Result<Option<ScriptedExchange>, NoMemory>
-    ensures { IfOk result (λ read. MatchOption read (is_request text.now ≡ false)
-        (λ exchange. (is_request text.now ≡ true) × (exchange ≡ new_exchange text.now))) }
+/// The target that is written so, if paths with its first segment are built.
+fn read_built_target(text: Bytes) -> Result<Uri, Fail<Reason>>
+    ensures { Accepts result (target_fault (target_of text))
+        (λ uri. target_of text ≡ Some (parts_of uri)) }
+{
+    let uri = read_target(text)?;
+    if !is_built(&uri) {
+        return Err(Fail::Of(Reason::NotBuilt));
+    }
+    Ok(uri)
+}
+
+/// The exchange that the argument of an `exchange` line asks for, of which no further line was
+/// read: a method, one space and a target. The target is a part of the argument, which is not
+/// copied.
+pub fn read_request(alloc: Global, text: &Bytes) -> Result<ScriptedExchange, Fail<Reason>>
+    ensures { Accepts result (request_fault text.now)
+        (λ exchange. exchange ≡ new_exchange text.now) }
 {
     let Some((method, target)) = split_once_at(text.as_slice(), b' ') else {
-        return Ok(None);
+        return Err(Fail::Of(Reason::BadExchange));
     };
     if has_space(target) {
-        return Ok(None);
+        return Err(Fail::Of(Reason::BadExchange));
     }
-    let Some(method) = read_method(alloc, method)? else {
-        return Ok(None);
-    };
-    let Some(uri) = read_target(part_of(text, text.as_slice(), target)?)? else {
-        return Ok(None);
-    };
-    if !is_built(&uri) {
-        return Ok(None);
-    }
-    Ok(Some(ScriptedExchange::new(alloc, method, uri)))
+    let method = read_method(alloc, method)?;
+    let uri = read_built_target(part_of(text, text.as_slice(), target)?)?;
+    Ok(ScriptedExchange::new(alloc, method, uri))
 }
 
 impl ScriptedExchange {
     ghost use Rattle.std.specs.Prelude.{◌≡◌, ◌∷◌, [], OnOk};
-    ghost use Rattle.web_script.specs.Reader.{with_marks, with_params};
+    ghost use Rattle.web_script.specs.Reader.{with_headers, with_layers, with_marks, with_params};
     ghost use Rattle.web_script.specs.Targets.{parts_of};
 
-    /// An exchange without parameters and body.
+    /// An exchange without headers, parameters, layers and body.
     pub fn new(alloc: Global, method: Method, uri: Uri) -> Self
         ensures { result ≡ record {
           method = method;
           target = parts_of uri;
+          headers = [];
           params = [];
+          layers = [];
           marks = [];
         } }
     {
         ScriptedExchange {
             method,
             uri,
+            headers: HeaderMap::empty(alloc),
             params: Vec::new(alloc),
+            layers: Vec::new(alloc),
             marks: Vec::new(alloc),
         }
     }
@@ -150,6 +171,26 @@ impl ScriptedExchange {
         ensures { OnOk result (self.new ≡ with_marks (mark ∷ []) self.old) }
     {
         self.marks.push(mark)?;
+        Ok(())
+    }
+
+    /// Adds a header after the others of its name.
+    pub fn add_header(&mut self, header: (HeaderName, HeaderValue)) -> Result<(), NoMemory>
+        ensures { OnOk result (self.new ≡ with_headers (header ∷ []) self.old) }
+    {
+        let (name, value) = header;
+        // So few headers never reach the greatest size of a map.
+        match self.headers.append(name, value) {
+            Ok(_) => Ok(()),
+            Err(_) => Err(NoMemory),
+        }
+    }
+
+    /// Adds a layer after the others.
+    pub fn add_layer(&mut self, layer: LayerSettings) -> Result<(), NoMemory>
+        ensures { OnOk result (self.new ≡ with_layers (layer ∷ []) self.old) }
+    {
+        self.layers.push(layer)?;
         Ok(())
     }
 

@@ -1,12 +1,17 @@
-//! Which scripts are valid, given the lines before each line, and which targets.
-ghost use Rattle.std.specs.Prelude.{◌≡◌, ◌↔◌, ℕ, List, true};
+//! Which line of a script is refused, given the lines before it, and which targets are read.
+ghost use Rattle.std.specs.Prelude.{◌≡◌, ◌↔◌, ℕ, List, None, Some};
 ghost use Rattle.web_script.specs.Line.{Line};
-ghost use Rattle.web_script.specs.Script.{is_valid_script, NoneInvalid};
+ghost use Rattle.web_script.specs.Script.{first_fault, IsFirstFault, NoneFaulty};
 ghost use Rattle.web_script.specs.Targets.{IsReading, target_of};
+ghost use Rattle.web_script.specs.declared.script.InvalidScript.{InvalidScript};
 
-/// A script is valid exactly where none of its lines is invalid, given the lines before it.
-pub fn valid_script_law()
-    ensures { (lines : List Line) → (is_valid_script lines ≡ true) ↔ NoneInvalid lines }
+/// A script has no fault exactly where none of its lines is faulty, given the lines before it. Else
+/// its fault is that of the first faulty line.
+pub fn first_fault_law()
+    ensures valid { (lines : List Line) → (first_fault lines ≡ None) ↔ NoneFaulty lines }
+    ensures first { (lines : List Line) (fault : InvalidScript) → first_fault lines ≡ Some fault
+        → (before : List Line) × (faulty : Line) × (after : List Line)
+        × IsFirstFault lines fault before faulty after }
 {}
 
 /// A target is read as `http_uri` reads it: its parts where the text has one of the forms of RFC

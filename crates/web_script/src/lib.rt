@@ -3,17 +3,22 @@
 
 mod entries;
 mod exchange;
+mod header;
 mod law;
+mod layer;
 mod line;
 mod param;
 mod part;
 mod reader;
+mod reason;
 mod script;
 mod segment;
 mod sink;
 
 pub use exchange::ScriptedExchange;
-pub use law::{target_law, valid_script_law};
+pub use law::{first_fault_law, target_law};
+pub use layer::LayerSettings;
+pub use reason::Reason;
 pub use script::{InvalidScript, Script, read_script, read_script_into};
 pub use segment::first_segment;
 pub use sink::ExchangeSink;

@@ -1,7 +1,7 @@
 //! A line's word, and where its argument begins.
 ghost use Rattle.std.specs.Prelude.{◌≡◌, ◌≤◌, ◌-◌, length, take, drop};
 ghost use Rattle.std.specs.Str.Lines.{strip_carriage_return};
-ghost use Rattle.web_script.specs.Line.{line_of, word_of};
+ghost use Rattle.web_script.specs.Line.{is_unbuilt, line_of, word_of};
 
 use web_texts::{bytes_equal, split_once_at};
 
@@ -11,13 +11,23 @@ pub enum Word {
     Text,
     Plan,
     Exchange,
+    Header,
     Param,
+    Layer,
     Piece,
     Stall,
     Fault,
     /// An empty line or a comment.
     Skipped,
+    /// A word that is not built yet.
+    Unbuilt,
     Unknown,
+}
+
+fn is_unbuilt(name: &[u8]) -> bool
+    ensures { result ≡ is_unbuilt name.now }
+{
+    bytes_equal(name, b"peer") || bytes_equal(name, b"local") || bytes_equal(name, b"conn")
 }
 
 fn word_named(name: &[u8]) -> Word
@@ -29,14 +39,20 @@ fn word_named(name: &[u8]) -> Word
         Word::Plan
     } else if bytes_equal(name, b"exchange") {
         Word::Exchange
+    } else if bytes_equal(name, b"header") {
+        Word::Header
     } else if bytes_equal(name, b"param") {
         Word::Param
+    } else if bytes_equal(name, b"layer") {
+        Word::Layer
     } else if bytes_equal(name, b"piece") {
         Word::Piece
     } else if bytes_equal(name, b"stall") {
         Word::Stall
     } else if bytes_equal(name, b"fault") {
         Word::Fault
+    } else if is_unbuilt(name) {
+        Word::Unbuilt
     } else {
         Word::Unknown
     }

@@ -1,40 +1,39 @@
 //! The parameter of a `param` line.
-ghost use Rattle.std.specs.Prelude.{◌≡◌, true, false, IfOk, MatchOption};
+ghost use Rattle.std.specs.Prelude.{◌≡◌};
 ghost use Rattle.std.specs.Str.{is_utf8};
+ghost use Rattle.web_script.specs.Acceptance.{Accepts};
 ghost use Rattle.web_script.specs.LineArguments.{is_param, param_of};
+ghost use Rattle.web_script.specs.LineFaults.{unless};
+ghost use Rattle.web_script.specs.declared.reason.Reason.TheVariants.{BadParam};
 
+use crate::reason::Reason;
 use std::alloc::Global;
 use std::str;
-use web_texts::{NoMemory, Pair, Text, split_once_at};
+use web_texts::{Fail, Pair, Text, split_once_at};
 
 /// A copy of the bytes as a text, if they are UTF-8.
-fn read_text(alloc: Global, bytes: &[u8]) -> Result<Option<Text>, NoMemory>
-    ensures { IfOk result (λ read. MatchOption read (is_utf8 bytes.now ≡ false)
-        (λ text. (is_utf8 bytes.now ≡ true) × (text ≡ bytes.now))) }
+fn read_text(alloc: Global, bytes: &[u8]) -> Result<Text, Fail<Reason>>
+    ensures { Accepts result (unless (is_utf8 bytes.now) BadParam) (λ text. text ≡ bytes.now) }
 {
     match str::from_utf8(bytes) {
-        Ok(text) => Ok(Some(Text::of(alloc, text)?)),
-        Err(_) => Ok(None),
+        Ok(text) => Ok(Text::of(alloc, text)?),
+        Err(_) => Err(Fail::Of(Reason::BadParam)),
     }
 }
 
-/// The parameter of a `param` line, if its argument is a name, one space and a value, both UTF-8.
+/// The parameter of a `param` line, whose argument is a name, one space and a value, both UTF-8.
 /// Both are copied.
-pub fn read_param(alloc: Global, text: &[u8]) -> Result<Option<Pair>, NoMemory>
-    ensures { IfOk result (λ read. MatchOption read (is_param text.now ≡ false)
-        (λ param. (is_param text.now ≡ true) × (param ≡ param_of text.now))) }
+pub fn read_param(alloc: Global, text: &[u8]) -> Result<Pair, Fail<Reason>>
+    ensures { Accepts result (unless (is_param text.now) BadParam)
+        (λ param. param ≡ param_of text.now) }
 {
     let Some((name, value)) = split_once_at(text, b' ') else {
-        return Ok(None);
+        return Err(Fail::Of(Reason::BadParam));
     };
     if name.is_empty() {
-        return Ok(None);
+        return Err(Fail::Of(Reason::BadParam));
     }
-    let Some(name) = read_text(alloc, name)? else {
-        return Ok(None);
-    };
-    let Some(value) = read_text(alloc, value)? else {
-        return Ok(None);
-    };
-    Ok(Some(Pair { name, value }))
+    let name = read_text(alloc, name)?;
+    let value = read_text(alloc, value)?;
+    Ok(Pair { name, value })
 }

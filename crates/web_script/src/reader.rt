@@ -1,25 +1,32 @@
 //! Reads a script line by line, with the exchange that the lines belong to.
-ghost use Rattle.std.specs.Prelude.{◌≡◌, ◌≢◌, ◌≤◌, ◌<◌, ◌^◌, ◌∷◌, [], Some, true, false, not};
-ghost use Rattle.std.specs.Prelude.{length, take, OnOk, IfOk};
-ghost use Rattle.std.specs.Bool.{OnTrue};
+ghost use Rattle.std.specs.Prelude.{◌≡◌, ◌≢◌, ◌≤◌, ◌<◌, ◌^◌, ◌∷◌, [], Some, None, true, false};
+ghost use Rattle.std.specs.Prelude.{nat_le, length, take, OnOk, IfOk};
 ghost use Rattle.std.specs.Option.{ForSome, option_map};
 ghost use Rattle.std.specs.Result.{is_ok, result_unwrap_or};
 ghost use Rattle.std.specs.Str.Lines.{strip_carriage_return};
 ghost use Rattle.hex.specs.Hex.{decode_of};
-ghost use Rattle.web_script.specs.declared.line.Word.TheVariants.{Exchange, Text};
+ghost use Rattle.web_script.specs.declared.line.Word.TheVariants.{Exchange, Header, Text};
+ghost use Rattle.web_script.specs.declared.reason.Reason.TheVariants.{BadHeader, BadParam};
+ghost use Rattle.web_script.specs.declared.reason.Reason.TheVariants.{BadPiece};
 
 use crate::entries::read_entries;
 use crate::exchange::{ScriptedExchange, read_request};
+use crate::header::read_header;
+use crate::layer::read_layer;
 use crate::line::{Word, split_line, without_return};
 use crate::param::read_param;
 use crate::part::part_of;
+use crate::reason::Reason;
 use crate::sink::{ExchangeSink, add_open};
 use bytes::Bytes;
 use hex::FromHexError;
 use std::alloc::Global;
 use std::marker::Model;
 use web_request::Mark;
-use web_texts::NoMemory;
+use web_texts::{Fail, NoMemory};
+
+/// The most `header` lines of one exchange.
+const MAX_HEADERS: usize = 1024;
 
 /// What is known of the lines that were read.
 #[derive(Drop)]
@@ -45,13 +52,16 @@ impl Model for Reader {
 }
 
 impl Reader {
-    ghost use Rattle.web_script.specs.Reader.{new_reader, is_out_of_place, after_line};
-    ghost use Rattle.web_script.specs.Reader.{completed_by, with_marks, with_params, new_exchange};
-    ghost use Rattle.web_script.specs.Reader.{Reads};
+    ghost use Rattle.web_script.specs.Acceptance.{Accepts};
+    ghost use Rattle.web_script.specs.Reader.{new_reader, header_count, reader_fault, Reads};
+    ghost use Rattle.web_script.specs.Reader.{completed_by, with_headers, with_layers, with_marks};
+    ghost use Rattle.web_script.specs.Reader.{with_params, new_exchange, after_line};
     ghost use Rattle.web_script.specs.ExchangeSinks.{Adds, open_exchanges};
-    ghost use Rattle.web_script.specs.InvalidLines.{is_invalid_argument};
+    ghost use Rattle.web_script.specs.LayerLines.{layer_fault, layer_of};
+    ghost use Rattle.web_script.specs.LineFaults.{argument_fault, max_headers, unless};
     ghost use Rattle.web_script.specs.Line.{line_of};
-    ghost use Rattle.web_script.specs.LineArguments.{is_request, is_param, param_of};
+    ghost use Rattle.web_script.specs.LineArguments.{header_of, is_header, is_param, param_of};
+    ghost use Rattle.web_script.specs.LineArguments.{request_fault};
     ghost use Rattle.web_request.specs.Body.{is_body, piece_bytes, whole};
 
     pub fn new(alloc: Global) -> Self
@@ -65,18 +75,32 @@ impl Reader {
         }
     }
 
-    /// Whether no line of this word may stand here.
-    fn is_out_of_place(&self, word: Word) -> bool
-        ensures { result ≡ is_out_of_place self.now word }
+    /// Whether the open exchange has as many headers as it may have.
+    fn is_full(&self) -> bool
+        ensures { result ≡ nat_le max_headers (header_count self.now.open_exchange) }
+    {
+        match &self.open_exchange {
+            Some(exchange) => MAX_HEADERS <= exchange.headers.len(),
+            None => false,
+        }
+    }
+
+    /// Why no line of this word may stand here.
+    fn fault_of(&self, word: Word) -> Option<Reason>
+        ensures { result ≡ reader_fault self.now word }
     {
         match word {
-            Word::Skipped | Word::Plan => false,
-            Word::Unknown => true,
-            Word::Exchange => self.has_plan,
-            Word::Param => self.has_plan || self.open_exchange.is_none(),
-            Word::Text | Word::Piece | Word::Stall | Word::Fault => {
-                self.has_plan || self.open_exchange.is_none() || self.has_fault
+            Word::Skipped | Word::Plan => None,
+            Word::Unknown => Some(Reason::UnknownLine),
+            Word::Unbuilt => Some(Reason::NotBuilt),
+            _ if self.has_plan => Some(Reason::LineAfterPlan),
+            Word::Exchange => None,
+            _ if self.open_exchange.is_none() => Some(Reason::NoExchange),
+            Word::Text | Word::Piece | Word::Stall | Word::Fault if self.has_fault => {
+                Some(Reason::MarkAfterFault)
             }
+            Word::Header if self.is_full() => Some(Reason::TooManyHeaders),
+            _ => None,
         }
     }
 
@@ -102,40 +126,64 @@ impl Reader {
         Ok(())
     }
 
-    /// Adds the piece of these digits, and returns whether they are hexadecimal and even in number.
-    fn add_digits(&mut self, alloc: Global, digits: &[u8]) -> Result<bool, NoMemory>
-        ensures { IfOk result (λ valid. (valid ≡ is_ok (decode_of digits.now))
-            × OnTrue valid (self.new ≡ record self.old {
+    /// Adds the piece of these digits.
+    fn add_digits(&mut self, alloc: Global, digits: &[u8]) -> Result<(), Fail<Reason>>
+        ensures { Accepts result (unless (is_ok (decode_of digits.now)) BadPiece)
+            (λ _. self.new ≡ record self.old {
               open_exchange = option_map
                   (with_marks (whole (result_unwrap_or (decode_of digits.now) [])))
                   self.old.open_exchange;
-            })) }
+            }) }
     {
         match hex::decode(alloc, digits) {
-            Ok(piece) => {
-                self.add_piece(Bytes::from_vec(piece)?)?;
-                Ok(true)
-            }
-            Err(FromHexError::OutOfMemory) => Err(NoMemory),
-            Err(_) => Ok(false),
+            Ok(piece) => Ok(self.add_piece(Bytes::from_vec(piece)?)?),
+            Err(FromHexError::OutOfMemory) => Err(Fail::NoMemory),
+            Err(_) => Err(Fail::Of(Reason::BadPiece)),
         }
     }
 
-    fn add_param(&mut self, alloc: Global, text: &[u8]) -> Result<bool, NoMemory>
-        ensures { IfOk result (λ valid. (valid ≡ is_param text.now)
-            × OnTrue valid (self.new ≡ record self.old {
+    fn add_header(&mut self, alloc: Global, text: &Bytes) -> Result<(), Fail<Reason>>
+        ensures { Accepts result (unless (is_header text.now) BadHeader)
+            (λ _. self.new ≡ record self.old {
+              open_exchange = option_map
+                  (with_headers (header_of text.now ∷ []))
+                  self.old.open_exchange;
+            }) }
+    {
+        let header = read_header(alloc, text)?;
+        if let Some(exchange) = &mut self.open_exchange {
+            exchange.add_header(header)?;
+        }
+        Ok(())
+    }
+
+    fn add_layer(&mut self, alloc: Global, text: &[u8]) -> Result<(), Fail<Reason>>
+        ensures { Accepts result (layer_fault text.now) (λ _. self.new ≡ record self.old {
+          open_exchange = option_map
+              (with_layers (layer_of text.now ∷ []))
+              self.old.open_exchange;
+        }) }
+    {
+        let layer = read_layer(alloc, text)?;
+        if let Some(exchange) = &mut self.open_exchange {
+            exchange.add_layer(layer)?;
+        }
+        Ok(())
+    }
+
+    fn add_param(&mut self, alloc: Global, text: &[u8]) -> Result<(), Fail<Reason>>
+        ensures { Accepts result (unless (is_param text.now) BadParam)
+            (λ _. self.new ≡ record self.old {
               open_exchange = option_map
                   (with_params (param_of text.now ∷ []))
                   self.old.open_exchange;
-            })) }
+            }) }
     {
-        let Some(param) = read_param(alloc, text)? else {
-            return Ok(false);
-        };
+        let param = read_param(alloc, text)?;
         if let Some(exchange) = &mut self.open_exchange {
             exchange.add_param(param)?;
         }
-        Ok(true)
+        Ok(())
     }
 
     /// Begins the exchange that a head describes, and hands the one before to the sink.
@@ -144,95 +192,85 @@ impl Reader {
         alloc: Global,
         head: &Bytes,
         sink: &mut S,
-    ) -> Result<bool, NoMemory>
+    ) -> Result<(), Fail<Reason>>
         requires body { ForSome self.old.open_exchange (λ e. is_body e.marks ≡ true) }
         requires small { ForSome self.old.open_exchange
             (λ e. length (piece_bytes e.marks) < 2 ^ 63) }
-        ensures reader { IfOk result (λ valid. (valid ≡ is_request head.now)
-            × OnTrue valid (self.new ≡ record self.old {
-              open_exchange = Some (new_exchange head.now);
-              has_fault = false;
-            })) }
-        ensures added { IfOk result (λ valid. OnTrue valid
-            (Adds S.holds sink.old sink.new (open_exchanges self.old.open_exchange))) }
+        ensures reader { Accepts result (request_fault head.now) (λ _. self.new ≡ record self.old {
+          open_exchange = Some (new_exchange head.now);
+          has_fault = false;
+        }) }
+        ensures added { OnOk result
+            (Adds S.holds sink.old sink.new (open_exchanges self.old.open_exchange)) }
     {
-        let Some(exchange) = read_request(alloc, head)? else {
-            return Ok(false);
-        };
+        let exchange = read_request(alloc, head)?;
         let before = self.open_exchange.replace(exchange);
         self.has_fault = false;
-        add_open(alloc, sink, before)?;
-        Ok(true)
+        Ok(add_open(alloc, sink, before)?)
     }
 
-    /// Reads a line of another word than `text` and `exchange`, and returns whether its argument is
-    /// valid.
-    fn add(&mut self, alloc: Global, word: Word, argument: &[u8]) -> Result<bool, NoMemory>
+    /// Reads a line of another word than `text`, `exchange` and `header`.
+    fn add(&mut self, alloc: Global, word: Word, argument: &[u8]) -> Result<(), Fail<Reason>>
         requires no_text { word ≢ Text }
         requires no_exchange { word ≢ Exchange }
-        ensures { IfOk result (λ valid. (valid ≡ not (is_invalid_argument word argument.now))
-            × OnTrue valid (self.new ≡ after_line self.old word argument.now)) }
+        requires no_header { word ≢ Header }
+        ensures { Accepts result (argument_fault word argument.now)
+            (λ _. self.new ≡ after_line self.old word argument.now) }
     {
         match word {
             Word::Param => return self.add_param(alloc, argument),
+            Word::Layer => return self.add_layer(alloc, argument),
             Word::Piece => return self.add_digits(alloc, argument),
-            Word::Stall => {
-                if !argument.is_empty() {
-                    return Ok(false);
-                }
-                self.add_mark(Mark::Stall)?;
+            Word::Stall | Word::Fault if !argument.is_empty() => {
+                return Err(Fail::Of(Reason::BadMark));
             }
+            Word::Stall => self.add_mark(Mark::Stall)?,
             Word::Fault => {
-                if !argument.is_empty() {
-                    return Ok(false);
-                }
                 self.add_mark(Mark::Fault)?;
                 self.has_fault = true;
             }
             Word::Plan => {
                 if !read_entries(&mut self.plan, argument)? {
-                    return Ok(false);
+                    return Err(Fail::Of(Reason::BadPlan));
                 }
                 self.has_plan = true;
             }
-            Word::Text | Word::Exchange | Word::Skipped | Word::Unknown => {}
+            Word::Text | Word::Exchange | Word::Header => {}
+            Word::Skipped | Word::Unbuilt | Word::Unknown => {}
         }
-        Ok(true)
+        Ok(())
     }
 
-    /// Reads the line of the first `size` bytes, and returns whether it is valid. After an invalid
-    /// line, what the reader and the sink hold is not specified.
+    /// Reads the line of the first `size` bytes. After a faulty line, what the reader and the sink
+    /// hold is not specified.
     pub fn read_line<S: ExchangeSink>(
         &mut self,
         alloc: Global,
         script: &Bytes,
         size: usize,
         sink: &mut S,
-    ) -> Result<bool, NoMemory>
+    ) -> Result<(), Fail<Reason>>
         requires size { size ≤ length script.now }
         requires body { ForSome self.old.open_exchange (λ e. is_body e.marks ≡ true) }
         requires small { ForSome self.old.open_exchange
             (λ e. length (piece_bytes e.marks) < 2 ^ 63) }
-        ensures reader { IfOk result (λ valid.
-            Reads self.old self.new (line_of (strip_carriage_return (take size script.now))) valid
-            ) }
-        ensures added { IfOk result (λ valid. OnTrue valid (Adds S.holds sink.old sink.new
+        ensures reader { Reads self.old self.new
+            (line_of (strip_carriage_return (take size script.now))) result }
+        ensures added { OnOk result (Adds S.holds sink.old sink.new
             (completed_by self.old (line_of (strip_carriage_return (take size script.now))).word)
-            )) }
+            ) }
     {
         let line = without_return(&script.as_slice()[..size]);
         let (word, argument) = split_line(line);
-        if self.is_out_of_place(word) {
-            return Ok(false);
+        if let Some(reason) = self.fault_of(word) {
+            return Err(Fail::Of(reason));
         }
         match word {
             Word::Exchange => {
                 self.begin_exchange(alloc, &part_of(script, line, argument)?, sink)
             }
-            Word::Text => {
-                self.add_piece(part_of(script, line, argument)?)?;
-                Ok(true)
-            }
+            Word::Header => self.add_header(alloc, &part_of(script, line, argument)?),
+            Word::Text => Ok(self.add_piece(part_of(script, line, argument)?)?),
             word => self.add(alloc, word, argument),
         }
     }

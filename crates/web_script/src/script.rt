@@ -1,24 +1,24 @@
 //! A whole script.
-ghost use Rattle.std.specs.Prelude.{◌≡◌, ◌+◌, ◌<◌, ◌≤◌, ◌^◌, ◌∷◌, [], Err, true, false, length};
-ghost use Rattle.std.specs.Prelude.{take, drop, IfOk, OnOk, IfSome, IfNone};
+ghost use Rattle.std.specs.Prelude.{◌≡◌, ◌+◌, ◌<◌, ◌≤◌, ◌^◌, ◌∷◌, [], length, take, drop};
+ghost use Rattle.std.specs.Prelude.{IfOk, OnOk, IfSome, IfNone};
 ghost use Rattle.std.specs.List.{All, AllPass, flat_map, slice_split};
-ghost use Rattle.web_texts.specs.declared.memory.Fail.TheVariants.{Of};
 ghost use Rattle.web_request.specs.Body.{is_body, piece_bytes};
+ghost use Rattle.web_script.specs.Acceptance.{Accepts};
 ghost use Rattle.web_script.specs.ExchangeSinks.{Adds};
 ghost use Rattle.web_script.specs.Reader.{new_reader};
-ghost use Rattle.web_script.specs.Script.{invalid_script, is_newline, is_valid_script};
-ghost use Rattle.web_script.specs.Script.{script_lines, script_view};
+ghost use Rattle.web_script.specs.Script.{first_fault, is_newline, script_lines, script_view};
 ghost use Rattle.web_script.specs.ScriptExchanges.{exchanges, plan as plan_of};
-ghost use Rattle.web_script.specs.ScriptReading.{ReadsLines};
+ghost use Rattle.web_script.specs.ScriptReading.{IsWholeRead, with_line};
 
 use crate::exchange::ScriptedExchange;
 use crate::reader::Reader;
+use crate::reason::Reason;
 use crate::sink::ExchangeSink;
 use bytes::Bytes;
 use memchr::memchr;
 use std::alloc::Global;
 use std::marker::Model;
-use web_texts::{Fail, NoMemory};
+use web_texts::Fail;
 
 /// What a valid script asks for.
 #[derive(Drop)]
@@ -37,9 +37,14 @@ impl Model for Script {
     ghost view = { λ s. record { exchanges = s.exchanges.items; plan = s.plan.items } };
 }
 
-/// A line of the script is invalid, or asks for something that is not built yet.
+/// The first faulty line of a script.
 #[derive(Clone, Copy, Debug, PartialEq, Eq)]
-pub struct InvalidScript;
+pub struct InvalidScript {
+    /// The number of the line, from 1. Empty lines and comments are counted.
+    pub line: u64,
+    /// Why it is faulty: the first test that applies.
+    pub reason: Reason,
+}
 
 /// Where the first line ends, if its newline is there.
 fn line_end(text: &[u8]) -> Option<usize>
@@ -52,50 +57,62 @@ fn line_end(text: &[u8]) -> Option<usize>
     memchr(b'\n', text)
 }
 
-/// Reads all lines, and returns whether they are valid.
+/// What reading the line with this number comes to.
+fn numbered(line: u64, read: Result<(), Fail<Reason>>) -> Result<(), Fail<InvalidScript>>
+    ensures { result ≡ with_line line read }
+{
+    match read {
+        Ok(()) => Ok(()),
+        Err(Fail::NoMemory) => Err(Fail::NoMemory),
+        Err(Fail::Of(reason)) => Err(Fail::Of(InvalidScript { line, reason })),
+    }
+}
+
+/// Reads all lines.
 fn read_lines<S: ExchangeSink>(
     alloc: Global,
     reader: &mut Reader,
     bytes: Bytes,
     sink: &mut S,
-) -> Result<bool, NoMemory>
+) -> Result<(), Fail<InvalidScript>>
     requires new { reader.old ≡ new_reader }
-    ensures read { IfOk result (λ valid.
-        ReadsLines S.holds (script_lines bytes) sink.old sink.new reader.new valid) }
+    ensures read { Accepts result (first_fault (script_lines bytes)) (λ _.
+        IsWholeRead S.holds (script_lines bytes) sink.old sink.new reader.new) }
     ensures small { OnOk result
         (All (λ e. length (piece_bytes e.marks) < 2 ^ 63) (exchanges (script_lines bytes))) }
 {
     let mut rest = bytes;
+    let mut size = rest.len();
+    let mut line = 1;
     'lines: while let Some(end) = line_end(rest.as_slice()) {
-        if !reader.read_line(alloc, &rest, end, sink)? {
-            return Ok(false);
-        }
+        numbered(line, reader.read_line(alloc, &rest, end, sink))?;
         rest.advance(end + 1);
+        size -= end + 1;
+        line += 1;
     }
-    reader.read_line(alloc, &rest, rest.len(), sink)
+    numbered(line, reader.read_line(alloc, &rest, size, sink))
 }
 
 /// Reads a script into a sink, exchange by exchange, and returns its plan: for each poll the number
 /// of the exchange, from 0.
 ///
 /// A line is a word, and after one space its argument. Empty lines and lines that begin with `#`
-/// are skipped. The pieces of `text` lines and the targets are parts of `bytes`, which are not
-/// copied.
+/// are skipped. The pieces of `text` lines, the targets and the values of headers are parts of
+/// `bytes`, which are not copied.
 ///
 /// # Errors
 ///
-/// `InvalidScript` where a line is invalid: its word is unknown or out of place, or its argument is
-/// not of the form for that word. The sink may hold exchanges of the lines before it then.
-/// `Fail::NoMemory` where allocation failed, also in the sink.
+/// `InvalidScript` where a line is faulty, with the number of the first one and its reason: its
+/// word is unknown or out of place, its argument is not of the form for that word, or what it asks
+/// for is not built yet. The sink may hold exchanges of the lines before it then. `Fail::NoMemory`
+/// where allocation failed, also in the sink.
 pub fn read_script_into<S: ExchangeSink>(
     alloc: Global,
     bytes: Bytes,
     sink: &mut S,
 ) -> Result<Vec<u32>, Fail<InvalidScript>>
-    ensures valid { OnOk result (is_valid_script (script_lines bytes) ≡ true) }
-    ensures invalid { result ≡ Err (Of invalid_script)
-        → is_valid_script (script_lines bytes) ≡ false }
-    ensures plan { IfOk result (λ plan. plan.items ≡ plan_of (script_lines bytes)) }
+    ensures read { Accepts result (first_fault (script_lines bytes))
+        (λ plan. plan.items ≡ plan_of (script_lines bytes)) }
     ensures added { OnOk result
         (Adds S.holds sink.old sink.new (exchanges (script_lines bytes))) }
     ensures bodies { OnOk result
@@ -107,9 +124,7 @@ pub fn read_script_into<S: ExchangeSink>(
         ≤ length bytes) }
 {
     let mut reader = Reader::new(alloc);
-    if !read_lines(alloc, &mut reader, bytes, sink)? {
-        return Err(Fail::Of(InvalidScript));
-    }
+    read_lines(alloc, &mut reader, bytes, sink)?;
     Ok(reader.finish(alloc, sink)?)
 }
 
@@ -118,12 +133,10 @@ pub fn read_script_into<S: ExchangeSink>(
 ///
 /// # Errors
 ///
-/// `InvalidScript` where a line is invalid, and `Fail::NoMemory` where allocation failed.
+/// `InvalidScript` where a line is faulty, and `Fail::NoMemory` where allocation failed.
 pub fn read_script(alloc: Global, bytes: Bytes) -> Result<Script, Fail<InvalidScript>>
-    ensures valid { OnOk result (is_valid_script (script_lines bytes) ≡ true) }
-    ensures invalid { result ≡ Err (Of invalid_script)
-        → is_valid_script (script_lines bytes) ≡ false }
-    ensures script { IfOk result (λ script. script ≡ script_view (script_lines bytes)) }
+    ensures read { Accepts result (first_fault (script_lines bytes))
+        (λ script. script ≡ script_view (script_lines bytes)) }
     ensures bodies { IfOk result (λ script. AllPass (λ e. is_body e.marks) script.exchanges) }
     ensures small { IfOk result (λ script.
         All (λ e. length (piece_bytes e.marks) < 2 ^ 63) script.exchanges) }

@@ -1,7 +1,7 @@
 -- Lists that are cut at the last element that passes a test.
 use Rattle.std.proofs.Common.{◌≡◌, ◌+◌, ◌-◌, Bool, true, false, not, ◌||◌, List, [], ◌∷◌, ◌++◌, cond, length, reverse, take, refl, sym, ◌∙◌, arith, append_assoc, length-append}
-use Rattle.std.proofs.Math.Seq.{drop-append-add}
-use Rattle.std.specs.List.{prefix_len, suffix_len, list_any, before_first, after_last}
+use Rattle.std.proofs.Math.Seq.{drop-append-add, take-append_seam}
+use Rattle.std.specs.List.{prefix_len, suffix_len, list_any, before_first, before_last, after_last}
 use Rattle.std.proofs.lemmas.List.{reverse-append, length-reverse}
 use Rattle.std.proofs.lemmas.List.Folds.{list_any-append}
 use Rattle.std.proofs.lemmas.Grind.{common_steps}
@@ -11,7 +11,7 @@ or_false true b e = absurd (cc)
 or_false false b e = (refl, e)
 
 -- where none before passes, the first that passes stands behind them
-stop : {X : Type 0} (p : X → Bool) (xs : List X) (x : X) (ys : List X) → list_any p xs ≡ false → p x ≡ true → prefix_len (λ y. not (p y)) (xs ++ x ∷ ys) ≡ length xs
+pub stop : {X : Type 0} (p : X → Bool) (xs : List X) (x : X) (ys : List X) → list_any p xs ≡ false → p x ≡ true → prefix_len (λ y. not (p y)) (xs ++ x ∷ ys) ≡ length xs
 stop p [] x ys none e = rw e refl
 stop p (z ∷ xs) x ys none e =
     let parts = or_false (p z) (list_any p xs) none in
@@ -52,6 +52,15 @@ before_first_none p [] none = refl
 before_first_none p (x ∷ xs) none =
     let parts = or_false (p x) (list_any p xs) none in
     before_first-cons p x xs ∙ rw (parts.0, before_first_none p xs parts.1) refl
+
+-- what stands before the last one that passes
+pub before_last_at : {X : Type 0} (p : X → Bool) (front : List X) (x : X) (rest : List X) → p x ≡ true → list_any p rest ≡ false → before_last p (front ++ x ∷ rest) ≡ front
+before_last_at p front x rest e none =
+    let back : reverse (front ++ x ∷ rest) ≡ reverse rest ++ x ∷ reverse front =
+    rw (reverse-append front (x ∷ rest), reverse-append (x ∷ []) rest) (append_assoc (reverse rest) (x ∷ []) (reverse front)) in
+    let len : suffix_len (λ y. not (p y)) (front ++ x ∷ rest) ≡ length rest = rw back (stop p (reverse rest) x (reverse front) (list_any-reverse p rest none) e ∙ length-reverse rest) in
+    let before : length (front ++ x ∷ rest) - length rest - 1 ≡ length front = simp length-append (omega arith) in
+    rw (len, before) (take-append_seam front (x ∷ rest))
 
 at_head : {X : Type 0} (p : X → Bool) (x : X) (front : List X) (b : Bool) → p x ≡ b → list_any p front ≡ false → list_any p (cond b [] (x ∷ front)) ≡ false
 at_head p x front true e none = refl

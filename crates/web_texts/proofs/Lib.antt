@@ -3,3 +3,11 @@ pub mod NumberedListLemmas
 pub mod PositionLemmas
 pub mod SplitLemmas
 pub mod DigitsLemmas
+pub mod CutLemmas
+pub mod EscapeLemmas
+pub mod EssenceLemmas
+pub mod ParameterLemmas
+pub mod PieceLemmas
+pub mod TagLemmas
+pub mod DecimalLemmas
+mod MethodLemmas

@@ -1,7 +1,9 @@
 //! Lists that can be compared, ordered and hashed.
 ghost use Rattle.std.specs.Prelude.{◌≡◌, ◌++◌, ◌∷◌, [], IfErr, OnErr, OnOk};
 
-use std::alloc::AllocFailed;
+use crate::duplicate::Duplicate;
+use crate::memory::NoMemory;
+use std::alloc::{AllocFailed, Global};
 use std::cmp::Ordering;
 use std::hash::{Hash, Hasher};
 use std::marker::Model;
@@ -55,6 +57,17 @@ impl<T> Items<T> {
         ensures kept { OnErr result (self.new ≡ self.old) }
     {
         self.items.push(item)
+    }
+}
+
+impl<T: Duplicate> Duplicate for Items<T> {
+    fn duplicate(&self, alloc: Global) -> Result<Self, NoMemory> {
+        let mut items = Vec::with_capacity(alloc, self.items.len())?;
+        for item in self.items.as_slice() {
+            let copy = item.duplicate(alloc)?;
+            items.push(copy)?;
+        }
+        Ok(Items { items })
     }
 }
 

@@ -6,7 +6,7 @@ use crate::tests::requests::{Site, new_request};
 use bytes::Bytes;
 use std::alloc::Global;
 use std::process::Abort;
-use web_body::{Marks, Payload, PayloadError};
+use web_body::{Marks, Payload};
 use web_extract::{EitherFuture, Error, FromRequest, MapInto, Never, Ready, from_request_into};
 use web_request::Mark;
 
@@ -81,7 +81,7 @@ fn refused_place(rt: &impl Abort, alloc: Global) {
 }
 
 /// Pairs of pairs whose places are never refused.
-type NeverRefused = (((), Option<Bytes>), (Result<Bytes, PayloadError>, ()));
+type NeverRefused = (((), Option<Bytes>), (Result<Bytes, Error>, ()));
 
 /// Lists in a list, over a payload.
 fn nested_lists(rt: &impl Abort, alloc: Global) {

@@ -1,12 +1,12 @@
-//! Bodies of requests, and their collection.
+//! Bodies of requests as arguments.
 use crate::tests::compare::{assert_holds, assert_same};
 use crate::tests::requests::{Site, new_request};
 use bytes::Bytes;
 use std::alloc::Global;
 use std::process::Abort;
-use web_body::{HttpMessageBody, Marks, Payload, PayloadError, Poll, Step};
-use web_extract::FromRequest;
-use web_request::{Mark, Source, Turn};
+use web_body::{Marks, Payload, Poll, Step};
+use web_extract::{Error, FromRequest};
+use web_request::Mark;
 
 /// `he`, an empty piece, a stall, `llo`.
 pub(crate) fn hello(rt: &impl Abort, alloc: Global) -> Marks {
@@ -23,78 +23,6 @@ pub(crate) fn hello(rt: &impl Abort, alloc: Global) -> Marks {
 pub(crate) fn failing(rt: &impl Abort, alloc: Global) -> Marks {
     let marks = vec![in alloc; Mark::Piece(Bytes::from_static(b"ab")), Mark::Fault];
     Marks::new(marks.expect(rt, "memory"))
-}
-
-/// What a source is expected to give at one call.
-enum ExpectedTurn {
-    Piece(&'static [u8]),
-    Stall,
-    Fault,
-    End,
-}
-
-/// Compares what one call gave.
-fn assert_turn(rt: &impl Abort, turn: &Turn, expected: &ExpectedTurn) {
-    let agrees = match (turn, expected) {
-        (Turn::Piece(bytes), ExpectedTurn::Piece(expected)) => bytes.as_slice() == *expected,
-        (Turn::Stall, ExpectedTurn::Stall)
-        | (Turn::Fault, ExpectedTurn::Fault)
-        | (Turn::End, ExpectedTurn::End) => true,
-        _ => false,
-    };
-    assert!(rt; agrees);
-}
-
-/// Compares what the next calls of a source give, through the trait alone.
-fn assert_source<S: Source>(rt: &impl Abort, source: &mut S, expected: &[ExpectedTurn]) {
-    for turn in expected {
-        assert_turn(rt, &source.next(), turn);
-    }
-}
-
-/// Compares what the next calls of a payload give.
-fn assert_payload(rt: &impl Abort, payload: &mut Payload<Marks>, expected: &[ExpectedTurn]) {
-    for turn in expected {
-        assert_turn(rt, &payload.poll_next(), turn);
-    }
-}
-
-#[test]
-fn sources_give_mark_by_mark(rt: HostRuntime) {
-    let mut marks = failing(&rt, rt.alloc());
-    assert_source(
-        &rt,
-        &mut marks,
-        &[
-            ExpectedTurn::Piece(b"ab"),
-            ExpectedTurn::Fault,
-            ExpectedTurn::End,
-        ],
-    );
-}
-
-#[test]
-fn payloads_give_mark_by_mark(rt: HostRuntime) {
-    let mut marks = hello(&rt, rt.alloc());
-    assert_source(
-        &rt,
-        &mut marks,
-        &[ExpectedTurn::Piece(b"he"), ExpectedTurn::Stall],
-    );
-    let mut stream = Payload::Stream(marks);
-    let mut rest = stream.take().into_inner();
-    assert_payload(&rt, &mut stream, &[ExpectedTurn::End]);
-    assert_payload(
-        &rt,
-        &mut rest,
-        &[ExpectedTurn::Piece(b"llo"), ExpectedTurn::End],
-    );
-    let mut whole = Payload::Whole(Bytes::from_static(b"ab"));
-    assert_payload(
-        &rt,
-        &mut whole,
-        &[ExpectedTurn::Piece(b"ab"), ExpectedTurn::End],
-    );
 }
 
 /// Polls a future until its value is there. Returns the number of polls that returned `Pending`,
@@ -115,58 +43,6 @@ pub(crate) fn value_of<F: Poll>(
         }
     }
     panic!(rt; "no value");
-}
-
-/// The bytes or the refusal that are expected, after this number of polls that return `Pending`.
-type ExpectedBytes<'a> = (usize, Result<&'a [u8], PayloadError>);
-
-/// Compares collected bytes.
-fn assert_collected(
-    rt: &impl Abort,
-    found: (usize, Result<Bytes, PayloadError>),
-    expected: ExpectedBytes<'_>,
-) {
-    let agrees = match (&found.1, expected.1) {
-        (Ok(bytes), Ok(expected)) => bytes.as_slice() == expected,
-        (Err(error), Err(expected)) => *error == expected,
-        _ => false,
-    };
-    assert_same(rt, (found.0, agrees), (expected.0, true));
-}
-
-/// Collects a payload up to a limit, and compares the result.
-fn assert_collects(
-    rt: &impl Abort,
-    alloc: Global,
-    mut payload: Payload<Marks>,
-    limit: usize,
-    expected: ExpectedBytes<'_>,
-) {
-    let request = new_request(rt, alloc, "/bytes");
-    let body = HttpMessageBody::new(alloc, &request, &mut payload).limit(limit);
-    assert_collected(rt, value_of(rt, alloc, body), expected);
-}
-
-#[test]
-fn a_body_is_collected_up_to_its_limit(rt: HostRuntime) {
-    let alloc = rt.alloc();
-    let overflow = Err(PayloadError::Overflow);
-    for (limit, stalls, expected) in [
-        (5, 1, Ok(b"hello".as_slice())),
-        (4, 1, overflow),
-        (1, 0, overflow),
-    ] {
-        let stream = Payload::Stream(hello(&rt, alloc));
-        assert_collects(&rt, alloc, stream, limit, (stalls, expected));
-    }
-    let whole = b"hello".as_slice();
-    for (limit, expected) in [(5, Ok(whole)), (4, overflow)] {
-        let whole = Payload::Whole(Bytes::from_static(whole));
-        assert_collects(&rt, alloc, whole, limit, (0, expected));
-    }
-    let stream = Payload::Stream(failing(&rt, alloc));
-    assert_collects(&rt, alloc, stream, 2, (0, Err(PayloadError::Io)));
-    assert_collects(&rt, alloc, Payload::None, 0, (0, Ok(b"")));
 }
 
 /// Makes a value of a request and its payload, through the trait alone.
@@ -190,16 +66,25 @@ pub(crate) fn argument_alone<T: FromRequest<Site>>(
     value_of(rt, alloc, future)
 }
 
+/// Compares the bytes of an argument.
+fn assert_bytes(rt: &impl Abort, found: (usize, Result<Bytes, Error>), expected: (usize, &[u8])) {
+    let agrees = match &found.1 {
+        Ok(bytes) => bytes.as_slice() == expected.1,
+        Err(_) => false,
+    };
+    assert_same(rt, (found.0, agrees), (expected.0, true));
+}
+
 #[test]
 fn bytes_are_made_of_a_request(rt: HostRuntime) {
     let alloc = rt.alloc();
     let mut payload = Payload::Stream(hello(&rt, alloc));
-    let bytes = argument_of::<Bytes>(&rt, alloc, &mut payload);
-    assert_collected(&rt, bytes, (1, Ok(b"hello")));
+    let (stalls, bytes) = argument_of::<Bytes>(&rt, alloc, &mut payload);
+    assert_bytes(&rt, (stalls, bytes), (1, b"hello"));
     assert_holds(
         &rt,
         "the payload is taken",
         matches!(payload, Payload::None),
     );
-    assert_collected(&rt, argument_alone::<Bytes>(&rt, alloc), (0, Ok(b"")));
+    assert_bytes(&rt, argument_alone::<Bytes>(&rt, alloc), (0, b""));
 }

@@ -1,4 +1,6 @@
 //! Requests of the tests' application.
+ghost use Rattle.std.specs.Prelude.{◌≡◌, []};
+
 use http::{Method, Version};
 use http_header::HeaderMap;
 use http_uri::Uri;
@@ -7,8 +9,8 @@ use std::process::Abort;
 use std::rc::Rc;
 use web_body::Marks;
 use web_request::{
-    AppConfig, HttpRequest, HttpRequestPool, IpAddr, NoData, Pair, PlainApp, RequestHead,
-    RequestParts, SocketAddr, Text,
+    AppConfig, HttpRequest, HttpRequestPool, IpAddr, NoData, PlainApp, RequestHead, RequestParts,
+    SocketAddr, Text,
 };
 
 /// The application of the tests.
@@ -25,8 +27,10 @@ pub(crate) fn config(rt: &impl Abort, alloc: Global) -> AppConfig {
     }
 }
 
-/// The head of a POST request for this target.
-pub(crate) fn head(rt: &impl Abort, alloc: Global, target: &'static str) -> RequestHead {
+/// The head of a POST request for this target, without headers.
+pub(crate) fn head(rt: &impl Abort, alloc: Global, target: &'static str) -> RequestHead
+    ensures { result.headers ≡ [] }
+{
     RequestHead {
         uri: Uri::from_static(target).expect(rt, "a target"),
         method: Method::POST,
@@ -36,38 +40,9 @@ pub(crate) fn head(rt: &impl Abort, alloc: Global, target: &'static str) -> Requ
     }
 }
 
-pub(crate) fn pool(rt: &impl Abort, alloc: Global, capacity: usize) -> HttpRequestPool<Site> {
+fn pool(rt: &impl Abort, alloc: Global) -> HttpRequestPool<Site> {
     let root = Rc::new(alloc, NoData).expect(rt, "memory");
-    HttpRequestPool::with_capacity(alloc, root, config(rt, alloc), capacity).expect(rt, "memory")
-}
-
-/// The parts of a request for this target, with something in each place.
-fn parts(rt: &impl Abort, alloc: Global, target: &'static str) -> RequestParts<Site> {
-    let pair = Pair {
-        name: Text::of(alloc, "name").expect(rt, "memory"),
-        value: Text::of(alloc, "value").expect(rt, "memory"),
-    };
-    let layer = Rc::new(alloc, NoData).expect(rt, "memory");
-    RequestParts {
-        head: head(rt, alloc, target),
-        params: vec![in alloc; pair].expect(rt, "memory"),
-        layers: vec![in alloc; layer].expect(rt, "memory"),
-        conn: Some(Rc::new(alloc, NoData).expect(rt, "memory")),
-        local: Some(NoData),
-    }
-}
-
-/// Starts a request for this target.
-pub(crate) fn start_request(
-    rt: &impl Abort,
-    alloc: Global,
-    pool: &mut HttpRequestPool<Site>,
-    target: &'static str,
-) -> HttpRequest<Site> {
-    assert!(rt; pool.made() < 9);
-    pool.start(alloc, parts(rt, alloc, target))
-        .ok()
-        .expect(rt, "memory")
+    HttpRequestPool::with_capacity(alloc, root, config(rt, alloc), 0).expect(rt, "memory")
 }
 
 /// A request for this target, of a pool of its own.
@@ -76,5 +51,14 @@ pub(crate) fn new_request(
     alloc: Global,
     target: &'static str,
 ) -> HttpRequest<Site> {
-    start_request(rt, alloc, &mut pool(rt, alloc, 0), target)
+    let parts = RequestParts {
+        head: head(rt, alloc, target),
+        params: Vec::new(alloc),
+        layers: Vec::new(alloc),
+        conn: None,
+        local: None,
+    };
+    let mut pool = pool(rt, alloc);
+    assert!(rt; pool.made() < 9);
+    pool.start(alloc, parts).ok().expect(rt, "memory")
 }

@@ -1,9 +1,7 @@
-use Rattle.std.proofs.Common.{◌≡◌, ◌∙◌, ◌++◌, ap, map, [], ℕ, List}
+use Rattle.std.proofs.Common.{◌∙◌, ◌++◌, ap, [], ℕ, List}
 use Rattle.std.specs.Option.{option_map}
-use Rattle.web_worker.specs.Exchanges.{FlightView.Waiting}
 use Rattle.web_script.specs.Script.{script_lines, script_view}
 use Rattle.web_script.specs.ScriptExchanges.{exchanges}
-use Rattle.web_demo.specs.DemoExchanges.{demo_exchange}
 use Rattle.web_cli.specs.ScriptAnswers.{calls_to, replies_to}
 use Rattle.web_cli.proofs.script_answer.answer_script.Goals as goal
 
@@ -13,7 +11,7 @@ returns-in-Ok-clause-text g c = λ a h meets handles.
     let are = c.as_mut_slice.ensures.value ∙ c.in-Ok.ensures.added [] c.new-sink.ensures in
     c.in_ok-text-in-Ok.ensures.text es are c.in-Ok.ensures.bodies a h meets handles
     ∙ ap (λ (plan : List ℕ). replies_to a h (record { exchanges = es; plan = plan }))
-    (c.deref.ensures.value ∙ c.in-Ok.ensures.plan)
+    (c.deref.ensures.value ∙ c.in-Ok.ensures.read.1)
     ∙ ap (λ (bytes : List ℕ). replies_to a h (script_view (script_lines bytes)))
     c.in_ok-from_vec.ensures.ok
 
@@ -25,6 +23,6 @@ returns-in-Ok-clause-calls g c = λ a meets.
     c.in_ok-text-in-Ok.ensures.calls es are c.in-Ok.ensures.bodies a meets
     ∙ ap (λ (plan : List ℕ). option_map (λ calls.
     calls ++ calls_to a (record { exchanges = es; plan = plan })) old)
-    (c.deref.ensures.value ∙ c.in-Ok.ensures.plan)
+    (c.deref.ensures.value ∙ c.in-Ok.ensures.read.1)
     ∙ ap (λ (bytes : List ℕ). option_map (λ calls.
     calls ++ calls_to a (script_view (script_lines bytes))) old) c.in_ok-from_vec.ensures.ok

@@ -1,6 +1,11 @@
 use Rattle.std.proofs.Common.{sym, ◌∙◌}
-use Rattle.web_script.specs.Targets.{parts_of}
-use Rattle.web_script.proofs.LineArgumentsLemmas.{unspaced_request, spaced_target, no_method, no_target, not_built, asked_for, cut_end, cut_short}
+use Rattle.std.proofs.lemmas.Result.{err_from_is_err_and}
+use Rattle.web_script.specs.LineArguments.{is_method, request_fault, target_fault}
+use Rattle.web_script.specs.LineFaults.{unless}
+use Rattle.web_script.specs.Targets.{parts_of, target_of}
+use Rattle.web_script.specs.declared.reason.Reason.TheVariants.{BadExchange}
+use Rattle.web_script.proofs.AcceptanceLemmas.{passed_on}
+use Rattle.web_script.proofs.LineArgumentsLemmas.{unspaced_request, spaced_target, no_method, no_target, asked_for, cut_end, cut_short}
 use Rattle.web_script.proofs.exchange.read_request.Goals as goal
 
 pub returns-in_default : goal.returns-in_default
@@ -9,10 +14,13 @@ returns-in_default c = unspaced_request c.args.text.now (rw c.as_slice.ensures a
 pub returns-then-has_space : goal.returns-then-has_space
 returns-then-has_space c = spaced_target c.args.text.now c.in-Some.method.now c.in-Some.target.now (rw c.as_slice.ensures at c.in-Some.ensures) (sym c.has_space.ensures ∙ c.if-has_space.true)
 
-pub returns-in_default-2 : goal.returns-in_default-2
-returns-in_default-2 c =
-    no_method c.args.text.now c.in-Some.method.now c.in-Some.target.now (rw c.as_slice.ensures at c.in-Some.ensures) (sym c.has_space.ensures ∙ c.if-has_space.false)
-    (rw c.in_default-2.is at c.in_ok-method.ensures)
+pub returns-in_err-method : goal.returns-in_err-method
+returns-in_err-method c =
+    let p = err_from_is_err_and c.from_residual.result c.from_residual.ensures.1 in
+    rw (p.1, p.2)
+    (passed_on c.in_err-method.field-0.0 (unless (is_method c.in-Some.method.now) BadExchange) (request_fault c.args.text.now)
+    (λ r. no_method c.args.text.now c.in-Some.method.now c.in-Some.target.now (rw c.as_slice.ensures at c.in-Some.ensures) r (sym c.has_space.ensures ∙ c.if-has_space.false))
+    c.in_err-method.ensures)
 
 pub part_of-requires-clause-end : goal.part_of-requires-clause-end
 part_of-requires-clause-end c = rw c.as_slice-2.ensures (cut_end c.args.text.now c.in-Some.method.now c.in-Some.target.now (rw c.as_slice.ensures at c.in-Some.ensures))
@@ -20,22 +28,16 @@ part_of-requires-clause-end c = rw c.as_slice-2.ensures (cut_end c.args.text.now
 pub part_of-requires-clause-short : goal.part_of-requires-clause-short
 part_of-requires-clause-short c = rw c.as_slice-2.ensures (cut_short c.args.text.now c.in-Some.method.now c.in-Some.target.now (rw c.as_slice.ensures at c.in-Some.ensures))
 
-pub returns-in_default-3 : goal.returns-in_default-3
-returns-in_default-3 c =
-    let method = rw c.in-Some-2.is at c.in_ok-method.ensures in
-    no_target c.args.text.now c.in-Some.method.now c.in-Some.target.now (rw c.as_slice.ensures at c.in-Some.ensures) (sym c.has_space.ensures ∙ c.if-has_space.false) method.0
-    (rw (c.in_default-3.is, c.in_ok-part_of.ensures) at c.in_ok-uri.ensures)
-
-pub returns-then-not-is_built : goal.returns-then-not-is_built
-returns-then-not-is_built c =
-    let method = rw c.in-Some-2.is at c.in_ok-method.ensures in
-    let target = rw (c.in-Some-3.is, c.in_ok-part_of.ensures) at c.in_ok-uri.ensures in
-    not_built c.args.text.now c.in-Some.method.now c.in-Some.target.now (rw c.as_slice.ensures at c.in-Some.ensures) (parts_of c.in-Some-3.uri) (sym c.has_space.ensures ∙ c.if-has_space.false) method.0 target
-    (sym c.is_built.ensures ∙ c.if-not-is_built.true)
+pub returns-in_err-uri : goal.returns-in_err-uri
+returns-in_err-uri c =
+    let p = err_from_is_err_and c.from_residual-in_err-uri.result c.from_residual-in_err-uri.ensures.1 in
+    rw (p.1, p.2)
+    (passed_on c.in_err-uri.field-0.0 (target_fault (target_of c.in-Some.target.now)) (request_fault c.args.text.now)
+    (λ r. no_target c.args.text.now c.in-Some.method.now c.in-Some.target.now (rw c.as_slice.ensures at c.in-Some.ensures) r (sym c.has_space.ensures ∙ c.if-has_space.false) c.in_ok-method.ensures.0)
+    (rw c.in_ok-part_of.ensures at c.in_err-uri.ensures))
 
 pub returns : goal.returns
 returns c =
-    let method = rw c.in-Some-2.is at c.in_ok-method.ensures in
-    let target = rw (c.in-Some-3.is, c.in_ok-part_of.ensures) at c.in_ok-uri.ensures in
-    asked_for c.args.text.now c.in-Some.method.now c.in-Some.target.now (rw c.as_slice.ensures at c.in-Some.ensures) (parts_of c.in-Some-3.uri) c.in-Some-2.method c.new.result (sym c.has_space.ensures ∙ c.if-has_space.false) method.0 method.1 target
-    (sym c.is_built.ensures ∙ c.if-not-is_built.false) c.new.ensures
+    let target = rw c.in_ok-part_of.ensures at c.in_ok-uri.ensures in
+    asked_for c.args.text.now c.in-Some.method.now c.in-Some.target.now (rw c.as_slice.ensures at c.in-Some.ensures) (parts_of c.in_ok-uri.uri) c.in_ok-method.method c.new.result
+    (sym c.has_space.ensures ∙ c.if-has_space.false) c.in_ok-method.ensures.0 c.in_ok-method.ensures.1 target.0 target.1 c.new.ensures

@@ -1,8 +1,10 @@
 use Rattle.std.proofs.Common.{refl}
 use Rattle.web_script.proofs.script.read_script.Goals as goal
 
-pub returns-clause-script : goal.returns-clause-script
-returns-clause-script c = rw (c.in_ok-plan.ensures.added _ c.new-exchanges.ensures.items, c.in_ok-plan.ensures.plan) refl
+pub returns-clause-read : goal.returns-clause-read
+returns-clause-read c =
+    let read = c.in_ok-plan.ensures.read in
+    (read.0, rw (c.in_ok-plan.ensures.added _ c.new-exchanges.ensures.items, read.1) refl)
 
 pub returns-clause-bodies : goal.returns-clause-bodies
 returns-clause-bodies c = rw (c.in_ok-plan.ensures.added _ c.new-exchanges.ensures.items) c.in_ok-plan.ensures.bodies

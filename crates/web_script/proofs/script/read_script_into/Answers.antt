@@ -4,7 +4,7 @@ use Rattle.web_script.proofs.ScriptSizeLemmas.{sizes}
 use Rattle.web_script.proofs.script.read_script_into.Goals as goal
 
 pub returns-clause-bodies : goal.returns-clause-bodies
-returns-clause-bodies g c = all_bodies (script_lines c.args.bytes) (rw c.if-not-branch.false at c.in_ok-read_lines.ensures.read).0
+returns-clause-bodies g c = all_bodies (script_lines c.args.bytes) c.in_ok-read_lines.ensures.read.0
 
 pub returns-clause-total : goal.returns-clause-total
 returns-clause-total g c = sizes c.args.bytes

@@ -8,6 +8,12 @@ returns-in_ok-future-in-Bytes-clause-extracts c =
     (rw (← c.path.ensures, ← c.choice_of.ensures) c.in-Bytes.is)
     c.in_ok-future-in-Bytes.ensures.extracts
 
+pub returns-in_ok-future-in-Text-clause-extracts : goal.returns-in_ok-future-in-Text-clause-extracts
+returns-in_ok-future-in-Text-clause-extracts c =
+    extracts_choice c.args.req.now.request choice.Text _ _ _
+    (rw (← c.path.ensures, ← c.choice_of.ensures) c.in-Text.is)
+    c.in_ok-future-in-Text.ensures.extracts
+
 pub returns-in_ok-future-in-Both-clause-extracts : goal.returns-in_ok-future-in-Both-clause-extracts
 returns-in_ok-future-in-Both-clause-extracts c =
     extracts_choice c.args.req.now.request choice.Both _ _ _

@@ -1,0 +1,4 @@
+pub mod ContentRangeLemmas
+pub mod EntityTagLemmas
+pub mod QuotedValueLemmas
+pub mod RawDispositionLemmas

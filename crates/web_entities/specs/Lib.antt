@@ -1,0 +1,10 @@
+pub mod ByteRanges
+pub mod ContentRanges
+pub mod DispositionParts
+pub mod DispositionPlaces
+pub mod DispositionTexts
+pub mod Dispositions
+pub mod EntityLaws
+pub mod EntityTags
+pub mod IfRanges
+pub mod TagLists

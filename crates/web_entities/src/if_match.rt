@@ -1,0 +1,76 @@
+//! If-Match.
+use crate::entity::EntityTag;
+use crate::tag_list::{fmt_tags, read_tags, says_any};
+use http_header::{HeaderMap, HeaderName, HeaderValue, IF_MATCH};
+use std::alloc::Global;
+use std::fmt;
+use web_headers::{Header, TryIntoHeaderValue, printed_value};
+use web_texts::{Duplicate, Fail, InvalidHeaderValue, Items, NoMemory, ParseError};
+
+/// The request is for one of these versions of the resource
+/// (RFC 9110, section 13.1.1). Without the header it reads as an empty list, and what is no tag is
+/// left out. `ParseError::Header` comes where a value of a list is no header text.
+#[derive(Debug, Drop, PartialEq, Eq)]
+pub enum IfMatch {
+    /// Any version: `*`.
+    Any,
+    /// The versions with these tags.
+    Items(Items<EntityTag>),
+}
+
+impl Header for IfMatch {
+    ghost use Rattle.std.specs.Prelude.{◌≡◌, codes};
+    ghost use Rattle.web_entities.specs.TagLists.{if_match_of};
+
+    ghost says = { λ values said. if_match_of values ≡ said };
+
+    ghost called = { codes "if-match" };
+
+    fn name() -> HeaderName {
+        IF_MATCH
+    }
+
+    fn parse(alloc: Global, headers: &HeaderMap<HeaderValue>) -> Result<Self, Fail<ParseError>> {
+        if says_any(headers, &IF_MATCH) {
+            return Ok(IfMatch::Any);
+        }
+        match read_tags(alloc, headers, &IF_MATCH) {
+            Ok(tags) => Ok(IfMatch::Items(tags)),
+            Err(refused) => Err(refused),
+        }
+    }
+}
+
+impl Duplicate for IfMatch {
+    fn duplicate(&self, alloc: Global) -> Result<Self, NoMemory> {
+        match self {
+            IfMatch::Any => Ok(IfMatch::Any),
+            IfMatch::Items(tags) => Ok(IfMatch::Items(tags.duplicate(alloc)?)),
+        }
+    }
+}
+
+impl fmt::Display for IfMatch {
+    ghost use Rattle.std.specs.Prelude.{Some};
+    ghost use Rattle.web_entities.specs.TagLists.{if_match_text};
+
+    ghost output = { λ m. Some (if_match_text m) };
+
+    fn fmt<W: fmt::Write>(&self, f: &mut fmt::Formatter<W>) -> fmt::Result {
+        match self {
+            IfMatch::Any => f.write_str("*"),
+            IfMatch::Items(tags) => fmt_tags(f, tags.as_slice()),
+        }
+    }
+}
+
+impl TryIntoHeaderValue for IfMatch {
+    ghost use Rattle.http_header.specs.FieldValue.{plain_value};
+    ghost use Rattle.web_entities.specs.TagLists.{if_match_text};
+
+    ghost value = { λ m. plain_value (if_match_text m) };
+
+    fn try_into_value(self, alloc: Global) -> Result<HeaderValue, Fail<InvalidHeaderValue>> {
+        printed_value(alloc, &self)
+    }
+}

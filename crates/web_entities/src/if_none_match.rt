@@ -1,0 +1,76 @@
+//! If-None-Match.
+use crate::entity::EntityTag;
+use crate::tag_list::{fmt_tags, read_tags, says_any};
+use http_header::{HeaderMap, HeaderName, HeaderValue, IF_NONE_MATCH};
+use std::alloc::Global;
+use std::fmt;
+use web_headers::{Header, TryIntoHeaderValue, printed_value};
+use web_texts::{Duplicate, Fail, InvalidHeaderValue, Items, NoMemory, ParseError};
+
+/// The request is for a version of the resource other than these
+/// (RFC 9110, section 13.1.2). Without the header it reads as an empty list, and what is no tag is
+/// left out. `ParseError::Header` comes where a value of a list is no header text.
+#[derive(Debug, Drop, PartialEq, Eq)]
+pub enum IfNoneMatch {
+    /// Any version: `*`.
+    Any,
+    /// The versions with these tags.
+    Items(Items<EntityTag>),
+}
+
+impl Header for IfNoneMatch {
+    ghost use Rattle.std.specs.Prelude.{◌≡◌, codes};
+    ghost use Rattle.web_entities.specs.TagLists.{if_none_match_of};
+
+    ghost says = { λ values said. if_none_match_of values ≡ said };
+
+    ghost called = { codes "if-none-match" };
+
+    fn name() -> HeaderName {
+        IF_NONE_MATCH
+    }
+
+    fn parse(alloc: Global, headers: &HeaderMap<HeaderValue>) -> Result<Self, Fail<ParseError>> {
+        if says_any(headers, &IF_NONE_MATCH) {
+            return Ok(IfNoneMatch::Any);
+        }
+        match read_tags(alloc, headers, &IF_NONE_MATCH) {
+            Ok(tags) => Ok(IfNoneMatch::Items(tags)),
+            Err(refused) => Err(refused),
+        }
+    }
+}
+
+impl Duplicate for IfNoneMatch {
+    fn duplicate(&self, alloc: Global) -> Result<Self, NoMemory> {
+        match self {
+            IfNoneMatch::Any => Ok(IfNoneMatch::Any),
+            IfNoneMatch::Items(tags) => Ok(IfNoneMatch::Items(tags.duplicate(alloc)?)),
+        }
+    }
+}
+
+impl fmt::Display for IfNoneMatch {
+    ghost use Rattle.std.specs.Prelude.{Some};
+    ghost use Rattle.web_entities.specs.TagLists.{if_none_match_text};
+
+    ghost output = { λ m. Some (if_none_match_text m) };
+
+    fn fmt<W: fmt::Write>(&self, f: &mut fmt::Formatter<W>) -> fmt::Result {
+        match self {
+            IfNoneMatch::Any => f.write_str("*"),
+            IfNoneMatch::Items(tags) => fmt_tags(f, tags.as_slice()),
+        }
+    }
+}
+
+impl TryIntoHeaderValue for IfNoneMatch {
+    ghost use Rattle.http_header.specs.FieldValue.{plain_value};
+    ghost use Rattle.web_entities.specs.TagLists.{if_none_match_text};
+
+    ghost value = { λ m. plain_value (if_none_match_text m) };
+
+    fn try_into_value(self, alloc: Global) -> Result<HeaderValue, Fail<InvalidHeaderValue>> {
+        printed_value(alloc, &self)
+    }
+}

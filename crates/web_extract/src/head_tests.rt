@@ -1,0 +1,116 @@
+//! The tests of a head before the body is read as an argument. They leave the payload.
+ghost use Rattle.std.specs.Prelude.{◌≡◌, IfOk, IsOk, None, Ok, option_copied};
+ghost use Rattle.std.specs.Option.{option_or, unwrap_or};
+ghost use Rattle.web_request.specs.MessageFields.{first_content_type};
+ghost use Rattle.web_body.specs.PayloadSettings.{default_payload_settings};
+ghost use Rattle.web_extract.specs.BodyArguments.{charset_refusal, type_refusal};
+ghost use Rattle.web_extract.specs.BodyArguments.{unexpected_type};
+ghost use Rattle.web_extract.specs.LayerConfigurations.{payload_settings};
+
+use crate::bad_request::bad_request;
+use crate::layer_configs::{Configs, PayloadChoice};
+use std::alloc::Global;
+use web_body::{DEFAULT_LIMIT, PayloadConfig};
+use web_reply::Error;
+use web_request::{App, HttpMessage, HttpRequest, NoMemory};
+use web_texts::{Fail, Mime};
+
+/// The configuration of payloads for a request, or `None` where it is the default.
+pub(crate) fn payload_config<A: App>(req: &HttpRequest<A>) -> Option<&PayloadConfig>
+where
+    A::Layer: Configs,
+    ensures { unwrap_or (option_copied result) default_payload_settings
+        ≡ payload_settings A.Layer.Configs.configurations req.now.request.layers }
+{
+    req.nearest_config::<PayloadChoice>()
+}
+
+/// The limit of a configuration, in bytes.
+pub(crate) fn limit_of(config: Option<&PayloadConfig>) -> usize
+    ensures { result ≡ (unwrap_or (option_copied config.entry) default_payload_settings).limit }
+{
+    match config {
+        Some(config) => config.max_len(),
+        None => DEFAULT_LIMIT,
+    }
+}
+
+/// The media type that a configuration requires.
+pub(crate) fn required_type(config: Option<&PayloadConfig>) -> Option<&Mime>
+    ensures { option_copied result
+        ≡ (unwrap_or (option_copied config.entry) default_payload_settings).required_type }
+{
+    match config {
+        Some(config) => config.required_type(),
+        None => None,
+    }
+}
+
+/// The refusal of a Content-Type other than the required one. It allocates nothing where none is
+/// required.
+pub(crate) fn type_refusal<M: HttpMessage>(
+    alloc: Global,
+    message: &M,
+    required: Option<&Mime>,
+) -> Result<Option<Error>, NoMemory>
+    ensures value { IfOk result (λ refusal. refusal
+        ≡ type_refusal (option_copied required.entry) (M.fields message.now)) }
+    ensures memory { option_copied required.entry ≡ None → IsOk result }
+{
+    let Some(required) = required else {
+        return Ok(None);
+    };
+    match message.mime_type(alloc) {
+        Ok(found) => unexpected_type(alloc, &found, required),
+        Err(Fail::Of(error)) => Ok(Some(Error::from(error))),
+        Err(Fail::NoMemory) => Err(NoMemory),
+    }
+}
+
+/// The refusal of a media type other than the required one, or of none.
+fn unexpected_type(
+    alloc: Global,
+    found: &Option<Mime>,
+    required: &Mime,
+) -> Result<Option<Error>, NoMemory>
+    ensures { IfOk result (λ refusal. refusal ≡ unexpected_type required.now (Ok found.now)) }
+{
+    let text = match found {
+        Some(found) if found == required => return Ok(None),
+        Some(_) => "Unexpected Content-Type",
+        None => "Content-Type is expected",
+    };
+    Ok(Some(bad_request(alloc, text)?))
+}
+
+/// The first refusal of these two tests. It allocates nothing where no type is required and there
+/// is no Content-Type.
+pub(crate) fn text_refusal<M: HttpMessage>(
+    alloc: Global,
+    message: &M,
+    required: Option<&Mime>,
+) -> Result<Option<Error>, NoMemory>
+    ensures value { IfOk result (λ refusal. refusal ≡ option_or
+        (type_refusal (option_copied required.entry) (M.fields message.now))
+        (charset_refusal (M.fields message.now))) }
+    ensures memory { option_copied required.entry ≡ None
+        → first_content_type (M.fields message.now) ≡ None → IsOk result }
+{
+    match type_refusal(alloc, message, required)? {
+        Some(refusal) => Ok(Some(refusal)),
+        None => charset_refusal(alloc, message),
+    }
+}
+
+/// The refusal of an unreadable Content-Type, and of a charset other than UTF-8. It allocates
+/// nothing where there is no Content-Type.
+fn charset_refusal<M: HttpMessage>(alloc: Global, message: &M) -> Result<Option<Error>, NoMemory>
+    ensures value { IfOk result (λ refusal. refusal ≡ charset_refusal (M.fields message.now)) }
+    ensures memory { first_content_type (M.fields message.now) ≡ None → IsOk result }
+{
+    match message.encoding(alloc) {
+        Ok(()) => Ok(None),
+        Err(Fail::Of(error)) => Ok(Some(Error::from(error))),
+        Err(Fail::NoMemory) => Err(NoMemory),
+    }
+}

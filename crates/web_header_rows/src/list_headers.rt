@@ -1,0 +1,256 @@
+//! Headers that are lists, lengths, types and dates.
+use crate::compare::{assert_holds, assert_same};
+use http_header::{HeaderMap, HeaderValue};
+use httpdate::HttpDate;
+use std::alloc::Global;
+use std::fmt::Display;
+use std::process::Abort;
+use web_headers::{
+    Accept, AcceptCharset, AcceptEncoding, AcceptLanguage, Allow, CacheControl, ContentLanguage,
+    ContentLength, ContentType, Date, Expires, Header, IfModifiedSince, IfUnmodifiedSince,
+    LastModified, TryIntoHeaderValue,
+};
+use web_texts::{Duplicate, Fail, LanguageTag, ParseError, parse_extended_value};
+
+/// The values of a header, in order, and its printed text, or `None` where it is refused.
+type Row = (&'static [&'static str], Option<&'static str>);
+
+const ACCEPT: &[Row] = &[
+    (&[], Some("")),
+    (
+        &["audio/*; q=0.2, audio/basic"],
+        Some("audio/*; q=0.2, audio/basic"),
+    ),
+    (
+        &["text/plain; charset=utf-8; q=0.5"],
+        Some("text/plain; charset=utf-8; q=0.5"),
+    ),
+    (
+        &["a/b;q=1.000, a/b;q=1.001, a/b;q=0.1234, a/b;Q=0.5, a/b;q="],
+        Some("a/b, a/b; q=0.5"),
+    ),
+    (&["a/b;q=0.5;x=1"], Some("a/b; q=0.5; x=1")),
+    (&["text/html;, a/b ; q=0.050"], Some("a/b; q=0.05")),
+    (
+        &["text/*;Q=0.001,,", "*/*;q=0."],
+        Some("text/*; q=0.001, */*; q=0"),
+    ),
+    (&["*/html;q=-1,text;q=1."], Some("")),
+    (&["a/b", "ÿ"], None),
+];
+
+const ACCEPT_ENCODING: &[Row] = &[
+    (&["gzip, *; q=0"], Some("gzip, *; q=0")),
+    (&["GZIP", "BR;q=0.999"], Some("gzip, br; q=0.999")),
+    (&["*; q =0.5, GZip;q=0.5"], Some("*; q =0.5, gzip; q=0.5")),
+    (&[", ; q=0"], Some("; q=0")),
+    (
+        &["zstd;q=0,5, identity;x=y"],
+        Some("zstd; q=0, 5, identity;x=y"),
+    ),
+    (&["x;q=.5, x;q=2, gzip;x"], Some("")),
+];
+
+const ACCEPT_LANGUAGE: &[Row] = &[
+    (&["en-US, en; q=0.5, fr"], Some("en-US, en; q=0.5, fr")),
+    (&["*;q=0,5, fr;q=1.001, en-US;q=1."], Some("*; q=0, en-US")),
+    (&["1, en_US, de-, abcdefghi;q=0.5"], Some("")),
+];
+
+const ACCEPT_CHARSET: &[Row] = &[(&["utf-8, *;q=0.1"], Some("UTF-8, *; q=0.1"))];
+
+const ALLOW: &[Row] = &[(&["GET, HEAD", "A B, fOo"], Some("GET, HEAD, fOo"))];
+
+const CACHE_CONTROL: &[Row] = &[
+    (&["no-cache", "private"], Some("no-cache, private")),
+    (&["foo, bar=baz"], Some("foo, bar=baz")),
+    (
+        &["max-age=\"5\", s-maxage=7, max-stale=4294967295"],
+        Some("max-age=5, s-maxage=7, max-stale=4294967295"),
+    ),
+    (
+        &["no-store, max-age=x, min-fresh=4294967296, Max-Age=x"],
+        Some("no-store, Max-Age=x"),
+    ),
+    (
+        &["a=\"b\"c\"", "a=\"\"", "=a", "a=b=c"],
+        Some("a=b\"c, a=, =a, a=b=c"),
+    ),
+    (&["foo="], None),
+    (&[""], None),
+    (&[], None),
+];
+
+const CONTENT_LANGUAGE: &[Row] = &[(&["en, de"], Some("en, de")), (&[], None)];
+
+const CONTENT_LENGTH: &[Row] = &[
+    (
+        &["\t18446744073709551615 ", "x"],
+        Some("18446744073709551615"),
+    ),
+    (&["007"], Some("7")),
+    (&["18446744073709551616"], None),
+    (&["+5"], None),
+    (&["5, 5"], None),
+    (&["x", "5"], None),
+    (&[""], None),
+    (&[], None),
+];
+
+const CONTENT_TYPE: &[Row] = &[
+    (
+        &["TEXT/Plain;charset=UTF-8", "x"],
+        Some("text/plain; charset=utf-8"),
+    ),
+    (&[" text/plain"], None),
+    (&[""], None),
+    (&["ÿ"], None),
+    (&[], None),
+];
+
+const DATES: &[Row] = &[
+    (
+        &["Sunday, 06-Nov-94 08:49:37 GMT", "x"],
+        Some("Sun, 06 Nov 1994 08:49:37 GMT"),
+    ),
+    (
+        &["Sun Nov  6 08:49:37 1994"],
+        Some("Sun, 06 Nov 1994 08:49:37 GMT"),
+    ),
+    (
+        &["Thu, 01 Jan 1970 00:00:00 GMT"],
+        Some("Thu, 01 Jan 1970 00:00:00 GMT"),
+    ),
+    (&[" Thu, 01 Jan 1970 00:00:00 GMT"], None),
+    (&["Mon, 29 Feb 2100 00:00:00 GMT"], None),
+    (&["Sun, 06 Nov 1994 08:49:37"], None),
+    (&[], None),
+];
+
+fn map_of<H: Header>(rt: &impl Abort, alloc: Global, values: &[&str]) -> HeaderMap<HeaderValue> {
+    let mut map = HeaderMap::new(alloc);
+    for value in values {
+        let value = HeaderValue::from_bytes(alloc, value.as_bytes()).expect(rt, "a value");
+        let _found = map.append(H::name(), value).expect(rt, "room");
+    }
+    map
+}
+
+fn assert_printed<H: Display + Duplicate + PartialEq + TryIntoHeaderValue>(
+    rt: &impl Abort,
+    alloc: Global,
+    header: H,
+    expected: &str,
+) {
+    let printed = format!(in alloc; "{header}").expect(rt, "memory");
+    assert_same(rt, printed.as_str(), expected);
+    assert_holds(
+        rt,
+        expected,
+        header.duplicate(alloc).expect(rt, "memory") == header,
+    );
+    let value = header.try_into_value(alloc).expect(rt, "a value");
+    assert_same(rt, value.as_bytes(), expected.as_bytes());
+}
+
+fn assert_rows<H: Header + Display + Duplicate + PartialEq + TryIntoHeaderValue>(
+    rt: &impl Abort,
+    alloc: Global,
+    rows: &[Row],
+) {
+    for (values, expected) in rows {
+        let map = map_of::<H>(rt, alloc, values);
+        match (H::parse(alloc, &map), expected) {
+            (Ok(header), Some(text)) => assert_printed(rt, alloc, header, text),
+            (Ok(_header), None) => assert_holds(rt, "refused", false),
+            (Err(error), None) => assert_same(rt, error, Fail::Of(ParseError::Header)),
+            (Err(_), Some(text)) => assert_holds(rt, text, false),
+        }
+    }
+}
+
+#[test]
+fn headers_of_lists_are_read_and_printed(rt: HostRuntime) {
+    let alloc = rt.alloc();
+    assert_rows::<Accept>(&rt, alloc, ACCEPT);
+    assert_rows::<AcceptCharset>(&rt, alloc, ACCEPT_CHARSET);
+    assert_rows::<AcceptEncoding>(&rt, alloc, ACCEPT_ENCODING);
+    assert_rows::<AcceptLanguage>(&rt, alloc, ACCEPT_LANGUAGE);
+    assert_rows::<Allow>(&rt, alloc, ALLOW);
+    assert_rows::<CacheControl>(&rt, alloc, CACHE_CONTROL);
+    assert_rows::<ContentLanguage>(&rt, alloc, CONTENT_LANGUAGE);
+}
+
+#[test]
+fn headers_of_one_value_are_read_and_printed(rt: HostRuntime) {
+    let alloc = rt.alloc();
+    assert_rows::<ContentLength>(&rt, alloc, CONTENT_LENGTH);
+    assert_rows::<ContentType>(&rt, alloc, CONTENT_TYPE);
+    assert_rows::<Date>(&rt, alloc, DATES);
+    assert_rows::<Expires>(&rt, alloc, DATES);
+    assert_rows::<IfModifiedSince>(&rt, alloc, DATES);
+    assert_rows::<IfUnmodifiedSince>(&rt, alloc, DATES);
+    assert_rows::<LastModified>(&rt, alloc, DATES);
+}
+
+/// A text, and the printed text of its extended value, or `None` where it is refused.
+const EXTENDED: &[(&str, Option<&str>)] = &[
+    ("", None),
+    ("a'b", None),
+    ("a'1'b", None),
+    (
+        "utf-8'en-GB'%c2%a3 rates",
+        Some("UTF-8'en-GB'%C2%A3%20rates"),
+    ),
+    ("x'' '%*()~!a", Some("X''%20%27%25%2A%28%29~!a")),
+    ("x''%00%ff", Some("X''%00%FF")),
+];
+
+fn assert_extended(rt: &impl Abort, alloc: Global, row: &(&str, Option<&str>)) {
+    let (text, expected) = *row;
+    let Ok(value) = parse_extended_value(alloc, text) else {
+        assert_same(rt, None, expected);
+        return;
+    };
+    let printed = format!(in alloc; "{value}").expect(rt, "memory");
+    assert_same(rt, Some(printed.as_str()), expected);
+    assert_holds(
+        rt,
+        text,
+        value.duplicate(alloc).expect(rt, "memory") == value,
+    );
+}
+
+#[test]
+fn extended_values_are_read_and_printed(rt: HostRuntime) {
+    for row in EXTENDED {
+        assert_extended(&rt, rt.alloc(), row);
+    }
+}
+
+fn tag_of(rt: &impl Abort, alloc: Global, text: &str) -> LanguageTag {
+    LanguageTag::parse(alloc, text).expect(rt, "a tag")
+}
+
+#[test]
+fn tags_are_compared_without_case(rt: HostRuntime) {
+    let alloc = rt.alloc();
+    let tag = tag_of(&rt, alloc, "EN-us");
+    assert_holds(&rt, "en-US", tag == tag_of(&rt, alloc, "en-US"));
+    assert_same(&rt, tag.as_str(), "EN-us");
+}
+
+#[test]
+fn headers_are_made(rt: HostRuntime) {
+    let alloc = rt.alloc();
+    let moment = HttpDate::from_unix_secs(784_111_777).expect(&rt, "a date");
+    assert_printed(
+        &rt,
+        alloc,
+        Date::now(moment),
+        "Sun, 06 Nov 1994 08:49:37 GMT",
+    );
+    assert_printed(&rt, alloc, Accept::star(alloc).expect(&rt, "memory"), "*/*");
+    let form = ContentType::form_url_encoded(alloc).expect(&rt, "memory");
+    assert_printed(&rt, alloc, form, "application/x-www-form-urlencoded");
+}

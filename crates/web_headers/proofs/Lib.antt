@@ -1,0 +1,3 @@
+pub mod PrintedListLemmas
+pub mod ValueListLemmas
+pub mod ItemTextLemmas

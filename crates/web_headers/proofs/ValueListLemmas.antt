@@ -1,0 +1,72 @@
+-- The items of values, value by value.
+use Rattle.std.proofs.Common.{◌≡◌, ℕ, Bool, true, false, not, List, [], ◌∷◌, ◌++◌, map, filter, cond, Option, None, Some, refl}
+use Rattle.std.specs.List.{flat_map, filter_map, list_all, slice_split}
+use Rattle.std.specs.Prelude.{slice_get}
+use Rattle.std.proofs.lemmas.List.{map-append}
+use Rattle.std.proofs.lemmas.List.Elements.{filter-append, filter_map-append}
+use Rattle.std.proofs.lemmas.List.Sums.{AllPass-from_list_all, list_all-from_AllPass}
+use Rattle.http_header.specs.Token.{is_visible_or_blank}
+use Rattle.http_header.specs.FieldValue.{FieldValue, IsVisibleAscii, is_visible_text}
+use Rattle.web_texts.specs.Blanks.{trimmed}
+use Rattle.web_texts.specs.Pieces.{Rule, pieces}
+use Rattle.web_texts.specs.PieceItems.{is_comma, is_empty, one_or_none, item_of_piece}
+use Rattle.web_headers.specs.HeaderReaders.{value_bytes, items_of_value, header_text_of, first_text_of, comma_list_of, piece_list_of, each_comma, comma_items}
+
+-- what the values that are left add, and whether all of them are text
+pub record SaysRest {M T : Type 0} (rule : Rule M) (read : List ℕ → Option T) (out : List T) (left all : List FieldValue) : Type 0 where
+  pub said : out ++ flat_map (items_of_value rule read) (value_bytes left) ≡ flat_map (items_of_value rule read) (value_bytes all)
+  pub texts : list_all is_visible_text (value_bytes left) ≡ list_all is_visible_text (value_bytes all)
+
+by_cases : (bs : List ℕ) (b : Bool) → list_all is_visible_or_blank bs ≡ b → (IsVisibleAscii bs → ⊥) → list_all is_visible_or_blank bs ≡ false
+by_cases bs true e unfit = absurd (unfit (AllPass-from_list_all is_visible_or_blank bs e))
+by_cases bs false e unfit = e
+
+pub is_text : (bs : List ℕ) → IsVisibleAscii bs → header_text_of bs ≡ Some bs
+is_text bs fits = rw (list_all-from_AllPass is_visible_or_blank bs fits) refl
+
+pub no_text : (bs : List ℕ) → (IsVisibleAscii bs → ⊥) → header_text_of bs ≡ None
+no_text bs unfit = rw (by_cases bs (list_all is_visible_or_blank bs) refl unfit) refl
+
+-- the first value
+
+pub first_is : (values : List FieldValue) (value : FieldValue) → Some value ≡ slice_get values 0 → first_text_of (value_bytes values) ≡ header_text_of value.bytes
+first_is [] value e = absurd (cc)
+first_is (v ∷ more) value e = let same : v ≡ value = cc in rw same refl
+
+pub first_is_none : (values : List FieldValue) → None ≡ slice_get values 0 → first_text_of (value_bytes values) ≡ None
+first_is_none [] e = refl
+first_is_none (v ∷ more) e = absurd (cc)
+
+-- at each comma
+
+pub comma_pieces : (text : List ℕ) → pieces each_comma (record {}) text ≡ slice_split is_comma text
+comma_pieces [] = refl
+comma_pieces (b ∷ rest) = rw (comma_pieces rest) refl
+
+head_said : {T : Type 0} (read : List ℕ → Option T) (item : List ℕ) (empty : Bool) (said : Option T) (items : List (List ℕ)) → read item ≡ said
+    → cond empty [] (one_or_none said) ++ filter_map read items ≡ filter_map read (cond (not empty) (item ∷ items) items)
+head_said read item true said items e = refl
+head_said read item false None items e = rw e refl
+head_said read item false (Some x) items e = rw e refl
+
+parts_said : {T : Type 0} (read : List ℕ → Option T) (parts : List (List ℕ))
+    → flat_map (item_of_piece read) parts ≡ filter_map read (filter (λ item. not (is_empty item)) (map trimmed parts))
+parts_said read [] = refl
+parts_said read (part ∷ parts) =
+    rw (parts_said read parts) (head_said read (trimmed part) (is_empty (trimmed part)) (read (trimmed part)) _ refl)
+
+-- The items of all values are those of each value in turn.
+values_said : {T : Type 0} (read : List ℕ → Option T) (values : List (List ℕ)) → flat_map (items_of_value each_comma read) values ≡ filter_map read (comma_items values)
+values_said read [] = refl
+values_said read (value ∷ values) =
+    rw (
+      map-append trimmed (slice_split is_comma value) (flat_map (slice_split is_comma) values),
+      filter-append (λ item. not (is_empty item)) (map trimmed (slice_split is_comma value)) (map trimmed (flat_map (slice_split is_comma) values)),
+      filter_map-append read (filter (λ item. not (is_empty item)) (map trimmed (slice_split is_comma value))) (filter (λ item. not (is_empty item)) (map trimmed (flat_map (slice_split is_comma) values))),
+      ← parts_said read (slice_split is_comma value),
+      ← values_said read values,
+      comma_pieces value,
+    ) refl
+
+pub commas_said : {T : Type 0} (read : List ℕ → Option T) (values : List (List ℕ)) → piece_list_of each_comma read values ≡ comma_list_of read values
+commas_said read values = rw (values_said read values) refl

@@ -1,0 +1,9 @@
+pub mod CacheDirectives
+pub mod Codings
+pub mod DateHeaders
+pub mod HeaderReaders
+pub mod ListHeaders
+pub mod Preferences
+pub mod PrintedLists
+pub mod TypedHeaders
+pub mod ValueHeaders
