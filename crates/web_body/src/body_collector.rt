@@ -76,6 +76,14 @@ impl<S: Source> Collector<S> {
         }
     }
 
+    /// What is left of the payload.
+    pub fn into_payload(self) -> Payload<S>
+        ensures { result ≡ self.payload }
+    {
+        let Collector { payload, .. } = self;
+        payload
+    }
+
     /// The limit, in bytes.
     pub fn limit(&self) -> usize
         ensures { result ≡ self.now.limit }

@@ -3,8 +3,10 @@
 
 mod body_collector;
 mod collecting;
+mod form_error;
 mod head_tests;
 mod held;
+mod json_error;
 mod marks;
 mod message_body;
 mod payload;
@@ -13,10 +15,16 @@ mod poll;
 
 pub use body_collector::Collector;
 pub use collecting::Unread;
-pub use head_tests::Declared;
+pub use form_error::UrlencodedError;
+pub use head_tests::{Declared, declared_length, is_coded};
+pub use json_error::JsonPayloadError;
 pub use marks::Marks;
 pub use message_body::{DEFAULT_LIMIT, HttpMessageBody, PayloadError};
 pub use payload::Payload;
 pub use payload_config::PayloadConfig;
 pub use poll::{Poll, Step, pending_count_law};
 pub use web_request::Mark;
+pub use web_values::{
+    JsonFault, ReadFault, ReadJson, ReadPairs, WriteFault, WriteJson, WritePairs, decode_form,
+    decode_json, form_pairs, holds_float, pairs_text, read_value, write_form, write_value,
+};

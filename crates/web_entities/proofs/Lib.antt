@@ -1,4 +1,5 @@
 pub mod ContentRangeLemmas
 pub mod EntityTagLemmas
+pub mod PlainTextLemmas
 pub mod QuotedValueLemmas
 pub mod RawDispositionLemmas

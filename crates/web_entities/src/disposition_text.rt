@@ -1,5 +1,5 @@
 //! The text that a disposition prints.
-ghost use Rattle.std.specs.Prelude.{◌≡◌, flat_map};
+ghost use Rattle.std.specs.Prelude.{◌≡◌, IsTrue, flat_map};
 ghost use Rattle.std.specs.Str.{chars};
 ghost use Rattle.std.specs.Fmt.{WritesOnOk};
 ghost use Rattle.web_entities.specs.DispositionTexts.{is_escaped, escaped_char};
@@ -34,10 +34,26 @@ impl fmt::Display for Escaped {
     }
 }
 
+/// Whether no character needs a backslash.
+#[tactic(auto, using(crate::proofs::PlainTextLemmas::plain_more))]
+fn is_plain(text: &str) -> bool
+    ensures { IsTrue result → flat_map escaped_char (chars text.now) ≡ text.now }
+{
+    for c in text.chars() {
+        if needs_backslash(c) {
+            return false;
+        }
+    }
+    true
+}
+
 fn write_escaped<W: fmt::Write>(f: &mut fmt::Formatter<W>, text: &str) -> fmt::Result
     ensures { WritesOnOk W.write_str_gives f.old result
         (flat_map escaped_char (chars text.now)) f.new }
 {
+    if is_plain(text) {
+        return f.write_str(text);
+    }
     for c in text.chars() {
         write!(f, "{}", Escaped(c))?;
     }

@@ -1,4 +1,5 @@
-//! Tests of `web_entities`: entity tags, ranges, conditions on tags, and dispositions of contents.
+//! Tests of `web_entities` and `web_negotiate`: entity tags, ranges, conditions on tags,
+//! dispositions of contents, and choices.
 //!
 //! Values stand in tables beside what is expected of them, which is written by hand.
 #![tactic(auto)]
@@ -7,3 +8,5 @@
 mod compare;
 #[cfg(test)]
 mod entity_headers;
+#[cfg(test)]
+mod negotiation;

@@ -2,7 +2,7 @@
 
 use http::StatusCode;
 use std::fmt;
-use web_body::PayloadError;
+use web_body::{JsonFault, JsonPayloadError, PayloadError, ReadFault, UrlencodedError, WriteFault};
 use web_texts::{ContentTypeError, InvalidHeaderValue, ParseError, Text};
 
 /// Why a header could not be set.
@@ -29,6 +29,13 @@ pub enum IoKind {
 pub enum Cause {
     /// A body could not be collected: 413 for `Overflow`, otherwise 400.
     Payload(PayloadError),
+    /// A JSON body gave no value, or a value could not be written as JSON: 413 above the limit, 500
+    /// for `Serialize`, that of the inner error for `Payload`, otherwise 400.
+    Json(JsonPayloadError),
+    /// A form gave no value, or a value could not be written as a form: 413 above the limit, 411
+    /// for `UnknownLength`, 415 for `ContentType`, that of the inner error for `Payload`, otherwise
+    /// 400.
+    Form(UrlencodedError),
     /// The content type of a request is not usable: 400.
     ContentType(ContentTypeError),
     /// A header of a request could not be read: 400.
@@ -37,6 +44,12 @@ pub enum Cause {
     HeaderValue(InvalidHeaderValue),
     /// A header could not be set: 500.
     Http(HttpError),
+    /// A reader refused what it was given: 400.
+    Read(ReadFault),
+    /// A JSON text that no body gave could not be read: 500.
+    JsonText(JsonFault),
+    /// A writer refused its value: 500.
+    Write(WriteFault),
     /// A text was not UTF-8: 400.
     Utf8,
     /// Input or output failed: 404 for `NotFound`, 403 for `PermissionDenied`, otherwise 500.
@@ -84,10 +97,15 @@ impl fmt::Display for Cause {
     fn fmt<W: fmt::Write>(&self, f: &mut fmt::Formatter<W>) -> fmt::Result {
         match self {
             Cause::Payload(fault) => write!(f, "{fault}"),
+            Cause::Json(fault) => write!(f, "{fault}"),
+            Cause::Form(fault) => write!(f, "{fault}"),
             Cause::ContentType(fault) => write!(f, "{fault}"),
             Cause::Parse(fault) => write!(f, "{fault}"),
             Cause::HeaderValue(fault) => write!(f, "{fault}"),
             Cause::Http(fault) => write!(f, "{fault}"),
+            Cause::Read(fault) => write!(f, "{fault}"),
+            Cause::JsonText(fault) => write!(f, "{fault}"),
+            Cause::Write(fault) => write!(f, "{fault}"),
             Cause::Utf8 => f.write_str("invalid UTF-8"),
             Cause::Io(kind) => write!(f, "{kind}"),
             Cause::Custom { status: _, text } => f.write_str(text.as_str()),

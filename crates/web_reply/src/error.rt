@@ -1,5 +1,6 @@
 //! Errors and their replies.
 ghost use Rattle.std.specs.Prelude.{◌≡◌, ℕ, IfOk, OnOk, OnErr};
+ghost use Rattle.web_reply.specs.Causes.{form_status, json_status, payload_status};
 ghost use Rattle.web_reply.specs.Replies.{Fault, Reply};
 ghost use Rattle.web_reply.specs.declared.body.WholeBody.{WholeBody};
 
@@ -13,7 +14,7 @@ use std::alloc::Global;
 use std::fmt;
 use std::fmt::Display;
 use std::marker::Model;
-use web_body::PayloadError;
+use web_body::{JsonFault, JsonPayloadError, PayloadError, ReadFault, UrlencodedError, WriteFault};
 use web_texts::{ContentTypeError, InvalidHeaderValue, NoMemory, ParseError};
 
 /// A result whose error becomes a reply.
@@ -52,13 +53,15 @@ impl ResponseError for Cause {
 
     fn status_code(&self) -> StatusCode {
         match self {
-            Cause::Payload(PayloadError::Overflow) => StatusCode::PAYLOAD_TOO_LARGE,
-            Cause::Payload(_) => StatusCode::BAD_REQUEST,
+            Cause::Payload(fault) => payload_status(fault),
+            Cause::Json(fault) => json_status(fault),
+            Cause::Form(fault) => form_status(fault),
             Cause::ContentType(_) | Cause::Parse(_) | Cause::HeaderValue(_) => {
                 StatusCode::BAD_REQUEST
             }
             Cause::Http(_) => StatusCode::INTERNAL_SERVER_ERROR,
-            Cause::Utf8 => StatusCode::BAD_REQUEST,
+            Cause::Read(_) | Cause::Utf8 => StatusCode::BAD_REQUEST,
+            Cause::JsonText(_) | Cause::Write(_) => StatusCode::INTERNAL_SERVER_ERROR,
             Cause::Io(IoKind::NotFound) => StatusCode::NOT_FOUND,
             Cause::Io(IoKind::PermissionDenied) => StatusCode::FORBIDDEN,
             Cause::Io(IoKind::Other) => StatusCode::INTERNAL_SERVER_ERROR,
@@ -74,6 +77,43 @@ impl ResponseError for Cause {
             PLAIN_TEXT,
             Bytes::from_string(text)?,
         )
+    }
+}
+
+fn payload_status(fault: &PayloadError) -> StatusCode
+    ensures { result ≡ payload_status fault.now }
+{
+    match fault {
+        PayloadError::Overflow => StatusCode::PAYLOAD_TOO_LARGE,
+        PayloadError::UnknownLength | PayloadError::Io | PayloadError::UnsupportedEncoding => {
+            StatusCode::BAD_REQUEST
+        }
+    }
+}
+
+fn json_status(fault: &JsonPayloadError) -> StatusCode
+    ensures { result ≡ json_status fault.now }
+{
+    match fault {
+        JsonPayloadError::OverflowKnownLength { .. } | JsonPayloadError::Overflow { .. } => {
+            StatusCode::PAYLOAD_TOO_LARGE
+        }
+        JsonPayloadError::ContentType | JsonPayloadError::Deserialize(_) => StatusCode::BAD_REQUEST,
+        JsonPayloadError::Serialize(_) => StatusCode::INTERNAL_SERVER_ERROR,
+        JsonPayloadError::Payload(fault) => payload_status(fault),
+    }
+}
+
+fn form_status(fault: &UrlencodedError) -> StatusCode
+    ensures { result ≡ form_status fault.now }
+{
+    match fault {
+        UrlencodedError::Overflow { .. } => StatusCode::PAYLOAD_TOO_LARGE,
+        UrlencodedError::UnknownLength => StatusCode::LENGTH_REQUIRED,
+        UrlencodedError::ContentType => StatusCode::UNSUPPORTED_MEDIA_TYPE,
+        UrlencodedError::Chunked | UrlencodedError::Encoding => StatusCode::BAD_REQUEST,
+        UrlencodedError::Parse(_) | UrlencodedError::Serialize(_) => StatusCode::BAD_REQUEST,
+        UrlencodedError::Payload(fault) => payload_status(fault),
     }
 }
 
@@ -168,6 +208,71 @@ impl From<InvalidHeaderValue> for Error {
     fn from(fault: InvalidHeaderValue) -> Error {
         Error {
             cause: Cause::HeaderValue(fault),
+        }
+    }
+}
+
+impl From<JsonPayloadError> for Error {
+    ghost use Rattle.web_reply.specs.Replies.{fault_of};
+    ghost use Rattle.web_reply.specs.declared.cause.Cause.TheVariants.{Json};
+
+    ghost from_gives = { λ fault e. e ≡ fault_of (Json fault) };
+
+    fn from(fault: JsonPayloadError) -> Error {
+        Error {
+            cause: Cause::Json(fault),
+        }
+    }
+}
+
+impl From<UrlencodedError> for Error {
+    ghost use Rattle.web_reply.specs.Replies.{fault_of};
+    ghost use Rattle.web_reply.specs.declared.cause.Cause.TheVariants.{Form};
+
+    ghost from_gives = { λ fault e. e ≡ fault_of (Form fault) };
+
+    fn from(fault: UrlencodedError) -> Error {
+        Error {
+            cause: Cause::Form(fault),
+        }
+    }
+}
+
+impl From<ReadFault> for Error {
+    ghost use Rattle.web_reply.specs.Replies.{fault_of};
+    ghost use Rattle.web_reply.specs.declared.cause.Cause.TheVariants.{Read};
+
+    ghost from_gives = { λ fault e. e ≡ fault_of (Read fault) };
+
+    fn from(fault: ReadFault) -> Error {
+        Error {
+            cause: Cause::Read(fault),
+        }
+    }
+}
+
+impl From<JsonFault> for Error {
+    ghost use Rattle.web_reply.specs.Replies.{fault_of};
+    ghost use Rattle.web_reply.specs.declared.cause.Cause.TheVariants.{JsonText};
+
+    ghost from_gives = { λ fault e. e ≡ fault_of (JsonText fault) };
+
+    fn from(fault: JsonFault) -> Error {
+        Error {
+            cause: Cause::JsonText(fault),
+        }
+    }
+}
+
+impl From<WriteFault> for Error {
+    ghost use Rattle.web_reply.specs.Replies.{fault_of};
+    ghost use Rattle.web_reply.specs.declared.cause.Cause.TheVariants.{Write};
+
+    ghost from_gives = { λ fault e. e ≡ fault_of (Write fault) };
+
+    fn from(fault: WriteFault) -> Error {
+        Error {
+            cause: Cause::Write(fault),
         }
     }
 }

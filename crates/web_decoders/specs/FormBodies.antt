@@ -1,0 +1,77 @@
+-- Collectors of forms, and the results that they may give.
+use Rattle.std.specs.Prelude.{◌≡◌, ℕ, List, [], Result, Ok, Err, refl}
+use Rattle.web_texts.specs.declared.text.Pair.{Pair}
+use Rattle.web_request.specs.Feed.{Feed}
+use Rattle.web_values.specs.declared.faults.ReadFault.{ReadFault}
+use Rattle.web_values.specs.FormPairs.{form_pairs}
+use Rattle.web_values.specs.DecodedForms.{PairReader, DecodesForm, decoded_form}
+use Rattle.web_body.specs.declared.collecting.Unread.TheVariants.{TooLong, Failed}
+use Rattle.web_body.specs.declared.message_body.PayloadError.TheVariants.{Io}
+use Rattle.web_body.specs.declared.form_error.UrlencodedError.{UrlencodedError}
+use Rattle.web_body.specs.declared.form_error.UrlencodedError.TheVariants as form
+use Rattle.web_body.specs.declared.payload.Payload.{Payload}
+use Rattle.web_body.specs.Collector.{Collector, Read}
+use Rattle.web_decoders.specs.declared.form_head.FormHead.{FormHead}
+use Rattle.web_decoders.specs.Decoding.{Decoding, new_decoding, decoding_gives, DecodesSome}
+use Rattle.web_decoders.specs.Decoding.{CameBy}
+use Rattle.web_decoders.specs.FormHeads.{form_refusal}
+use Rattle.web_decoders.specs.JsonBodies.{or_all_some}
+
+-- the limit where no other is chosen, in bytes
+abbrev pub default_form_limit : ℕ
+default_form_limit = 32768
+
+abbrev pub as_parse : {T : Type 0} → Result T ReadFault → Result T UrlencodedError
+as_parse (Ok x) = Ok x
+as_parse (Err e) = Err (form.Parse e)
+
+-- what may come of a body that was read under this limit
+abbrev pub FormAnswer : {T : Type 0}
+    → PairReader T → ℕ → Read → Result T UrlencodedError → Type 0
+FormAnswer reads limit (Err (TooLong size)) x = x ≡ Err (form.Overflow size limit)
+FormAnswer reads limit (Err Failed) x = x ≡ Err (form.Payload Io)
+FormAnswer {T} reads limit (Ok b) x =
+    (y : Result T ReadFault) × DecodesForm reads b y × (x ≡ as_parse y)
+
+-- what comes of it where the reader is a function
+abbrev pub form_answer : {T : Type 0}
+    → (List Pair → Result T ReadFault) → ℕ → Read → Result T UrlencodedError
+form_answer read limit (Err (TooLong size)) = Err (form.Overflow size limit)
+form_answer read limit (Err Failed) = Err (form.Payload Io)
+form_answer read limit (Ok b) = as_parse (decoded_form read b)
+
+pub record FormBody (S : Type 0) : Type 0 where
+  -- the body under its limit, and its refusal by the head
+  pub decoding : Decoding ℕ S UrlencodedError
+  pub head : FormHead
+
+-- a collector of a form that was not polled yet
+abbrev pub new_form_body : {S : Type 0} → Payload S → ℕ → FormHead → FormBody S
+new_form_body payload limit head = record {
+  decoding = new_decoding payload limit limit (form_refusal head limit);
+  head = head;
+}
+
+abbrev pub form_gives : {S T : Type 0} → (S → Feed) → PairReader T
+    → FormBody S → ℕ → Result T UrlencodedError → Type 0
+form_gives feed reads b n x = decoding_gives feed (λ d. FormAnswer reads d) b.decoding n x
+
+-- It is not the case that nothing is allowed.
+pub form_answer_some : {T : Type 0} (reads : PairReader T) (limit : ℕ)
+    → DecodesSome (FormAnswer reads limit)
+form_answer_some reads limit (Err (TooLong size)) none =
+    none (Err (form.Overflow size limit)) refl
+form_answer_some reads limit (Err Failed) none = none (Err (form.Payload Io)) refl
+form_answer_some reads limit (Ok b) none =
+    or_all_some (reads (form_pairs b)) (Err (record { text = [] }))
+    (λ y h. none (as_parse y) (y, h, refl))
+
+-- What a result says of how the body was read, by the counts of its payload. A refusal by the head
+-- is none of them but for `Overflow`.
+abbrev pub FormCame : {S T : Type 0} → (S → Feed) → Collector S
+    → Result T UrlencodedError → Collector S → Type 0
+FormCame feed old (Ok value) new = CameBy feed old (Ok []) new
+FormCame feed old (Err (form.Parse e)) new = CameBy feed old (Ok []) new
+FormCame feed old (Err (form.Overflow size limit)) new = CameBy feed old (Err (TooLong size)) new
+FormCame feed old (Err (form.Payload Io)) new = CameBy feed old (Err Failed) new
+FormCame feed old (Err _) new = ⊥

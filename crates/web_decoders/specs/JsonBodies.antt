@@ -1,0 +1,96 @@
+-- Collectors of JSON bodies, and the results that they may give.
+use Rattle.std.specs.Prelude.{◌≡◌, ℕ, Bool, true, false, Option, None, Some, Result, Ok, Err}
+use Rattle.std.specs.Prelude.{[], refl}
+use Rattle.std.proofs.Common.{inl, inr}
+use Rattle.serde_json.specs.Data.{Data}
+use Rattle.serde_json.specs.Written.{has_float}
+use Rattle.web_request.specs.Feed.{Feed}
+use Rattle.web_values.specs.declared.faults.JsonFault.{JsonFault}
+use Rattle.web_values.specs.declared.faults.JsonFault.TheVariants as fault
+use Rattle.web_values.specs.Answers.{OrAll}
+use Rattle.web_values.specs.JsonValues.{body_value}
+use Rattle.web_values.specs.DecodedJson.{JsonReader, as_target, decoded_json}
+use Rattle.web_values.specs.DecodedJson.{DecodesJson, DecodesValue, DecodesData}
+use Rattle.web_values.specs.declared.faults.ReadFault.{ReadFault}
+use Rattle.web_body.specs.declared.collecting.Unread.TheVariants.{TooLong, Failed}
+use Rattle.web_body.specs.declared.message_body.PayloadError.TheVariants.{Io}
+use Rattle.web_body.specs.declared.json_error.JsonPayloadError.{JsonPayloadError}
+use Rattle.web_body.specs.declared.json_error.JsonPayloadError.TheVariants as json
+use Rattle.web_body.specs.declared.payload.Payload.{Payload}
+use Rattle.web_body.specs.Collector.{Collector, Read}
+use Rattle.web_decoders.specs.declared.json_head.JsonHead.{JsonHead}
+use Rattle.web_decoders.specs.Decoding.{Decoding, new_decoding, decoding_gives, DecodesSome}
+use Rattle.web_decoders.specs.Decoding.{CameBy}
+use Rattle.web_decoders.specs.JsonHeads.{json_refusal}
+
+-- the limit where no other is chosen, in bytes
+abbrev pub default_json_limit : ℕ
+default_json_limit = 2097152
+
+abbrev pub as_deserialize : {T : Type 0} → Result T JsonFault → Result T JsonPayloadError
+as_deserialize (Ok x) = Ok x
+as_deserialize (Err e) = Err (json.Deserialize e)
+
+-- what may come of a body that was read under this limit
+abbrev pub JsonAnswer : {T : Type 0}
+    → JsonReader T → ℕ → Read → Result T JsonPayloadError → Type 0
+JsonAnswer reads limit (Err (TooLong size)) x = x ≡ Err (json.Overflow limit)
+JsonAnswer reads limit (Err Failed) x = x ≡ Err (json.Payload Io)
+JsonAnswer {T} reads limit (Ok b) x =
+    (y : Result T JsonFault) × DecodesJson reads b y × (x ≡ as_deserialize y)
+
+-- what comes of it where the reader is a function
+abbrev pub json_answer : {T : Type 0}
+    → (Data → Result T ReadFault) → ℕ → Read → Result T JsonPayloadError
+json_answer read limit (Err (TooLong size)) = Err (json.Overflow limit)
+json_answer read limit (Err Failed) = Err (json.Payload Io)
+json_answer read limit (Ok b) = as_deserialize (decoded_json read b)
+
+pub record JsonBody (S : Type 0) : Type 0 where
+  -- the body under its limit, and its refusal by the head
+  pub decoding : Decoding ℕ S JsonPayloadError
+  pub head : JsonHead
+
+-- a collector of a JSON body that was not polled yet
+abbrev pub new_json_body : {S : Type 0} → Payload S → ℕ → JsonHead → JsonBody S
+new_json_body payload limit head = record {
+  decoding = new_decoding payload limit limit (json_refusal head);
+  head = head;
+}
+
+abbrev pub json_gives : {S T : Type 0} → (S → Feed) → JsonReader T
+    → JsonBody S → ℕ → Result T JsonPayloadError → Type 0
+json_gives feed reads b n x = decoding_gives feed (λ d. JsonAnswer reads d) b.decoding n x
+
+-- It is not the case that nothing is allowed.
+pub or_all_some : {T : Type 0} (allowed : T → Type 0) → T
+    → ((x : T) → OrAll allowed x → ⊥) → ⊥
+or_all_some allowed x none = none x (inr (λ y p. none y (inl p)))
+
+data_some : {T : Type 0} (reads : JsonReader T) (has : Bool) (d : Data)
+    → ((y : Result T JsonFault) → DecodesData reads has d y → ⊥) → ⊥
+data_some reads true d none = none (Err fault.Float) refl
+data_some reads false d none =
+    or_all_some (reads d) (Err (record { text = [] })) (λ y h. none (as_target y) (y, h, refl))
+
+value_some : {T : Type 0} (reads : JsonReader T) (d : Option Data)
+    → ((y : Result T JsonFault) → DecodesValue reads d y → ⊥) → ⊥
+value_some reads None none = none (Err fault.Syntax) refl
+value_some reads (Some d) none = data_some reads (has_float d) d none
+
+pub json_answer_some : {T : Type 0} (reads : JsonReader T) (limit : ℕ)
+    → DecodesSome (JsonAnswer reads limit)
+json_answer_some reads limit (Err (TooLong size)) none = none (Err (json.Overflow limit)) refl
+json_answer_some reads limit (Err Failed) none = none (Err (json.Payload Io)) refl
+json_answer_some reads limit (Ok b) none =
+    value_some reads (body_value b) (λ y h. none (as_deserialize y) (y, h, refl))
+
+-- What a result says of how the body was read, by the counts of its payload. A refusal by the head
+-- is none of them.
+abbrev pub JsonCame : {S T : Type 0} → (S → Feed) → Collector S
+    → Result T JsonPayloadError → Collector S → Type 0
+JsonCame feed old (Ok value) new = CameBy feed old (Ok []) new
+JsonCame feed old (Err (json.Deserialize e)) new = CameBy feed old (Ok []) new
+JsonCame feed old (Err (json.Overflow limit)) new = CameBy feed old (Err (TooLong 0)) new
+JsonCame feed old (Err (json.Payload Io)) new = CameBy feed old (Err Failed) new
+JsonCame feed old (Err _) new = ⊥

@@ -1,0 +1,239 @@
+//! Choices among what a client accepts, and the positions that byte ranges select.
+use crate::compare::assert_same;
+use http_header::{HeaderMap, HeaderValue};
+use std::alloc::Global;
+use std::fmt::Display;
+use std::process::Abort;
+use web_entities::ByteRangeSpec;
+use web_headers::{Accept, AcceptEncoding, AcceptLanguage, Encoding, Header};
+use web_negotiate::prelude::*;
+use web_texts::ReadText;
+
+/// The value of a header, its items as they are ranked, and the one that is preferred.
+type Row = (&'static str, &'static [&'static str], Option<&'static str>);
+
+const BROWSER: &str = "text/html,application/xhtml+xml,application/xml;q=0.9,image/avif,\
+    image/webp,image/apng,*/*;q=0.8,application/signed-exchange;v=b3;q=0.7";
+
+const ACCEPT: &[Row] = &[
+    (
+        BROWSER,
+        &[
+            "text/html",
+            "application/xhtml+xml",
+            "image/avif",
+            "image/webp",
+            "image/apng",
+            "application/xml",
+            "*/*",
+            "application/signed-exchange; v=b3",
+        ],
+        Some("text/html"),
+    ),
+    ("", &[], Some("*/*")),
+    ("a/b;q=0", &["a/b"], Some("*/*")),
+    (
+        "text/*;q=0.5, */*;q=0.5, text/plain;q=0.5",
+        &["text/plain", "text/*", "*/*"],
+        Some("text/*"),
+    ),
+    (
+        "text/*;q=1.001,,application/json;Q=0.7,,*/html;q=1",
+        &["*/html", "application/json"],
+        Some("*/html"),
+    ),
+    (
+        "*/*, text/*+x, a/b;c=\"d e\", */html",
+        &["a/b; c=\"d e\"", "text/*+x", "*/*", "*/html"],
+        Some("*/*"),
+    ),
+    (
+        "text/html;level=1; q=0 ,\ttext/plain;q=0.5",
+        &["text/plain", "text/html; level=1"],
+        Some("text/plain"),
+    ),
+];
+
+const ACCEPT_LANGUAGE: &[Row] = &[
+    ("fr;q=0.5, en", &["en", "fr"], Some("en")),
+    ("en;q=0", &["en"], Some("*")),
+    (
+        "de-DE, en; q=0, de-DE; q=0",
+        &["de-DE", "en", "de-DE"],
+        Some("de-DE"),
+    ),
+    ("De ; q=0.3, de;q=1.000, d;x=y", &["de", "De"], Some("de")),
+    ("fr;q=0.5;x=1, *, fr", &["*", "fr"], Some("*")),
+    ("", &[], Some("*")),
+];
+
+const ACCEPT_ENCODING: &[Row] = &[
+    ("", &[], Some("*")),
+    ("*;q=0.5, identity;q=0", &["*", "identity"], Some("*")),
+    ("gzip;q=0, identity;q=0", &["gzip", "identity"], None),
+    ("*;q=0", &["*"], None),
+    ("br;q=0, gzip;q=0", &["br", "gzip"], Some("identity")),
+    ("*, gzip ;q=1.000", &["gzip", "*"], Some("gzip")),
+    (
+        "x-gzip;q=0.001, identity",
+        &["identity", "x-gzip"],
+        Some("identity"),
+    ),
+    (
+        "*, identity, x, deflate, GZIP, zstd, br;q=0.9",
+        &["zstd", "gzip", "deflate", "x", "*", "identity", "br"],
+        Some("zstd"),
+    ),
+];
+
+/// The value of Accept-Encoding, the codings that are supported, and the one that is sent.
+type Negotiated = (&'static str, &'static [&'static str], Option<&'static str>);
+
+const NEGOTIATED: &[Negotiated] = &[
+    (
+        "gzip, identity; q=0.5, *;q=0",
+        &["gzip", "identity"],
+        Some("gzip"),
+    ),
+    ("*;q=0.5, identity;q=0", &["br"], None),
+    ("gzip;q=0, identity;q=0", &["gzip", "identity"], None),
+    ("", &[], None),
+    ("", &["gzip"], Some("identity")),
+    ("gzip, br", &["identity", "identity"], Some("identity")),
+    ("gzip, br", &["deflate", "gzip", "br"], Some("br")),
+    ("gzip, br", &[], None),
+    ("*", &["x"], Some("identity")),
+    ("*;q=0", &["identity"], None),
+    ("identity", &["gzip"], Some("identity")),
+    ("identity;q=0", &["identity"], None),
+    ("identity;q=0, identity;q=0.5", &["x"], Some("identity")),
+    ("x, y", &["gzip", "x"], Some("x")),
+    ("X", &["x"], Some("identity")),
+    ("deflate, zstd;q=0.9", &["zstd", "deflate"], Some("deflate")),
+    ("gzip;q=0", &["gzip"], Some("identity")),
+];
+
+/// A range, the length, and the first and the last position.
+type Selected = (ByteRangeSpec, u64, Option<(u64, u64)>);
+
+const SELECTED: &[Selected] = &[
+    (ByteRangeSpec::Last(1200), 1000, Some((0, 999))),
+    (ByteRangeSpec::Last(0), 10, None),
+    (ByteRangeSpec::From(10), 10, None),
+    (ByteRangeSpec::FromTo(9, u64::MAX), 10, Some((9, 9))),
+    (ByteRangeSpec::Last(u64::MAX), 0, None),
+    (ByteRangeSpec::From(0), 0, None),
+    (ByteRangeSpec::FromTo(1, 0), 10, None),
+    (ByteRangeSpec::FromTo(10, 11), 10, None),
+    (ByteRangeSpec::FromTo(0, 0), 10, Some((0, 0))),
+    (ByteRangeSpec::FromTo(1, 11), 10, Some((1, 9))),
+    (ByteRangeSpec::From(5), 10, Some((5, 9))),
+    (ByteRangeSpec::Last(9), 1000, Some((991, 999))),
+    (ByteRangeSpec::From(0), u64::MAX, Some((0, u64::MAX - 1))),
+];
+
+fn header_of<H: Header>(rt: &impl Abort, alloc: Global, value: &str) -> H {
+    let mut map = HeaderMap::new(alloc);
+    let value = HeaderValue::from_bytes(alloc, value.as_bytes()).expect(rt, "a value");
+    let _found = map.append(H::name(), value).expect(rt, "room");
+    H::parse(alloc, &map).expect(rt, "a header")
+}
+
+fn assert_text<T: Display + Drop>(
+    rt: &impl Abort,
+    alloc: Global,
+    found: Option<&T>,
+    expected: Option<&str>,
+) {
+    match found {
+        Some(item) => {
+            let text = format!(in alloc; "{item}").expect(rt, "memory");
+            assert_same(rt, Some(text.as_str()), expected);
+        }
+        None => assert_same(rt, None, expected),
+    }
+}
+
+fn assert_texts<T: Display + Drop>(
+    rt: &impl Abort,
+    alloc: Global,
+    items: Vec<T>,
+    expected: &[&str],
+) {
+    assert_same(rt, items.len(), expected.len());
+    for (i, item) in items.iter().enumerate() {
+        assert_text(rt, alloc, Some(item), expected.get(i).copied());
+    }
+}
+
+fn assert_media_types(rt: &impl Abort, alloc: Global, row: &Row) {
+    let header: Accept = header_of(rt, alloc, row.0);
+    assert_texts(rt, alloc, header.ranked(alloc).expect(rt, "memory"), row.1);
+    let preferred = header.preference(alloc).expect(rt, "memory");
+    assert_text(rt, alloc, Some(&preferred), row.2);
+}
+
+fn assert_languages(rt: &impl Abort, alloc: Global, row: &Row) {
+    let header: AcceptLanguage = header_of(rt, alloc, row.0);
+    assert_texts(rt, alloc, header.ranked(alloc).expect(rt, "memory"), row.1);
+    let preferred = header.preference(alloc).expect(rt, "memory");
+    assert_text(rt, alloc, Some(&preferred), row.2);
+}
+
+fn assert_codings(rt: &impl Abort, alloc: Global, row: &Row) {
+    let header: AcceptEncoding = header_of(rt, alloc, row.0);
+    assert_texts(rt, alloc, header.ranked(alloc).expect(rt, "memory"), row.1);
+    let preferred = header.preference(alloc).expect(rt, "memory");
+    assert_text(rt, alloc, preferred.as_ref(), row.2);
+}
+
+fn encodings_of(rt: &impl Abort, alloc: Global, texts: &[&str]) -> Vec<Encoding> {
+    let mut encodings = Vec::new(alloc);
+    for text in texts {
+        let encoding = Encoding::parse(alloc, text).expect(rt, "memory");
+        encodings.push(encoding).expect(rt, "memory");
+    }
+    encodings
+}
+
+fn assert_negotiated(rt: &impl Abort, alloc: Global, row: &Negotiated) {
+    let header: AcceptEncoding = header_of(rt, alloc, row.0);
+    let supported = encodings_of(rt, alloc, row.1);
+    let sent = header.negotiate(alloc, &supported).expect(rt, "memory");
+    assert_text(rt, alloc, sent.as_ref(), row.2);
+}
+
+#[test]
+fn media_types_are_ranked_and_preferred(rt: HostRuntime) {
+    for row in ACCEPT {
+        assert_media_types(&rt, rt.alloc(), row);
+    }
+}
+
+#[test]
+fn languages_are_ranked_and_preferred(rt: HostRuntime) {
+    for row in ACCEPT_LANGUAGE {
+        assert_languages(&rt, rt.alloc(), row);
+    }
+}
+
+#[test]
+fn codings_are_ranked_and_preferred(rt: HostRuntime) {
+    for row in ACCEPT_ENCODING {
+        assert_codings(&rt, rt.alloc(), row);
+    }
+}
+
+#[test]
+fn codings_to_send_are_negotiated(rt: HostRuntime) {
+    for row in NEGOTIATED {
+        assert_negotiated(&rt, rt.alloc(), row);
+    }
+}
+
+#[test]
+fn ranges_select_positions(rt: HostRuntime) {
+    for (spec, full_length, expected) in SELECTED {
+        assert_same(&rt, spec.to_satisfiable_range(*full_length), *expected);
+    }
+}

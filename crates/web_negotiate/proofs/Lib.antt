@@ -1,0 +1,2 @@
+pub mod GreatestLemmas
+pub mod RankingLemmas

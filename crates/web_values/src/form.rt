@@ -1,0 +1,35 @@
+//! Forms as `application/x-www-form-urlencoded` has them (the URL standard, section 5).
+ghost use Rattle.std.specs.Prelude.{◌≡◌, IfOk};
+ghost use Rattle.web_values.specs.FormPairs.{form_pairs, pairs_text};
+
+use form_urlencoded::Serializer;
+use std::alloc::Global;
+use web_texts::{NoMemory, Pair, Text};
+
+/// The names and values of a form, decoded, in their order. Bytes that are no UTF-8 are replaced by
+/// U+FFFD, and a `%` that two hexadecimal digits do not follow stands for itself; no form is
+/// refused.
+pub fn form_pairs(alloc: Global, bytes: &[u8]) -> Result<Vec<Pair>, NoMemory>
+    ensures { IfOk result (λ v. v.items ≡ form_pairs bytes.now) }
+{
+    let mut pairs = Vec::new(alloc);
+    for item in form_urlencoded::parse(alloc, bytes).into_owned() {
+        let (name, value) = item?;
+        pairs.push(Pair {
+            name: Text::from(name),
+            value: Text::from(value),
+        })?;
+    }
+    Ok(pairs)
+}
+
+/// The form of names and values, encoded, in their order.
+pub fn pairs_text(alloc: Global, pairs: &[Pair]) -> Result<Text, NoMemory>
+    ensures { IfOk result (λ t. t ≡ pairs_text pairs.now) }
+{
+    let mut form = Serializer::new(String::new(alloc));
+    for pair in pairs {
+        form.append_pair(pair.name.as_str(), pair.value.as_str())?;
+    }
+    Ok(Text::from(form.finish()))
+}
