@@ -1,8 +1,14 @@
 //! The arguments of a request, which the first segment of its path chooses.
-use crate::layer;
+use crate::accept::Accept;
+use crate::body::{self, Collector, FormItem, JsonItem, WholeBytes, WholeText};
+use crate::connection::Connection;
+use crate::cookies;
+use crate::item::Item;
+use crate::lines::Lines;
+use crate::pairs::{FormPairs, PathPairs};
 use crate::reply::Refusal;
 use crate::request::{Request, Segment};
-use crate::script::{self, Mark};
+use crate::script::Mark;
 use std::borrow::Cow;
 
 /// The arguments of a handler.
@@ -10,57 +16,194 @@ pub enum Picked<'a> {
     Bytes(Cow<'a, [u8]>),
     /// Bytes that are UTF-8.
     Text(Cow<'a, [u8]>),
+    Json(Item<'a>),
+    Form(Item<'a>),
+    Either(Side, Item<'a>),
+    /// An item where there is one, and how many bytes others left.
+    Option(Option<Item<'a>>, usize),
+    /// An item, or the status of its refusal.
+    Result(Result<Item<'a>, u16>),
+    /// An item of a path or a query.
+    Pairs(Item<'a>),
+    Accept(Accept<'a>),
+    Connection(Box<Connection<'a>>),
+    Data(Data),
+    Raw(Vec<Mark<'a>>),
     Wait(u64),
     Other,
 }
 
+#[derive(Clone, Copy)]
+pub enum Side {
+    Left,
+    Right,
+}
+
+/// The numbers of a layer, of a request and of its connection.
+pub struct Data {
+    pub layer: u64,
+    pub local: u64,
+    pub connection: Option<u64>,
+}
+
+pub type Answer<'a> = Result<Picked<'a>, Refusal>;
+
 /// Arguments on their way.
 pub enum Arguments<'a> {
-    Bytes(Collector<'a>),
-    Text(Collector<'a>),
+    Bytes(Collector<'a, WholeBytes>),
+    Text(Collector<'a, WholeText>),
     Both(Box<Both<'a>>),
-    Wait(u64),
-    Other,
+    Json(Collector<'a, JsonItem>),
+    Form(Collector<'a, FormItem>),
+    Either(Collector<'a, WholeBytes>),
+    Option(Box<OptionAndBytes<'a>>),
+    Result(Collector<'a, JsonItem>),
+    Lines(Box<Lines<'a>>),
+    /// Those that wait for nothing.
+    Ready(Option<Answer<'a>>),
 }
 
 /// A text body and an argument that comes late, both on their way.
 pub struct Both<'a> {
-    collector: Collector<'a>,
+    collector: Collector<'a, WholeText>,
     text: Option<Cow<'a, [u8]>>,
     late: Late,
 }
 
+/// An item or none, and the bytes that it leaves, both on their way.
+pub struct OptionAndBytes<'a> {
+    json: Collector<'a, JsonItem>,
+    item: Option<Option<Item<'a>>>,
+    bytes: Collector<'a, WholeBytes>,
+    length: Option<usize>,
+}
+
 impl<'a> Arguments<'a> {
-    pub fn of(request: &Request<'a>, marks: Vec<Mark<'a>>) -> Arguments<'a> {
+    pub fn of(request: &Request<'a>, mut marks: Vec<Mark<'a>>) -> Arguments<'a> {
+        let marks = &mut marks;
         match request.segment {
-            Segment::Bytes => Arguments::Bytes(Collector::of(request, marks, false)),
-            Segment::Text => Arguments::Text(Collector::of(request, marks, true)),
+            Segment::Bytes => Arguments::Bytes(Collector::of(request, marks)),
+            Segment::Text => Arguments::Text(Collector::of(request, marks)),
             Segment::Both => Arguments::Both(Box::new(Both {
-                collector: Collector::of(request, marks, true),
+                collector: Collector::of(request, marks),
                 text: None,
                 late: Late::of(request),
             })),
-            Segment::Wait => Arguments::Wait(delay(request)),
-            Segment::Other => Arguments::Other,
+            Segment::Json => Arguments::Json(Collector::of(request, marks)),
+            Segment::Form => Arguments::Form(Collector::of(request, marks)),
+            Segment::Either => Arguments::Either(Collector::of(request, marks)),
+            Segment::Option => Arguments::Option(Box::new(OptionAndBytes {
+                json: Collector::of(request, marks),
+                item: None,
+                bytes: Collector::of(request, marks),
+                length: None,
+            })),
+            Segment::Result => Arguments::Result(Collector::of(request, marks)),
+            Segment::Lines => Arguments::Lines(Box::new(Lines::of(request, marks))),
+            _ => Arguments::Ready(Some(without_delay(request, marks))),
         }
     }
 
     /// The arguments, or their refusal, where they are there at this poll.
-    pub fn poll(&mut self) -> Option<Result<Picked<'a>, Refusal>> {
+    pub fn poll(&mut self, request: &Request<'a>) -> Option<Answer<'a>> {
         match self {
             Arguments::Bytes(collector) => Some(collector.poll()?.map(Picked::Bytes)),
-            Arguments::Text(collector) => Some(collector.poll_text()?.map(Picked::Text)),
+            Arguments::Text(collector) => Some(collector.poll()?.map(Picked::Text)),
             Arguments::Both(both) => Some(both.poll()?.map(Picked::Text)),
-            Arguments::Wait(delay) => Some(Ok(Picked::Wait(*delay))),
-            Arguments::Other => Some(Ok(Picked::Other)),
+            Arguments::Json(collector) => Some(collector.poll()?.map(Picked::Json)),
+            Arguments::Form(collector) => Some(collector.poll()?.map(Picked::Form)),
+            Arguments::Either(collector) => {
+                Some(collector.poll()?.and_then(|body| either(request, body)))
+            }
+            Arguments::Option(both) => both.poll(),
+            Arguments::Result(collector) => {
+                let item = collector.poll()?.map_err(|refusal| refusal.status);
+                Some(Ok(Picked::Result(item)))
+            }
+            Arguments::Lines(lines) => Some(lines.poll()?.map(|text| Picked::Text(text.into()))),
+            Arguments::Ready(answer) => answer.take(),
         }
+    }
+}
+
+/// Arguments that wait for nothing.
+fn without_delay<'a>(request: &Request<'a>, marks: &mut Vec<Mark<'a>>) -> Answer<'a> {
+    match request.segment {
+        Segment::Path => path(request),
+        Segment::Query => query(request),
+        Segment::Data => data(request),
+        Segment::Header => match Accept::read(&request.headers) {
+            Some(accept) => Ok(Picked::Accept(accept)),
+            None => Err(Refusal::of(400, "invalid header")),
+        },
+        Segment::Who => Ok(Picked::Connection(Box::new(Connection::of(request)))),
+        Segment::Cookies => {
+            let text = cookies::text(request).ok_or(Refusal::of(400, "cookie is not UTF-8"))?;
+            Ok(Picked::Text(text.into()))
+        }
+        Segment::Raw => Ok(Picked::Raw(std::mem::take(marks))),
+        Segment::Wait => Ok(Picked::Wait(delay(request))),
+        _ => Ok(Picked::Other),
+    }
+}
+
+fn path<'a>(request: &Request<'a>) -> Answer<'a> {
+    let item = Item::read_pairs(PathPairs(request.params.iter()));
+    item.map(Picked::Pairs).map_err(|fault| {
+        if request.layers.has_path_handler() {
+            Refusal::owned(418, format!("Path deserialize error: {fault}"))
+        } else {
+            Refusal::of(404, fault)
+        }
+    })
+}
+
+fn query<'a>(request: &Request<'a>) -> Answer<'a> {
+    let item = Item::read_pairs(FormPairs(request.target.query().as_bytes()));
+    item.map(Picked::Pairs).map_err(|fault| {
+        let refusal = Refusal::owned(400, format!("Query deserialize error: {fault}"));
+        refusal.handled(request.layers.has_query_handler())
+    })
+}
+
+fn data<'a>(request: &Request<'a>) -> Answer<'a> {
+    const NO_LAYER: &str = "Requested application data is not configured correctly. \
+                            View/enable debug logs for more details.";
+    const NO_LOCAL: &str = "Missing expected request extension data";
+    let layer = request.layers.number();
+    Ok(Picked::Data(Data {
+        layer: layer.ok_or(Refusal::of(500, NO_LAYER))?,
+        local: request.local.ok_or(Refusal::of(500, NO_LOCAL))?,
+        connection: request.connection,
+    }))
+}
+
+/// An item in JSON, else one in a form, else the refusal of the first.
+fn either<'a>(request: &Request<'_>, body: Cow<'a, [u8]>) -> Answer<'a> {
+    match body {
+        Cow::Borrowed(body) => either_of(request, body),
+        Cow::Owned(body) => Ok(match either_of(request, &body)? {
+            Picked::Either(side, item) => Picked::Either(side, item.into_owned()),
+            _ => Picked::Other,
+        }),
+    }
+}
+
+fn either_of<'a>(request: &Request<'_>, body: &'a [u8]) -> Answer<'a> {
+    let refusal = match body::of_whole::<JsonItem>(request, body) {
+        Ok(item) => return Ok(Picked::Either(Side::Left, item)),
+        Err(refusal) => refusal,
+    };
+    match body::of_whole::<FormItem>(request, body) {
+        Ok(item) => Ok(Picked::Either(Side::Right, item)),
+        Err(_) => Err(refusal),
     }
 }
 
 impl<'a> Both<'a> {
     fn poll(&mut self) -> Option<Result<Cow<'a, [u8]>, Refusal>> {
         if self.text.is_none() {
-            match self.collector.poll_text() {
+            match self.collector.poll() {
                 Some(Ok(text)) => self.text = Some(text),
                 Some(Err(refusal)) => return Some(Err(refusal)),
                 None => {}
@@ -77,92 +220,19 @@ impl<'a> Both<'a> {
     }
 }
 
-/// A body that is being collected.
-pub struct Collector<'a> {
-    marks: std::vec::IntoIter<Mark<'a>>,
-    body: Cow<'a, [u8]>,
-    limit: u64,
-    /// What the headers refuse.
-    refusal: Option<Refusal>,
-}
-
-impl<'a> Collector<'a> {
-    fn of(request: &Request<'a>, marks: Vec<Mark<'a>>, is_text: bool) -> Collector<'a> {
-        let (headers, config) = (&request.headers, layer::nearest(&request.layers));
-        let tested = config
-            .required
-            .map_or(Ok(()), |required| headers.test_type(required))
-            .and_then(|()| {
-                if is_text {
-                    headers.test_charset()
-                } else {
-                    Ok(())
-                }
-            })
-            .and_then(|()| headers.test_length(config.limit));
-        Collector {
-            marks: marks.into_iter(),
-            body: Cow::Borrowed(&[]),
-            limit: config.limit,
-            refusal: tested.err(),
+impl<'a> OptionAndBytes<'a> {
+    fn poll(&mut self) -> Option<Answer<'a>> {
+        if self.item.is_none() {
+            self.item = self.json.poll().map(Result::ok);
         }
-    }
-
-    /// Takes the marks up to the next stall, or to the answer.
-    fn poll(&mut self) -> Option<Result<Cow<'a, [u8]>, Refusal>> {
-        if let Some(refusal) = self.refusal {
-            return Some(Err(refusal));
-        }
-        loop {
-            let fits = match self.marks.next() {
-                Some(Mark::Text(piece)) => self.add(piece),
-                Some(Mark::Piece(digits)) => self.add_decoded(digits),
-                Some(Mark::Stall) => return None,
-                Some(Mark::Fault) => return Some(Err(Refusal(400, "payload read failed"))),
-                None => return Some(Ok(std::mem::take(&mut self.body))),
-            };
-            if !fits {
-                return Some(Err(Refusal::TOO_LONG));
+        if self.length.is_none() {
+            match self.bytes.poll() {
+                Some(Ok(body)) => self.length = Some(body.len()),
+                Some(Err(refusal)) => return Some(Err(refusal)),
+                None => return None,
             }
         }
-    }
-
-    /// The same, where the body has to be UTF-8.
-    fn poll_text(&mut self) -> Option<Result<Cow<'a, [u8]>, Refusal>> {
-        Some(self.poll()?.and_then(|body| {
-            if std::str::from_utf8(&body).is_ok() {
-                Ok(body)
-            } else {
-                Err(Refusal(400, "Can not decode body"))
-            }
-        }))
-    }
-
-    /// Whether the body is within its limit with so many more bytes.
-    fn has_room(&self, more: usize) -> bool {
-        (self.body.len() + more) as u64 <= self.limit
-    }
-
-    /// Adds a piece, and says whether the body is within its limit. A piece alone is not copied.
-    fn add(&mut self, piece: &'a [u8]) -> bool {
-        if !self.has_room(piece.len()) {
-            return false;
-        }
-        match &mut self.body {
-            Cow::Borrowed([]) => self.body = Cow::Borrowed(piece),
-            Cow::Borrowed(first) => self.body = Cow::Owned([*first, piece].concat()),
-            Cow::Owned(body) => body.extend_from_slice(piece),
-        }
-        true
-    }
-
-    /// Adds a piece of these digits, which are hexadecimal and an even number.
-    fn add_decoded(&mut self, digits: &[u8]) -> bool {
-        if !self.has_room(digits.len() / 2) {
-            return false;
-        }
-        script::decode_into(self.body.to_mut(), digits);
-        true
+        Some(Ok(Picked::Option(self.item.take()?, self.length?)))
     }
 }
 
@@ -191,7 +261,7 @@ impl Late {
             return None;
         }
         Some(match self.refusal {
-            Some(status) => Err(Refusal(status, "late")),
+            Some(status) => Err(Refusal::of(status, "late")),
             None => Ok(()),
         })
     }

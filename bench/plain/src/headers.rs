@@ -1,7 +1,6 @@
 //! Headers of a request, and what arguments read of them.
 use crate::media_type::{self, MediaType};
-use crate::reply::Refusal;
-use crate::text::{self, is_token, trimmed_end, trimmed_start};
+use crate::text::{self, is_token, trimmed};
 
 /// Longer names are none.
 const MOST_NAME: usize = 65_535;
@@ -9,6 +8,9 @@ const MOST_NAME: usize = 65_535;
 /// Names and values in their order. They borrow from the script.
 #[derive(Default)]
 pub struct Headers<'a>(Vec<(&'a [u8], &'a [u8])>);
+
+/// A Content-Type that is no media type.
+pub struct NoMediaType;
 
 impl<'a> Headers<'a> {
     pub fn len(&self) -> usize {
@@ -23,65 +25,48 @@ impl<'a> Headers<'a> {
         is_header.then(|| self.0.push((name, value)))
     }
 
+    /// The values of this name in their order.
+    pub fn all(&self, name: &str) -> impl Iterator<Item = &'a [u8]> {
+        let named = self.0.iter().filter(move |header| is_named(header, name));
+        named.map(|header| header.1)
+    }
+
     /// The first value of this name.
-    fn get(&self, name: &str) -> Option<&'a [u8]> {
-        let is_named = |header: &&(&[u8], &[u8])| header.0.eq_ignore_ascii_case(name.as_bytes());
-        Some(self.0.iter().find(is_named)?.1)
+    pub fn get(&self, name: &str) -> Option<&'a [u8]> {
+        Some(self.0.iter().find(|header| is_named(header, name))?.1)
     }
 
     /// The media type, `None` where no header says it.
-    fn media_type(&self) -> Result<Option<MediaType<'a>>, Refusal> {
+    pub fn media_type(&self) -> Result<Option<MediaType<'a>>, NoMediaType> {
         let Some(value) = self.get("content-type") else {
             return Ok(None);
         };
         let text = value.iter().all(|byte| byte.is_ascii()).then_some(value);
         match text.and_then(media_type::read) {
             Some(media_type) => Ok(Some(media_type)),
-            None => Err(Refusal(400, "can not parse content type")),
+            None => Err(NoMediaType),
         }
     }
 
-    /// Tests that the media type is this one.
-    pub fn test_type(&self, required: &MediaType<'_>) -> Result<(), Refusal> {
-        match self.media_type()? {
-            None => Err(Refusal(400, "Content-Type is expected")),
-            Some(media_type) if media_type != *required => {
-                Err(Refusal(400, "Unexpected Content-Type"))
-            }
-            Some(_) => Ok(()),
-        }
+    /// Whether the body is coded.
+    pub fn has_coding(&self) -> bool {
+        self.get("content-encoding")
+            .is_some_and(|coding| !trimmed(coding).eq_ignore_ascii_case(b"identity"))
     }
 
-    /// Tests that the body is UTF-8 by its media type.
-    pub fn test_charset(&self) -> Result<(), Refusal> {
-        let media_type = self.media_type()?;
-        let charset = media_type.as_ref().and_then(|it| it.param("charset"));
-        let is_utf8 =
-            |name: &[u8]| name.eq_ignore_ascii_case(b"utf-8") || name.eq_ignore_ascii_case(b"utf8");
-        match charset {
-            Some(name) if !is_utf8(name) => Err(Refusal(400, "unknown content encoding")),
-            _ => Ok(()),
-        }
+    /// The declared length, `None` in it where the value is no number.
+    pub fn length(&self) -> Option<Option<u64>> {
+        Some(text::number(self.get("content-length")?, u64::MAX))
     }
+}
 
-    /// Tests the declared length, and that the body is not coded.
-    pub fn test_length(&self, limit: u64) -> Result<(), Refusal> {
-        if let Some(value) = self.get("content-length") {
-            match text::number(value, u64::MAX) {
-                None => return Err(Refusal(400, "payload length is unknown")),
-                Some(length) if length > limit => return Err(Refusal::TOO_LONG),
-                Some(_) => {}
-            }
-        }
-        match self.get("content-encoding") {
-            Some(coding)
-                if !trimmed_end(trimmed_start(coding)).eq_ignore_ascii_case(b"identity") =>
-            {
-                Err(Refusal(400, "content coding is not supported"))
-            }
-            _ => Ok(()),
-        }
-    }
+fn is_named(header: &(&[u8], &[u8]), name: &str) -> bool {
+    header.0.eq_ignore_ascii_case(name.as_bytes())
+}
+
+/// Whether these bytes are text in a header: printable ASCII and tabs.
+pub fn is_header_text(value: &[u8]) -> bool {
+    value.iter().all(|byte| matches!(byte, b'\t' | 0x20..=0x7E))
 }
 
 fn is_value_byte(byte: &u8) -> bool {

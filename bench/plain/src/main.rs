@@ -1,8 +1,16 @@
 //! Serves a script as the program rothveng does, in plain Rust, to measure against.
+mod accept;
 mod arguments;
+mod body;
+mod connection;
+mod cookies;
 mod headers;
+mod item;
+mod json;
 mod layer;
+mod lines;
 mod media_type;
+mod pairs;
 mod printing;
 mod reply;
 mod request;

@@ -41,6 +41,59 @@ pub fn read(text: &[u8]) -> Option<MediaType<'_>> {
 }
 
 impl MediaType<'_> {
+    /// Type, subtype, and suffix where there is one.
+    fn parts(&self) -> (&[u8], &[u8], Option<&[u8]>) {
+        let slash = self.essence.iter().position(|byte| *byte == b'/');
+        let (type_, rest) = self.essence.split_at(slash.unwrap_or(0));
+        let rest = rest.strip_prefix(b"/").unwrap_or(rest);
+        match rest.iter().rposition(|byte| *byte == b'+') {
+            Some(at) if at > 0 && at + 1 < rest.len() => {
+                (type_, &rest[..at], Some(&rest[at + 1..]))
+            }
+            _ => (type_, rest, None),
+        }
+    }
+
+    /// Whether the subtype or the suffix is that of JSON.
+    pub fn is_json(&self) -> bool {
+        let (_, subtype, suffix) = self.parts();
+        let is_json = |name: &[u8]| name.eq_ignore_ascii_case(b"json");
+        is_json(subtype) || suffix.is_some_and(is_json)
+    }
+
+    /// Whether it is this one, without parameters.
+    pub fn is_alone(&self, essence: &str) -> bool {
+        self.essence.eq_ignore_ascii_case(essence.as_bytes()) && self.params.is_empty()
+    }
+
+    /// 2 for one that is exact, 1 for any of a type, 0 for any.
+    pub fn exactness(&self) -> u8 {
+        match self.parts() {
+            (b"*", _, _) => 0,
+            (_, b"*", _) => 1,
+            _ => 2,
+        }
+    }
+
+    /// Adds its text, in lower case but for the values of parameters other than `charset`.
+    pub fn put(&self, out: &mut Vec<u8>) {
+        put_lower(out, self.essence);
+        for param in &self.params {
+            out.extend_from_slice(b"; ");
+            put_lower(out, param.name);
+            out.push(b'=');
+            let start = out.len();
+            if is_token(&param.value) {
+                out.extend_from_slice(&param.value);
+            } else {
+                put_quoted(out, &param.value);
+            }
+            if param.is_named("charset") {
+                out[start..].make_ascii_lowercase();
+            }
+        }
+    }
+
     /// The value of the first parameter of this name.
     pub fn param(&self, name: &str) -> Option<&[u8]> {
         let found = self.params.iter().find(|param| param.is_named(name))?;
@@ -69,6 +122,23 @@ impl PartialEq for Param<'_> {
                 self.value == other.value
             }
     }
+}
+
+fn put_lower(out: &mut Vec<u8>, text: &[u8]) {
+    let start = out.len();
+    out.extend_from_slice(text);
+    out[start..].make_ascii_lowercase();
+}
+
+fn put_quoted(out: &mut Vec<u8>, text: &[u8]) {
+    out.push(b'"');
+    for byte in text {
+        if matches!(byte, b'"' | b'\\') {
+            out.push(b'\\');
+        }
+        out.push(*byte);
+    }
+    out.push(b'"');
 }
 
 /// What stands before the first semicolon outside of quotes, and what stands behind it, if any.

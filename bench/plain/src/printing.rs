@@ -1,8 +1,8 @@
 //! The text of the replies.
-use crate::reply::Reply;
+use crate::reply::{Body, Reply};
+use crate::script::Mark;
 use crate::serving::{Flight, Stage};
-
-const HEX: &[u8; 16] = b"0123456789abcdef";
+use crate::text::{put_hex, put_number};
 
 /// The replies in the order of the exchanges, then the pool, which keeps nothing, and how many records were made.
 pub fn printed(flights: &mut [Flight<'_>], made: u64) -> Vec<u8> {
@@ -21,18 +21,8 @@ pub fn printed(flights: &mut [Flight<'_>], made: u64) -> Vec<u8> {
 
 /// A word with a space, and a number.
 fn put_line(out: &mut Vec<u8>, word: &[u8], number: u64) {
-    let mut digits = [0; 20];
-    let (mut start, mut rest) = (digits.len(), number);
-    loop {
-        start -= 1;
-        digits[start] = b'0' + (rest % 10) as u8;
-        rest /= 10;
-        if rest == 0 {
-            break;
-        }
-    }
     out.extend_from_slice(word);
-    out.extend_from_slice(&digits[start..]);
+    put_number(out, number);
     out.push(b'\n');
 }
 
@@ -44,7 +34,31 @@ fn put_reply(out: &mut Vec<u8>, reply: &mut Reply<'_>) {
             out.extend_from_slice(part);
         }
     }
-    put_body(out, &reply.body);
+    match &reply.body {
+        Body::Whole(body) => put_body(out, body),
+        Body::Stream(marks) => {
+            out.extend_from_slice(b"body stream\n");
+            marks.iter().for_each(|mark| put_mark(out, mark));
+        }
+    }
+}
+
+/// A mark that nobody has read.
+fn put_mark(out: &mut Vec<u8>, mark: &Mark<'_>) {
+    out.extend_from_slice(b"mark ");
+    match mark {
+        Mark::Text(bytes) => {
+            out.extend_from_slice(b"piece ");
+            put_hex(out, bytes);
+        }
+        Mark::Piece(digits) => {
+            out.extend_from_slice(b"piece ");
+            out.extend(digits.iter().map(u8::to_ascii_lowercase));
+        }
+        Mark::Stall => out.extend_from_slice(b"stall"),
+        Mark::Fault => out.extend_from_slice(b"fault"),
+    }
+    out.push(b'\n');
 }
 
 fn put_body(out: &mut Vec<u8>, body: &[u8]) {
@@ -56,10 +70,7 @@ fn put_body(out: &mut Vec<u8>, body: &[u8]) {
         out.push(b'\n');
     } else {
         out.extend_from_slice(b"body hex ");
-        out.extend(
-            body.iter()
-                .flat_map(|byte| [HEX[usize::from(byte >> 4)], HEX[usize::from(byte & 15)]]),
-        );
+        put_hex(out, body);
         out.push(b'\n');
     }
 }

@@ -1,18 +1,48 @@
 //! Replies.
+use crate::script::Mark;
 use std::borrow::Cow;
 
 /// Why arguments are refused: the status and the text of the reply.
-#[derive(Clone, Copy)]
-pub struct Refusal(pub u16, pub &'static str);
+#[derive(Debug)]
+pub struct Refusal {
+    pub status: u16,
+    pub text: Cow<'static, str>,
+}
 
 impl Refusal {
-    pub const TOO_LONG: Refusal = Refusal(413, "payload reached its limit");
+    pub fn of(status: u16, text: &'static str) -> Refusal {
+        Refusal {
+            status,
+            text: Cow::Borrowed(text),
+        }
+    }
+
+    pub fn owned(status: u16, text: String) -> Refusal {
+        Refusal {
+            status,
+            text: Cow::Owned(text),
+        }
+    }
+
+    /// What the demo's handler makes of it, where there is one.
+    pub fn handled(self, has_handler: bool) -> Refusal {
+        Refusal {
+            status: if has_handler { 418 } else { self.status },
+            text: self.text,
+        }
+    }
 }
 
 pub struct Reply<'a> {
     pub status: u16,
     pub headers: Vec<(&'static str, Cow<'a, str>)>,
-    pub body: Cow<'a, [u8]>,
+    pub body: Body<'a>,
+}
+
+pub enum Body<'a> {
+    Whole(Cow<'a, [u8]>),
+    /// A payload that nobody has read.
+    Stream(Vec<Mark<'a>>),
 }
 
 impl<'a> Reply<'a> {
@@ -21,12 +51,12 @@ impl<'a> Reply<'a> {
         Reply {
             status,
             headers: Vec::new(),
-            body: Cow::Borrowed(&[]),
+            body: Body::Whole(Cow::Borrowed(&[])),
         }
     }
 
     /// A reply with a body of this type.
-    pub fn typed(status: u16, media_type: &'static str, body: Cow<'a, [u8]>) -> Reply<'a> {
+    pub fn typed(status: u16, media_type: &'static str, body: Body<'a>) -> Reply<'a> {
         Reply {
             status,
             headers: vec![("content-type", Cow::Borrowed(media_type))],
@@ -36,12 +66,16 @@ impl<'a> Reply<'a> {
 
     /// A reply with this text.
     pub fn text(status: u16, text: Cow<'a, [u8]>) -> Reply<'a> {
-        Reply::typed(status, "text/plain; charset=utf-8", text)
+        Reply::typed(status, "text/plain; charset=utf-8", Body::Whole(text))
     }
 }
 
 impl From<Refusal> for Reply<'_> {
     fn from(refusal: Refusal) -> Self {
-        Reply::text(refusal.0, Cow::Borrowed(refusal.1.as_bytes()))
+        let text = match refusal.text {
+            Cow::Borrowed(text) => Cow::Borrowed(text.as_bytes()),
+            Cow::Owned(text) => Cow::Owned(text.into_bytes()),
+        };
+        Reply::text(refusal.status, text)
     }
 }

@@ -1,7 +1,7 @@
 //! Requests, as a script asks for them. They borrow from its bytes.
 use crate::headers::Headers;
-use crate::layer::Layer;
-use crate::script::NOT_BUILT;
+use crate::layer::Layers;
+use crate::script::{HAS_COOKIES_AND_LINES, NOT_BUILT};
 use crate::target::{self, Target};
 use crate::text::{self, is_token_byte};
 
@@ -9,13 +9,17 @@ use crate::text::{self, is_token_byte};
 pub struct Request<'a> {
     #[expect(dead_code, reason = "no handler asks for it yet")]
     pub method: &'a str,
-    #[expect(dead_code, reason = "no handler asks for it yet")]
     pub target: Target<'a>,
     pub headers: Headers<'a>,
     /// As a router would match them, in their order.
     pub params: Vec<(&'a str, &'a str)>,
-    /// The nearest one stands last.
-    pub layers: Vec<Layer<'a>>,
+    pub layers: Layers<'a>,
+    /// The address that it comes from.
+    pub peer: Option<[u8; 4]>,
+    /// A number that it holds itself.
+    pub local: Option<u64>,
+    /// A number that its connection holds.
+    pub connection: Option<u64>,
     pub segment: Segment,
 }
 
@@ -24,6 +28,19 @@ pub enum Segment {
     Bytes,
     Text,
     Both,
+    Json,
+    Form,
+    Either,
+    Option,
+    Result,
+    Path,
+    Query,
+    Header,
+    Who,
+    Data,
+    Cookies,
+    Lines,
+    Raw,
     Wait,
     Other,
 }
@@ -39,7 +56,10 @@ pub fn read(argument: &[u8]) -> Result<Request<'_>, &'static str> {
         target,
         headers: Headers::default(),
         params: Vec::new(),
-        layers: Vec::new(),
+        layers: Layers::default(),
+        peer: None,
+        local: None,
+        connection: None,
     })
 }
 
@@ -69,15 +89,28 @@ impl Segment {
         let end = path[start..]
             .iter()
             .position(|byte| matches!(byte, b'/' | b'?'));
-        match &path[start..end.map_or(path.len(), |end| start + end)] {
-            b"bytes" => Some(Segment::Bytes),
-            b"text" => Some(Segment::Text),
-            b"both" => Some(Segment::Both),
-            b"wait" => Some(Segment::Wait),
-            b"json" | b"form" | b"option" | b"result" | b"either" | b"path" | b"query"
-            | b"data" | b"raw" | b"header" | b"who" | b"cookies" | b"lines" => None,
-            _ => Some(Segment::Other),
-        }
+        let segment = match &path[start..end.map_or(path.len(), |end| start + end)] {
+            b"bytes" => Segment::Bytes,
+            b"text" => Segment::Text,
+            b"both" => Segment::Both,
+            b"json" => Segment::Json,
+            b"form" => Segment::Form,
+            b"either" => Segment::Either,
+            b"option" => Segment::Option,
+            b"result" => Segment::Result,
+            b"path" => Segment::Path,
+            b"query" => Segment::Query,
+            b"header" => Segment::Header,
+            b"data" => Segment::Data,
+            b"raw" => Segment::Raw,
+            b"wait" => Segment::Wait,
+            b"who" | b"cookies" | b"lines" if !HAS_COOKIES_AND_LINES => return None,
+            b"who" => Segment::Who,
+            b"cookies" => Segment::Cookies,
+            b"lines" => Segment::Lines,
+            _ => Segment::Other,
+        };
+        Some(segment)
     }
 }
 

@@ -1,7 +1,7 @@
 //! Scripts: exchanges with the marks of their bodies, and the plan.
 use crate::layer::Layer;
 use crate::request::{self, Request};
-use crate::text::split_word;
+use crate::text::{self, split_word};
 use std::io::BufRead;
 
 /// One mark of a body.
@@ -27,6 +27,9 @@ pub struct Script<'a> {
 
 /// The reason of what a later program will know.
 pub const NOT_BUILT: &str = "not built";
+
+/// Whether the word `peer` and the segments `who`, `cookies` and `lines` are known.
+pub const HAS_COOKIES_AND_LINES: bool = false;
 
 /// The most headers that an exchange may have.
 const MOST_HEADERS: usize = 1_024;
@@ -82,9 +85,11 @@ impl<'a> Reader<'a> {
                 read_plan(argument, &mut self.script.plan).ok_or("bad plan")
             }
             b"exchange" => self.add_exchange(argument),
-            b"header" | b"param" | b"layer" => self.add_part(word, argument),
+            b"peer" if !HAS_COOKIES_AND_LINES => Err(NOT_BUILT),
+            b"header" | b"param" | b"layer" | b"peer" | b"local" | b"conn" => {
+                self.add_part(word, argument)
+            }
             b"text" | b"piece" | b"stall" | b"fault" => self.add_mark(word, argument),
-            b"peer" | b"local" | b"conn" => Err(NOT_BUILT),
             _ => Err("unknown line"),
         }
     }
@@ -109,7 +114,13 @@ impl<'a> Reader<'a> {
             b"param" => request
                 .params
                 .push(read_param(argument).ok_or("bad param")?),
-            _ => request.layers.push(Layer::read(argument)?),
+            b"layer" => request
+                .layers
+                .0
+                .push(Layer::read(argument).ok_or("bad layer")?),
+            b"peer" => request.peer = Some(read_peer(argument).ok_or("bad peer")?),
+            b"local" => request.local = Some(read_number(argument)?),
+            _ => request.connection = Some(read_number(argument)?),
         }
         Ok(())
     }
@@ -164,6 +175,22 @@ fn read_param(argument: &[u8]) -> Option<(&str, &str)> {
     (!param.0.is_empty()).then_some(param)
 }
 
+fn read_number(argument: &[u8]) -> Result<u64, &'static str> {
+    text::number(argument, u64::MAX).ok_or("bad number")
+}
+
+/// Four numbers with dots between, then a colon and a port.
+fn read_peer(argument: &[u8]) -> Option<[u8; 4]> {
+    let at = argument.iter().position(|byte| *byte == b':')?;
+    text::number(&argument[at + 1..], u64::from(u16::MAX))?;
+    let mut numbers = argument[..at].split(|byte| *byte == b'.');
+    let mut address = [0; 4];
+    for part in &mut address {
+        *part = text::number(numbers.next()?, u64::from(u8::MAX))? as u8;
+    }
+    numbers.next().is_none().then_some(address)
+}
+
 /// Adds the entries: none, or numbers with one space between.
 fn read_plan(argument: &[u8], plan: &mut Vec<u32>) -> Option<()> {
     if argument.is_empty() {
@@ -190,7 +217,7 @@ fn read_plan(argument: &[u8], plan: &mut Vec<u32>) -> Option<()> {
 }
 
 fn is_piece(digits: &[u8]) -> bool {
-    digits.len() % 2 == 0 && digits.iter().all(u8::is_ascii_hexdigit)
+    digits.len().is_multiple_of(2) && digits.iter().all(u8::is_ascii_hexdigit)
 }
 
 /// Adds the bytes that an even number of hexadecimal digits stands for.

@@ -1,16 +1,31 @@
 //! Targets of requests: a path, an asterisk, an authority, or a scheme with an authority and a path.
 
+use std::borrow::Cow;
+
 /// Longer targets are none.
 const MOST: usize = 65_534;
 
 pub struct Target<'a> {
     /// As it was written: schemes are compared without regard to case.
-    #[expect(dead_code, reason = "no handler asks for it yet")]
     pub scheme: Option<&'a str>,
-    #[expect(dead_code, reason = "no handler asks for it yet")]
     pub authority: Option<&'a str>,
     /// With the query where there is one.
     pub path_and_query: &'a str,
+}
+
+impl<'a> Target<'a> {
+    /// Without the question mark, and empty where there is none.
+    pub fn query(&self) -> &'a str {
+        self.path_and_query.split_once('?').map_or("", |cut| cut.1)
+    }
+
+    /// The scheme in lower case, `http` where there is none.
+    pub fn lower_scheme(&self) -> Cow<'a, str> {
+        match self.scheme {
+            None => Cow::Borrowed("http"),
+            Some(scheme) => Cow::Owned(scheme.to_ascii_lowercase()),
+        }
+    }
 }
 
 /// Reads a target, or answers `None` where the bytes are none. A fragment may be any bytes, and is dropped.

@@ -1,0 +1,81 @@
+//! Accept, and the order of what it names.
+use crate::headers::{Headers, is_header_text};
+use crate::media_type::{self, MediaType};
+use crate::text::{trimmed, trimmed_end};
+use std::cmp::Reverse;
+
+/// Media types, the preferred ones first.
+pub struct Accept<'a>(Vec<Item<'a>>);
+
+struct Item<'a> {
+    media_type: MediaType<'a>,
+    /// Thousandths.
+    quality: u16,
+}
+
+impl<'a> Accept<'a> {
+    /// Reads the header, `None` where a value is no header text. Items that cannot be read are left out.
+    pub fn read(headers: &Headers<'a>) -> Option<Accept<'a>> {
+        let mut items = Vec::new();
+        for value in headers.all("accept") {
+            if !is_header_text(value) {
+                return None;
+            }
+            let texts = value.split(|byte| *byte == b',').map(trimmed);
+            items.extend(texts.filter_map(Item::read));
+        }
+        items.sort_by_key(|item| Reverse((item.quality, item.media_type.exactness())));
+        Some(Accept(items))
+    }
+
+    pub fn text(&self) -> Vec<u8> {
+        let mut out = Vec::with_capacity(64 * self.0.len());
+        for (at, item) in self.0.iter().enumerate() {
+            if at > 0 {
+                out.extend_from_slice(b", ");
+            }
+            item.media_type.put(&mut out);
+        }
+        out
+    }
+}
+
+impl<'a> Item<'a> {
+    /// A media type and, behind the last semicolon, perhaps a quality.
+    fn read(text: &'a [u8]) -> Option<Item<'a>> {
+        let (mut text, mut quality) = (text, 1000);
+        if let Some(at) = text.iter().rposition(|byte| *byte == b';') {
+            match trimmed(&text[at + 1..]) {
+                [] | [_] => return None,
+                [b'q' | b'Q', b'=', digits @ ..] => {
+                    quality = read_quality(digits)?;
+                    text = trimmed_end(&text[..at]);
+                }
+                _ => {}
+            }
+        }
+        Some(Item {
+            media_type: media_type::read(text)?,
+            quality,
+        })
+    }
+}
+
+fn read_quality(text: &[u8]) -> Option<u16> {
+    let (whole, fraction) = match text {
+        [whole] => (whole, &[][..]),
+        [whole, b'.', fraction @ ..] if fraction.len() <= 3 => (whole, fraction),
+        _ => return None,
+    };
+    let (mut thousandths, mut unit) = (0, 100);
+    for digit in fraction {
+        let digit = digit.is_ascii_digit().then(|| u16::from(digit - b'0'))?;
+        thousandths += digit * unit;
+        unit /= 10;
+    }
+    match whole {
+        b'0' => Some(thousandths),
+        b'1' if thousandths == 0 => Some(1000),
+        _ => None,
+    }
+}
