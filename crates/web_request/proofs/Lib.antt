@@ -3,3 +3,4 @@ pub mod MessageFieldsLemmas
 pub mod NearestLemmas
 pub mod ReadyLayersLemmas
 pub mod ReadingLemmas
+pub mod SharedLemmas

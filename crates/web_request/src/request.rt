@@ -1,16 +1,24 @@
 //! Requests.
 ghost use Rattle.std.specs.Prelude.{◌≡◌, IfErr, IfOk, IfSome, OnErr, OnOk, option_copied};
-ghost use Rattle.web_request.specs.Head.{head_path, head_view};
+ghost use Rattle.std.specs.Option.{option_and_then};
+ghost use Rattle.std.specs.Borrow.{Lends, sem};
+ghost use Rattle.std.specs.contracts.option.Option.{the_row as option_row};
+ghost use Rattle.web_request.specs.Head.{head_path, head_query, head_target, head_view, uri_view};
 ghost use Rattle.web_request.specs.Nearest.{nearest, nearest_config};
 ghost use Rattle.web_request.specs.Pool.{Clean, new_record};
+ghost use Rattle.web_request.specs.contracts.request.HttpRequest.{the_row};
 
+use crate::address::SocketAddr;
 use crate::app::App;
 use crate::config::AppConfig;
+use crate::copies::{copied_data, copied_pairs, shared_again, shared_layers};
 use crate::head::RequestHead;
 use crate::layers::{ConfigChoice, HeldValue, Holds, OwnConfig, SharedConfig, Wanted};
 use crate::parts::RequestParts;
 use crate::reuse::{move_into, put_head};
+use http::{Method, Version};
 use http_header::{HeaderMap, HeaderValue};
+use http_uri::Uri;
 use std::alloc::Global;
 use std::marker::Model;
 use std::rc::Rc;
@@ -63,12 +71,51 @@ impl<A: App> HttpRequest<A> {
         &self.head
     }
 
+    /// The request target (RFC 9112, section 3.2).
+    pub fn uri(&self) -> &Uri
+        ensures { uri_view result.now ≡ head_target self.now.request.head }
+    {
+        &self.head.uri
+    }
+
+    /// The method (RFC 9110, section 9).
+    pub fn method(&self) -> &Method
+        ensures { result.now ≡ self.now.request.head.method }
+    {
+        &self.head.method
+    }
+
+    /// The HTTP version.
+    pub fn version(&self) -> Version
+        ensures { result ≡ self.now.request.head.version }
+    {
+        self.head.version
+    }
+
     /// The path of the target without the query (RFC 3986, section 3.3): `/` where the target has
     /// no path, and empty where the target is an authority alone.
     pub fn path(&self) -> &str
         ensures { result.now ≡ head_path self.now.request.head }
     {
         self.head.uri.path()
+    }
+
+    /// The query of the target without its question mark (RFC 3986, section 3.4): empty where the
+    /// target has no query.
+    pub fn query_string(&self) -> &str
+        ensures { result.now ≡ head_query self.now.request.head }
+    {
+        match self.head.uri.query() {
+            Some(query) => query,
+            None => "",
+        }
+    }
+
+    /// The address that the request came from, if it is known.
+    pub fn peer_addr(&self) -> Option<SocketAddr>
+        ensures { result ≡ self.now.request.head.peer }
+    {
+        self.head.peer_addr
     }
 
     /// The header fields.
@@ -92,6 +139,47 @@ impl<A: App> HttpRequest<A> {
         ensures { option_copied result ≡ nearest A.Layer.Holds.held self.now.request.layers }
     {
         self.nearest_value::<HeldValue<T>>()
+    }
+
+    /// The `T` that the data of the connection holds.
+    pub fn conn_data<T>(&self) -> Option<&T>
+    where
+        A::Conn: Holds<T>,
+        ensures { option_copied result
+            ≡ option_and_then A.Conn.Holds.held self.now.request.conn }
+    {
+        match &self.conn {
+            Some(conn) => conn.held(),
+            None => None,
+        }
+    }
+
+    /// The settings of the worker.
+    pub fn app_config(&self) -> &AppConfig
+        ensures { result.now ≡ self.now.request.config }
+    {
+        &self.config
+    }
+
+    /// The data of this request alone.
+    pub fn extensions(&self) -> Option<&A::Local>
+        ensures { option_copied result ≡ self.now.request.local }
+    {
+        self.local.as_ref()
+    }
+
+    /// The data of this request alone, for writing.
+    pub fn extensions_mut(&mut self) -> &mut Option<A::Local>
+        ensures* writes_back { sem 𝓛 (Lends
+            (the_row A.row A.Layer.row A.Local.row A.Conn.row A.Source.row
+            A.Layer.AppLayer A.Source.Source)
+            (option_row A.Local.row) self.entry result
+            (λ held. record self.old {
+              request = record self.old.request { local = held };
+            })) }
+        ensures shows { result.now ≡ self.old.request.local }
+    {
+        &mut self.local
     }
 
     /// The configuration of the last layer that has one of its own. Only where no layer has one,
@@ -131,6 +219,30 @@ impl<A: App> HttpRequest<A> {
         ensures { result ≡ self.now.serial }
     {
         self.serial
+    }
+
+    /// An equal request under the same number. It shares the head, the layers, the data of the
+    /// connection and the settings; the parameters and the data of the request are copied. A later
+    /// change of the one is not seen by the other. Returns `NoMemory` where an allocation failed.
+    pub fn duplicate(&self, alloc: Global) -> Result<HttpRequest<A>, NoMemory>
+        ensures request { IfOk result (λ copy. copy.request ≡ self.now.request) }
+        ensures serial { IfOk result (λ copy. copy.serial ≡ self.now.serial) }
+    {
+        let root = shared_again(&self.root)?;
+        let layers = shared_layers(&self.layers)?;
+        let conn = shared_again(&self.conn)?;
+        let params = copied_pairs(alloc, self.params.as_slice())?;
+        let local = copied_data(alloc, &self.local)?;
+        Ok(HttpRequest {
+            head: self.head.clone()?,
+            params,
+            root,
+            layers,
+            conn,
+            local,
+            config: self.config.clone()?,
+            serial: self.serial,
+        })
     }
 
     /// Makes a record in new memory. Where an allocation failed, returns the parts.
