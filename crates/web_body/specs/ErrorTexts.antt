@@ -7,6 +7,10 @@ use Rattle.web_body.specs.declared.json_error.JsonPayloadError.{JsonPayloadError
 use Rattle.web_body.specs.declared.json_error.JsonPayloadError.TheVariants as json
 use Rattle.web_body.specs.declared.form_error.UrlencodedError.{UrlencodedError}
 use Rattle.web_body.specs.declared.form_error.UrlencodedError.TheVariants as form
+use Rattle.web_body.specs.declared.path_error.PathError.{PathError}
+use Rattle.web_body.specs.declared.path_error.PathError.TheVariants as path
+use Rattle.web_body.specs.declared.query_error.QueryPayloadError.{QueryPayloadError}
+use Rattle.web_body.specs.declared.query_error.QueryPayloadError.TheVariants as query
 
 abbrev pub payload_error_text : PayloadError → List ℕ
 payload_error_text payload.Overflow = codes "payload reached its limit"
@@ -38,3 +42,9 @@ form_error_text form.Encoding = codes "Encoding error."
 form_error_text (form.Serialize e) = codes "Serialize error: " ++ e.text ++ codes "."
 form_error_text (form.Payload e) =
     codes "Error that occur during reading payload: " ++ payload_error_text e ++ codes "."
+
+abbrev pub path_error_text : PathError → List ℕ
+path_error_text (path.Deserialize e) = codes "Path deserialize error: " ++ e.text
+
+abbrev pub query_error_text : QueryPayloadError → List ℕ
+query_error_text (query.Deserialize e) = codes "Query deserialize error: " ++ e.text

@@ -9,9 +9,11 @@ mod held;
 mod json_error;
 mod marks;
 mod message_body;
+mod path_error;
 mod payload;
 mod payload_config;
 mod poll;
+mod query_error;
 
 pub use body_collector::Collector;
 pub use collecting::Unread;
@@ -20,9 +22,11 @@ pub use head_tests::{Declared, declared_length, is_coded};
 pub use json_error::JsonPayloadError;
 pub use marks::Marks;
 pub use message_body::{DEFAULT_LIMIT, HttpMessageBody, PayloadError};
+pub use path_error::PathError;
 pub use payload::Payload;
 pub use payload_config::PayloadConfig;
 pub use poll::{Poll, Step, pending_count_law};
+pub use query_error::QueryPayloadError;
 pub use web_request::Mark;
 pub use web_values::{
     JsonFault, ReadFault, ReadJson, ReadPairs, WriteFault, WriteJson, WritePairs, decode_form,

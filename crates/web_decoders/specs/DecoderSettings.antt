@@ -1,4 +1,4 @@
--- How JSON bodies and forms are read.
+-- How JSON bodies, forms, paths and queries are read.
 use Rattle.std.specs.Prelude.{ℕ, Bool, true, Option, None}
 
 -- H: the handler of faults; P: the predicate of media types
@@ -22,3 +22,10 @@ pub record FormSettings (H : Type 0) : Type 0 where
 
 abbrev pub default_form_settings : {H : Type 0} → FormSettings H
 default_form_settings = record { limit = 16384; handler = None }
+
+-- what answers refusals of the parameters of a path, and of a query
+pub record HandlerSettings (H : Type 0) : Type 0 where
+  pub handler : Option H
+
+abbrev pub default_handler_settings : {H : Type 0} → HandlerSettings H
+default_handler_settings = record { handler = None }

@@ -8,11 +8,13 @@ use Rattle.web_body.specs.declared.json_error.JsonPayloadError.TheVariants as js
 use Rattle.web_body.specs.declared.form_error.UrlencodedError.{UrlencodedError}
 use Rattle.web_body.specs.declared.form_error.UrlencodedError.TheVariants as form
 use Rattle.web_body.specs.ErrorTexts.{payload_error_text, json_error_text, form_error_text}
+use Rattle.web_body.specs.ErrorTexts.{path_error_text, query_error_text}
 use Rattle.web_values.specs.FaultTexts.{json_fault_text}
 use Rattle.web_reply.specs.declared.cause.Cause.{Cause}
 use Rattle.web_reply.specs.declared.cause.Cause.TheVariants.{Payload, Http, Utf8, Io, Custom}
 use Rattle.web_reply.specs.declared.cause.Cause.TheVariants.{ContentType, Parse, HeaderValue}
 use Rattle.web_reply.specs.declared.cause.Cause.TheVariants.{Json, Form, Read, JsonText, Write}
+use Rattle.web_reply.specs.declared.cause.Cause.TheVariants.{Path, Query}
 use Rattle.web_reply.specs.declared.cause.HttpError.{HttpError}
 use Rattle.web_reply.specs.declared.cause.HttpError.TheVariants.{Name, Value, MaxSize}
 use Rattle.web_reply.specs.declared.cause.IoKind.{IoKind}
@@ -32,6 +34,8 @@ abbrev pub cause_text : Cause → List ℕ
 cause_text (Payload e) = payload_error_text e
 cause_text (Json e) = json_error_text e
 cause_text (Form e) = form_error_text e
+cause_text (Path e) = path_error_text e
+cause_text (Query e) = query_error_text e
 cause_text (ContentType e) = content_type_error_text e
 cause_text (Parse e) = codes "invalid header"
 cause_text (HeaderValue e) = codes "invalid header value"
@@ -76,6 +80,8 @@ abbrev pub cause_status : Cause → ℕ
 cause_status (Payload e) = payload_status e
 cause_status (Json e) = json_status e
 cause_status (Form e) = form_status e
+cause_status (Path e) = 400
+cause_status (Query e) = 400
 cause_status (ContentType e) = 400
 cause_status (Parse e) = 400
 cause_status (HeaderValue e) = 400

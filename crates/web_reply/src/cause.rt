@@ -2,7 +2,10 @@
 
 use http::StatusCode;
 use std::fmt;
-use web_body::{JsonFault, JsonPayloadError, PayloadError, ReadFault, UrlencodedError, WriteFault};
+use web_body::{
+    JsonFault, JsonPayloadError, PathError, PayloadError, QueryPayloadError, ReadFault,
+    UrlencodedError, WriteFault,
+};
 use web_texts::{ContentTypeError, InvalidHeaderValue, ParseError, Text};
 
 /// Why a header could not be set.
@@ -36,6 +39,10 @@ pub enum Cause {
     /// for `UnknownLength`, 415 for `ContentType`, that of the inner error for `Payload`, otherwise
     /// 400.
     Form(UrlencodedError),
+    /// The parameters of a path gave no value: 400.
+    Path(PathError),
+    /// A query gave no value: 400.
+    Query(QueryPayloadError),
     /// The content type of a request is not usable: 400.
     ContentType(ContentTypeError),
     /// A header of a request could not be read: 400.
@@ -99,6 +106,8 @@ impl fmt::Display for Cause {
             Cause::Payload(fault) => write!(f, "{fault}"),
             Cause::Json(fault) => write!(f, "{fault}"),
             Cause::Form(fault) => write!(f, "{fault}"),
+            Cause::Path(fault) => write!(f, "{fault}"),
+            Cause::Query(fault) => write!(f, "{fault}"),
             Cause::ContentType(fault) => write!(f, "{fault}"),
             Cause::Parse(fault) => write!(f, "{fault}"),
             Cause::HeaderValue(fault) => write!(f, "{fault}"),

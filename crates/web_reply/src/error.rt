@@ -14,7 +14,10 @@ use std::alloc::Global;
 use std::fmt;
 use std::fmt::Display;
 use std::marker::Model;
-use web_body::{JsonFault, JsonPayloadError, PayloadError, ReadFault, UrlencodedError, WriteFault};
+use web_body::{
+    JsonFault, JsonPayloadError, PathError, PayloadError, QueryPayloadError, ReadFault,
+    UrlencodedError, WriteFault,
+};
 use web_texts::{ContentTypeError, InvalidHeaderValue, NoMemory, ParseError};
 
 /// A result whose error becomes a reply.
@@ -56,6 +59,7 @@ impl ResponseError for Cause {
             Cause::Payload(fault) => payload_status(fault),
             Cause::Json(fault) => json_status(fault),
             Cause::Form(fault) => form_status(fault),
+            Cause::Path(_) | Cause::Query(_) => StatusCode::BAD_REQUEST,
             Cause::ContentType(_) | Cause::Parse(_) | Cause::HeaderValue(_) => {
                 StatusCode::BAD_REQUEST
             }
@@ -234,6 +238,32 @@ impl From<UrlencodedError> for Error {
     fn from(fault: UrlencodedError) -> Error {
         Error {
             cause: Cause::Form(fault),
+        }
+    }
+}
+
+impl From<PathError> for Error {
+    ghost use Rattle.web_reply.specs.Replies.{fault_of};
+    ghost use Rattle.web_reply.specs.declared.cause.Cause.TheVariants.{Path};
+
+    ghost from_gives = { λ fault e. e ≡ fault_of (Path fault) };
+
+    fn from(fault: PathError) -> Error {
+        Error {
+            cause: Cause::Path(fault),
+        }
+    }
+}
+
+impl From<QueryPayloadError> for Error {
+    ghost use Rattle.web_reply.specs.Replies.{fault_of};
+    ghost use Rattle.web_reply.specs.declared.cause.Cause.TheVariants.{Query};
+
+    ghost from_gives = { λ fault e. e ≡ fault_of (Query fault) };
+
+    fn from(fault: QueryPayloadError) -> Error {
+        Error {
+            cause: Cause::Query(fault),
         }
     }
 }
