@@ -1,0 +1,4 @@
+pub mod PartLemmas
+pub mod AttributeLemmas
+pub mod ReaderLemmas
+pub mod HeaderLemmas

@@ -1,0 +1,102 @@
+//! The cookies of a request.
+ghost use Rattle.std.specs.Prelude.{◌≡◌, ◌++◌, OnOk, codes, true, false};
+ghost use Rattle.http_header.specs.HeaderMap.{get_all};
+ghost use Rattle.web_cookies.specs.CookieReaders.{SaysBy};
+ghost use Rattle.web_cookies.specs.HeaderCookies.{cookie_of_part, cookies_in, cookies_said};
+
+use crate::cookie_parse_error::CookieParseError;
+use crate::cookie_reader::read_cookie;
+use crate::parts::first_part;
+use crate::response_cookie::Cookie;
+use http_header::{COOKIE, HeaderMap, HeaderValue};
+use std::alloc::Global;
+use std::str;
+use web_texts::{Fail, NoMemory, trim};
+
+/// The cookies that a client sends back in the header Cookie (RFC 6265, section 5.4), in their
+/// order, with names and values percent-decoded. Each part between semicolons is trimmed and read by
+/// itself; one that is blank or no cookie is left out.
+///
+/// Returns `Utf8` where a value of the header is not UTF-8, and `NoMemory` where allocation failed.
+pub fn decoded_cookies(
+    alloc: Global,
+    headers: &HeaderMap<HeaderValue>,
+) -> Result<Vec<Cookie>, Fail<CookieParseError>>
+    ensures { SaysBy (λ cookies. cookies.items) result
+        (cookies_said true (get_all headers.now (codes "cookie"))) }
+{
+    read_cookies(alloc, headers, true)
+}
+
+/// As `decoded_cookies`, with names and values as they are.
+pub fn raw_cookies(
+    alloc: Global,
+    headers: &HeaderMap<HeaderValue>,
+) -> Result<Vec<Cookie>, Fail<CookieParseError>>
+    ensures { SaysBy (λ cookies. cookies.items) result
+        (cookies_said false (get_all headers.now (codes "cookie"))) }
+{
+    read_cookies(alloc, headers, false)
+}
+
+fn read_cookies(
+    alloc: Global,
+    headers: &HeaderMap<HeaderValue>,
+    encoded: bool,
+) -> Result<Vec<Cookie>, Fail<CookieParseError>>
+    ensures { SaysBy (λ cookies. cookies.items) result
+        (cookies_said encoded (get_all headers.now (codes "cookie"))) }
+{
+    let mut cookies = Vec::new(alloc);
+    for value in headers.get_all(COOKIE) {
+        match str::from_utf8(value.as_bytes()) {
+            Ok(text) => add_cookies(alloc, &mut cookies, text, encoded)?,
+            Err(_) => return Err(Fail::Of(CookieParseError::Utf8)),
+        }
+    }
+    Ok(cookies)
+}
+
+/// Adds the cookies that the parts between the semicolons of a text say.
+fn add_cookies(
+    alloc: Global,
+    cookies: &mut Vec<Cookie>,
+    text: &str,
+    encoded: bool,
+) -> Result<(), NoMemory>
+    ensures { OnOk result
+        (cookies.new.items ≡ cookies.old.items ++ cookies_in encoded text.now) }
+{
+    let mut rest = text;
+    'parts: loop {
+        let (part, behind) = first_part(rest);
+        add_cookie(alloc, cookies, part, encoded)?;
+        match behind {
+            Some(behind) => rest = behind,
+            None => return Ok(()),
+        }
+    }
+}
+
+fn add_cookie(
+    alloc: Global,
+    cookies: &mut Vec<Cookie>,
+    part: &str,
+    encoded: bool,
+) -> Result<(), NoMemory>
+    ensures { OnOk result
+        (cookies.new.items ≡ cookies.old.items ++ cookie_of_part encoded part.now) }
+{
+    let text = trim(part);
+    if text.is_empty() {
+        return Ok(());
+    }
+    match read_cookie(alloc, text, encoded) {
+        Ok(cookie) => {
+            cookies.push(cookie)?;
+            Ok(())
+        }
+        Err(Fail::NoMemory) => Err(NoMemory),
+        Err(Fail::Of(_)) => Ok(()),
+    }
+}

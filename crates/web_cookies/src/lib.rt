@@ -1,0 +1,16 @@
+//! Cookies: their attributes, what they are read from, and what they print (RFC 6265).
+#![tactic(auto)]
+
+mod attributes;
+mod cookie_parse_error;
+mod cookie_reader;
+mod cookie_text;
+mod header_cookies;
+mod parts;
+mod response_cookie;
+mod same_site;
+
+pub use cookie_parse_error::CookieParseError;
+pub use header_cookies::{decoded_cookies, raw_cookies};
+pub use response_cookie::Cookie;
+pub use same_site::SameSite;
