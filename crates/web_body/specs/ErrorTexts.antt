@@ -48,3 +48,6 @@ path_error_text (path.Deserialize e) = codes "Path deserialize error: " ++ e.tex
 
 abbrev pub query_error_text : QueryPayloadError → List ℕ
 query_error_text (query.Deserialize e) = codes "Query deserialize error: " ++ e.text
+
+abbrev pub body_limit_text : List ℕ
+body_limit_text = codes "body limit exceeded"

@@ -9,3 +9,4 @@ pub mod Payload
 pub mod PollSteps
 pub mod ErrorTexts
 pub mod PayloadSettings
+pub mod WholePayloads

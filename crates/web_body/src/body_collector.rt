@@ -150,6 +150,7 @@ impl<S: Source> Poll for Collector<S> {
             ≡ (payload_feed S.feed self.old.payload).faults) }
         ensures too_long { OnTooLong result (self.old.limit
             < length self.old.held + bytes_between S.feed self.old.payload self.new.payload) }
+        ensures limited { OnTooLong result (self.old.limit < 18446744073709551615) }
     {
         let step = collect(alloc, &mut self.payload, &mut self.held, self.limit);
         self.is_finished = match &step {

@@ -1,9 +1,9 @@
 //! The loop that collects a body under a limit.
-ghost use Rattle.std.specs.Prelude.{◌≡◌, ◌≤◌, length};
+ghost use Rattle.std.specs.Prelude.{◌≡◌, ◌<◌, ◌≤◌, length};
 ghost use Rattle.web_body.specs.HeldBytes.{held_bytes};
 ghost use Rattle.web_body.specs.Payload.{payload_feed};
 ghost use Rattle.web_body.specs.Collector.{NeedsNoMemory};
-ghost use Rattle.web_body.specs.CollectorPolls.{Collects, PollCounts};
+ghost use Rattle.web_body.specs.CollectorPolls.{Collects, OnTooLong, PollCounts};
 ghost use Rattle.web_body.specs.PollSteps.{NeverNoMemory};
 
 use crate::held::Held;
@@ -38,6 +38,7 @@ pub fn collect<S: Source>(
         payload.old (held_bytes held.old) result payload.new (held_bytes held.new) }
     ensures memory { NeedsNoMemory (payload_feed S.feed payload.old).marks (held_bytes held.old)
         → NeverNoMemory result }
+    ensures limited { OnTooLong result (limit < 18446744073709551615) }
 {
     loop {
         match payload.poll_next() {

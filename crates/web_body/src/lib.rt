@@ -14,6 +14,7 @@ mod payload;
 mod payload_config;
 mod poll;
 mod query_error;
+mod whole_payload;
 
 pub use body_collector::Collector;
 pub use collecting::Unread;
@@ -32,3 +33,4 @@ pub use web_values::{
     JsonFault, ReadFault, ReadJson, ReadPairs, WriteFault, WriteJson, WritePairs, decode_form,
     decode_json, form_pairs, holds_float, pairs_text, read_value, write_form, write_value,
 };
+pub use whole_payload::{BodyLimitExceeded, ToBytes, ToBytesLimited};

@@ -116,3 +116,13 @@ goes_on-fault limit held h = rw (fits_test limit (length held) h, add-zero, fits
 pub goes_on-end : (limit : ℕ) (held : List ℕ) → length held ≤ limit
     → goes_on limit held [] ≡ record { content = Whole held; delay = 0 }
 goes_on-end limit held h = rw (fits_test limit (length held) h) (simp append-nil)
+
+scan_small : (limit k : ℕ) (m : List Mark) → k + length (piece_bytes m) ≤ limit → scan limit k m ≡ None
+scan_small limit k [] h = rw (fits_test limit k (omega (arith, h))) refl
+scan_small limit k (x ∷ m) h =
+    let size = joined_size x m in
+    rw (fits_test limit k (omega (arith, h)), scan_small limit (k + size_of x) m (omega (arith, h, size))) refl
+
+-- a limit that no prefix passes decides nothing
+pub reading_small : (limit : ℕ) (m : List Mark) → length (piece_bytes m) ≤ limit → reading limit m ≡ reading_at None m
+reading_small limit m h = rw (reading_held limit [] m (omega arith), scan_small limit 0 m (omega (arith, h))) refl

@@ -1,0 +1,7 @@
+use Rattle.web_body.specs.MessageBody.{payload_answer}
+use Rattle.web_body.proofs.MessageBodyLemmas.{shifts_answer}
+use Rattle.web_body.proofs.whole_payload.ToBytesPoll.poll.Goals as goal
+
+pub returns-clause-shift : goal.returns-clause-shift
+returns-clause-shift g c =
+    rw (c.all_step.ensures, ← c.self.view_is) (shifts_answer payload_answer c.poll.result _ _ c.poll.ensures.shift)
