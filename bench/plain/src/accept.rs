@@ -9,8 +9,8 @@ pub struct Accept<'a>(Vec<Item<'a>>);
 
 struct Item<'a> {
     media_type: MediaType<'a>,
-    /// Thousandths.
-    quality: u16,
+    /// Thousandths of quality, and how exact the media type is.
+    rank: (u16, u8),
 }
 
 impl<'a> Accept<'a> {
@@ -24,7 +24,7 @@ impl<'a> Accept<'a> {
             let texts = value.split(|byte| *byte == b',').map(trimmed);
             items.extend(texts.filter_map(Item::read));
         }
-        items.sort_by_key(|item| Reverse((item.quality, item.media_type.exactness())));
+        items.sort_by_key(|item| Reverse(item.rank));
         Some(Accept(items))
     }
 
@@ -54,9 +54,10 @@ impl<'a> Item<'a> {
                 _ => {}
             }
         }
+        let media_type = media_type::read(text)?;
         Some(Item {
-            media_type: media_type::read(text)?,
-            quality,
+            rank: (quality, media_type.exactness()),
+            media_type,
         })
     }
 }

@@ -6,9 +6,19 @@ pub fn is_token(bytes: &[u8]) -> bool {
 }
 
 pub fn is_token_byte(byte: u8) -> bool {
-    matches!(byte, b'a'..=b'z' | b'A'..=b'Z' | b'0'..=b'9' | b'!' | b'#'..=b'\'' | b'*' | b'+'
-        | b'-' | b'.' | b'^'..=b'`' | b'|' | b'~')
+    TOKEN_BYTES[usize::from(byte)]
 }
+
+static TOKEN_BYTES: [bool; 256] = {
+    let mut table = [false; 256];
+    let mut byte = 0u8;
+    while byte < 128 {
+        table[byte as usize] = matches!(byte, b'a'..=b'z' | b'A'..=b'Z' | b'0'..=b'9' | b'!'
+            | b'#'..=b'\'' | b'*' | b'+' | b'-' | b'.' | b'^'..=b'`' | b'|' | b'~');
+        byte += 1;
+    }
+    table
+};
 
 /// The number that these bytes write in digits alone, where it is at most `most`.
 pub fn number(digits: &[u8], most: u64) -> Option<u64> {

@@ -1,6 +1,7 @@
 //! Accept.
 use crate::map::{Header, Headers};
 use crate::media_type::MediaType;
+use crate::quality;
 
 pub struct Accept(Vec<Item>);
 
@@ -11,19 +12,8 @@ struct Item {
 }
 
 impl Item {
-    /// A media type and, behind the last semicolon, perhaps a quality.
     fn read(text: &str) -> Option<Item> {
-        let (mut text, mut quality) = (text, 1000);
-        if let Some((front, last)) = text.rsplit_once(';') {
-            match last.trim_ascii().as_bytes() {
-                [] | [_] => return None,
-                [b'q' | b'Q', b'=', digits @ ..] => {
-                    quality = read_quality(digits)?;
-                    text = front.trim_ascii();
-                }
-                _ => {}
-            }
-        }
+        let (text, quality) = quality::split(text)?;
         let media_type = MediaType::read(text)?;
         Some(Item {
             media_type,
@@ -38,25 +28,6 @@ impl Item {
             0 => out.push_str("; q=0"),
             quality => push_quality(out, quality),
         }
-    }
-}
-
-fn read_quality(text: &[u8]) -> Option<u16> {
-    let (whole, fraction) = match text {
-        [whole] => (whole, &[][..]),
-        [whole, b'.', fraction @ ..] if fraction.len() <= 3 => (whole, fraction),
-        _ => return None,
-    };
-    let (mut thousandths, mut unit) = (0, 100);
-    for digit in fraction {
-        let digit = digit.is_ascii_digit().then(|| u16::from(digit - b'0'))?;
-        thousandths += digit * unit;
-        unit /= 10;
-    }
-    match whole {
-        b'0' => Some(thousandths),
-        b'1' if thousandths == 0 => Some(1000),
-        _ => None,
     }
 }
 

@@ -1,13 +1,15 @@
 //! Reads a header from a map, prints it into a text and drops both, many times over: the job of
-//! bench/headers in plain Rust.
+//! bench/headers in plain Rust. Of Accept-Encoding it prints the coding that is negotiated.
 //!
 //! Its arguments are how many times, the header's name, and the names and values of all headers of
 //! the map. It writes the text, or the status is 1 where the header is refused.
 mod accept;
+mod accept_encoding;
 mod cache_control;
 mod disposition;
 mod map;
 mod media_type;
+mod quality;
 mod range;
 mod tags;
 mod text;
@@ -30,6 +32,7 @@ fn printed<H: Header>(headers: &Headers, count: u64) -> Option<String> {
 fn printed_of(name: &str, headers: &Headers, count: u64) -> Option<String> {
     match name {
         "accept" => printed::<accept::Accept>(headers, count),
+        "accept-encoding" => printed::<accept_encoding::AcceptEncoding>(headers, count),
         "content-type" => printed::<media_type::ContentType>(headers, count),
         "cache-control" => printed::<cache_control::CacheControl>(headers, count),
         "content-disposition" => printed::<disposition::ContentDisposition>(headers, count),
