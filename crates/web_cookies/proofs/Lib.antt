@@ -1,4 +1,3 @@
-pub mod PartLemmas
 pub mod AttributeLemmas
 pub mod ReaderLemmas
 pub mod HeaderLemmas

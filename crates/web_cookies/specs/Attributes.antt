@@ -2,7 +2,6 @@
 use Rattle.std.specs.Prelude.{ℕ, ◌==◌, ◌||◌, Bool, true, false, List, [], ◌∷◌, codes, drop, map}
 use Rattle.std.specs.Prelude.{min, Option, None, Some, if◌then◌else◌}
 use Rattle.std.specs.List.{list_any, slice_split}
-use Rattle.std.specs.Borrow.{Bor}
 use Rattle.std.specs.Option.{option_and_then, option_map_or, option_or}
 use Rattle.std.specs.Str.{str_eq_ignore_ascii_case}
 use Rattle.httpdate.specs.declared.parts.Parts.{Parts}
@@ -84,11 +83,6 @@ attribute_of part = attribute_in part (split_once 61 part)
 -- what the parts between the semicolons of a text say
 abbrev pub attributes_of : List ℕ → List Attribute
 attributes_of text = map attribute_of (slice_split is_semicolon text)
-
--- the part of a text before its first semicolon and those behind it
-abbrev pub parts_behind : Option (Bor (List ℕ)) → List (List ℕ)
-parts_behind None = []
-parts_behind (Some rest) = slice_split is_semicolon rest.now
 
 -- what the last one says that says something
 abbrev pub last_said : {A T : Type 0} → (A → Option T) → List A → Option T

@@ -9,12 +9,11 @@ ghost use Rattle.web_cookies.specs.Attributes.{age_of, attribute_of, attributes_
 ghost use Rattle.web_cookies.specs.Attributes.{named_attribute, site_of, with_attributes};
 ghost use Rattle.web_cookies.specs.Attributes.{without_dot};
 
-use crate::parts::first_part;
 use crate::response_cookie::Cookie;
 use crate::same_site::SameSite;
 use httpdate::HttpDate;
 use std::alloc::Global;
-use web_texts::{NoMemory, Text, cut_at, number_of, trim};
+use web_texts::{NoMemory, Text, cut_at, first_part, number_of, trim};
 
 /// The longest age, in seconds.
 const LONGEST_AGE: u64 = 9_223_372_036_854_775_807;
@@ -25,7 +24,7 @@ pub fn read_attributes(alloc: Global, cookie: &mut Cookie, text: &str) -> Result
 {
     let mut rest = text;
     'parts: loop {
-        let (part, behind) = first_part(rest);
+        let (part, behind) = first_part(rest, b';');
         read_attribute(alloc, cookie, part)?;
         match behind {
             Some(behind) => rest = behind,

@@ -6,12 +6,11 @@ ghost use Rattle.web_cookies.specs.HeaderCookies.{cookie_of_part, cookies_in, co
 
 use crate::cookie_parse_error::CookieParseError;
 use crate::cookie_reader::read_cookie;
-use crate::parts::first_part;
 use crate::response_cookie::Cookie;
 use http_header::{COOKIE, HeaderMap, HeaderValue};
 use std::alloc::Global;
 use std::str;
-use web_texts::{Fail, NoMemory, trim};
+use web_texts::{Fail, NoMemory, first_part, trim};
 
 /// The cookies that a client sends back in the header Cookie (RFC 6265, section 5.4), in their
 /// order, with names and values percent-decoded. Each part between semicolons is trimmed and read by
@@ -69,7 +68,7 @@ fn add_cookies(
 {
     let mut rest = text;
     'parts: loop {
-        let (part, behind) = first_part(rest);
+        let (part, behind) = first_part(rest, b';');
         add_cookie(alloc, cookies, part, encoded)?;
         match behind {
             Some(behind) => rest = behind,

@@ -6,7 +6,6 @@ mod cookie_parse_error;
 mod cookie_reader;
 mod cookie_text;
 mod header_cookies;
-mod parts;
 mod response_cookie;
 mod same_site;
 

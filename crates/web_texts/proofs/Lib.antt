@@ -8,6 +8,7 @@ pub mod EscapeLemmas
 pub mod EssenceLemmas
 pub mod ParameterLemmas
 pub mod PieceLemmas
+pub mod TextPartLemmas
 pub mod TagLemmas
 pub mod DecimalLemmas
 mod MethodLemmas

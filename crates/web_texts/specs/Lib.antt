@@ -16,5 +16,6 @@ pub mod Pieces
 pub mod QualityItems
 pub mod QualityValues
 pub mod QuotedText
+pub mod TextParts
 pub mod TextReaders
 pub mod Tokens

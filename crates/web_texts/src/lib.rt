@@ -25,6 +25,7 @@ mod quality_value;
 mod quoted_text;
 mod readers;
 mod text;
+mod text_parts;
 mod tokens;
 
 pub use blanks::{trim, trim_bytes, trim_end, trim_front};
@@ -50,4 +51,5 @@ pub use quality_value::{Quality, q};
 pub use quoted_text::unescape;
 pub use readers::ReadText;
 pub use text::{Pair, Text};
+pub use text_parts::first_part;
 pub use tokens::{is_token, to_lowercase};
