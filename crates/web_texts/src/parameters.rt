@@ -1,6 +1,6 @@
 //! Parameters of a media type (RFC 9110, section 5.6.6).
 ghost use Rattle.std.specs.Prelude.{◌≡◌, ◌==◌, ◌-◌, ◌&&◌, length, take, drop, slice_index};
-ghost use Rattle.std.specs.Prelude.{true, false, MatchOption, IfOk};
+ghost use Rattle.std.specs.Prelude.{true, false, MatchOption};
 ghost use Rattle.web_texts.specs.TextReaders.{Reads, ReadsBy};
 ghost use Rattle.web_texts.specs.Pieces.{pieces};
 ghost use Rattle.web_texts.specs.QuotedText.{is_closed as closed_test};
@@ -12,11 +12,11 @@ ghost use Rattle.web_texts.specs.declared.parameters.Place.TheVariants as place;
 use crate::blanks::{trim, trim_front};
 use crate::cut::cut_at;
 use crate::errors::MimeFault;
-use crate::memory::{Fail, NoMemory};
+use crate::memory::Fail;
 use crate::pieces::{Mode, first_piece};
 use crate::quoted_text::{is_closed, unescape};
 use crate::text::{Pair, Text};
-use crate::tokens::{is_token, to_lowercase};
+use crate::tokens::{in_lowercase, is_token, to_lowercase};
 use std::alloc::Global;
 
 /// A place in a media type.
@@ -88,14 +88,14 @@ fn read_value(alloc: Global, text: &str) -> Result<Text, Fail<MimeFault>>
     }
 }
 
-fn make_parameter(alloc: Global, name: Text, value: Text) -> Result<Pair, NoMemory>
-    ensures { IfOk result (λ made. made ≡ parameter name value) }
+fn make_parameter(name: Text, value: Text) -> Pair
+    ensures { result ≡ parameter name value }
 {
     if name.as_str() == "charset" {
-        let value = to_lowercase(alloc, value.as_str())?;
-        return Ok(Pair { name, value });
+        let value = in_lowercase(value);
+        return Pair { name, value };
     }
-    Ok(Pair { name, value })
+    Pair { name, value }
 }
 
 fn read_parameter(alloc: Global, piece: &str) -> Result<Pair, Fail<MimeFault>>
@@ -109,7 +109,7 @@ fn read_parameter(alloc: Global, piece: &str) -> Result<Pair, Fail<MimeFault>>
     }
     let name = to_lowercase(alloc, name)?;
     let value = read_value(alloc, value)?;
-    Ok(make_parameter(alloc, name, value)?)
+    Ok(make_parameter(name, value))
 }
 
 fn push_parameter(alloc: Global, params: &mut Vec<Pair>, piece: &str) -> Result<(), Fail<MimeFault>>

@@ -42,3 +42,12 @@ pub fn to_lowercase(alloc: Global, text: &str) -> Result<Text, NoMemory>
     made.make_ascii_lowercase();
     Ok(Text::from(made))
 }
+
+/// The text with its ASCII letters in lower case. It takes no memory.
+pub fn in_lowercase(text: Text) -> Text
+    ensures { result ≡ str_to_ascii_lowercase text }
+{
+    let mut made = text.into_string();
+    made.make_ascii_lowercase();
+    Text::from(made)
+}
