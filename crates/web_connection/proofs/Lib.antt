@@ -1,0 +1,3 @@
+pub mod HeaderTextLemmas
+pub mod AddressLemmas
+pub mod ForwardedLemmas

@@ -1,0 +1,4 @@
+pub mod HeaderTexts
+pub mod ForwardedPairs
+pub mod Addresses
+pub mod Origins

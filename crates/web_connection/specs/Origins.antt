@@ -1,0 +1,37 @@
+-- Where a request came from, by its header fields.
+use Rattle.std.specs.Prelude.{ℕ, Bool, List, Option, codes, unwrap_or, if◌then◌else◌}
+use Rattle.std.specs.Option.{option_map, option_or}
+use Rattle.http_header.specs.FieldValue.{FieldValue}
+use Rattle.http_header.specs.HeaderMap.{Entries, get_all}
+use Rattle.web_connection.specs.Addresses.{bare_address}
+use Rattle.web_connection.specs.ForwardedPairs.{forwarded}
+use Rattle.web_connection.specs.HeaderTexts.{first_item, first_text}
+
+-- the value of the first pair of this name in Forwarded
+abbrev pub forwarded_value : Entries FieldValue → List ℕ → Option (List ℕ)
+forwarded_value fields name = forwarded name (get_all fields (codes "forwarded"))
+
+abbrev pub default_scheme : Bool → List ℕ
+default_scheme secure = if secure then codes "https" else codes "http"
+
+-- The first of these: `proto` of Forwarded, X-Forwarded-Proto, the scheme of the target, and the
+-- one that the worker serves.
+abbrev pub scheme_of : Entries FieldValue → Option (List ℕ) → Bool → List ℕ
+scheme_of fields scheme secure =
+    let said = option_or (forwarded_value fields (codes "proto"))
+    (first_item fields (codes "x-forwarded-proto")) in
+    unwrap_or (option_or said scheme) (default_scheme secure)
+
+-- The first of these: `host` of Forwarded, X-Forwarded-Host, Host, the authority of the target, and
+-- the host that the worker serves.
+abbrev pub host_of : Entries FieldValue → Option (List ℕ) → List ℕ → List ℕ
+host_of fields authority host =
+    let said = option_or (forwarded_value fields (codes "host"))
+    (first_item fields (codes "x-forwarded-host")) in
+    unwrap_or (option_or said (option_or (first_text fields (codes "host")) authority)) host
+
+-- The first of these: `for` of Forwarded, without its port, and X-Forwarded-For.
+abbrev pub client_of : Entries FieldValue → Option (List ℕ)
+client_of fields =
+    option_or (option_map bare_address (forwarded_value fields (codes "for")))
+    (first_item fields (codes "x-forwarded-for"))
