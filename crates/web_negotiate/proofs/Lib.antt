@@ -1,2 +1,3 @@
 pub mod GreatestLemmas
+pub mod RankedLemmas
 pub mod RankingLemmas

@@ -8,13 +8,13 @@ use Rattle.web_texts.specs.declared.quality_item.QualityItem.{QualityItem}
 use Rattle.web_negotiate.specs.ChoiceLaws.{HasWanted}
 use Rattle.web_negotiate.specs.Rankings.{above, IsRanked, IsRanking, IsFirst, IsGreatest, IsPreference, or_otherwise}
 
-at_most : (a b : ℕ) → is_lt (nat_cmp a b) ≡ false → b ≤ a
+pub at_most : (a b : ℕ) → is_lt (nat_cmp a b) ≡ false → b ≤ a
 at_most a b e = grind (arith, nat_tests)
 
-not_less : (a b : ℕ) → b ≤ a → is_lt (nat_cmp a b) ≡ false
+pub not_less : (a b : ℕ) → b ≤ a → is_lt (nat_cmp a b) ≡ false
 not_less a b e = grind (arith, nat_tests)
 
-less : (a b : ℕ) → a < b → is_lt (nat_cmp a b) ≡ true
+pub less : (a b : ℕ) → a < b → is_lt (nat_cmp a b) ≡ true
 less a b e = grind (arith, nat_tests)
 
 both_not : (a b : Bool) → (not a && not b) ≡ true → (a ≡ false) × (b ≡ false)
@@ -23,10 +23,10 @@ both_not false true e = absurd (cc)
 both_not false false e = (refl, refl)
 
 -- items tie where their ranks are equal
-tied : {X : Type 0} (rank : X → ℕ) (x y : X) → rank x ≡ rank y → ties (above rank) x y ≡ true
+pub tied : {X : Type 0} (rank : X → ℕ) (x y : X) → rank x ≡ rank y → ties (above rank) x y ≡ true
 tied rank x y e = rw (not_less (rank y) (rank x) (omega (arith, e)), not_less (rank x) (rank y) (omega (arith, e))) refl
 
-equal_where : {X : Type 0} (rank : X → ℕ) (x y : X) → ties (above rank) x y ≡ true → rank x ≡ rank y
+pub equal_where : {X : Type 0} (rank : X → ℕ) (x y : X) → ties (above rank) x y ≡ true → rank x ≡ rank y
 equal_where rank x y e =
     let k = both_not (above rank x y) (above rank y x) e in
     omega (arith, at_most (rank y) (rank x) k.0, at_most (rank x) (rank y) k.1)

@@ -5,7 +5,8 @@ use Rattle.web_texts.specs.MediaTypes.{MediaType}
 use Rattle.web_texts.specs.declared.quality_item.QualityItem.{QualityItem}
 use Rattle.web_headers.specs.declared.preferences.Preference.TheVariants as preference
 use Rattle.web_negotiate.specs.LanguageChoices.{Language, IsLanguageRanking, IsLanguagePreference}
-use Rattle.web_negotiate.specs.MediaChoices.{IsMediaRanking}
+use Rattle.web_negotiate.specs.MediaChoices.{IsMediaRanking, media_rank}
+use Rattle.web_negotiate.specs.Rankings.{quality_rank, ranked_by}
 
 -- some quality is above zero
 abbrev pub HasWanted : {T : Type 0} → List (QualityItem T) → Type 0
@@ -18,6 +19,11 @@ pub record RankingLaw : Type 0 where
       → IsMediaRanking xs ranked → IsPermutation (map (λ x. x.item) xs) ranked
   pub languages : (xs : List (QualityItem Language)) (ranked : List Language)
       → IsLanguageRanking xs ranked → IsPermutation (map (λ x. x.item) xs) ranked
+  -- and there is one such rearrangement
+  pub media_only : (xs : List (QualityItem MediaType)) (ranked : List MediaType)
+      → IsMediaRanking xs ranked → ranked ≡ map (λ x. x.item) (ranked_by media_rank xs)
+  pub languages_only : (xs : List (QualityItem Language)) (ranked : List Language)
+      → IsLanguageRanking xs ranked → ranked ≡ map (λ x. x.item) (ranked_by quality_rank xs)
   -- the preferred language is the first of the ranked ones where some quality is above zero
   pub first : (xs : List (QualityItem Language)) (ranked : List Language) (given d : Language)
       → IsLanguageRanking xs ranked → IsLanguagePreference xs given → HasWanted xs

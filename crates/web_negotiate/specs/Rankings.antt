@@ -1,6 +1,6 @@
 -- Items in the order of their ranks, and the first of the greatest.
-use Rattle.std.specs.Prelude.{◌≡◌, ◌<◌, ◌≤◌, ℕ, Bool, List, map, length, slice_index_or}
-use Rattle.std.specs.Prelude.{Option, None, Some}
+use Rattle.std.specs.Prelude.{◌≡◌, ◌<◌, ◌≤◌, ℕ, Bool, List, [], ◌∷◌, map, length, slice_index_or}
+use Rattle.std.specs.Prelude.{Option, None, Some, if◌then◌else◌}
 use Rattle.std.specs.Ordering.{is_lt, nat_cmp}
 use Rattle.std.specs.List.Sorted.{IsPermutation, IsSortedBy, IsStableBy}
 use Rattle.web_texts.specs.declared.quality_item.QualityItem.{QualityItem}
@@ -15,6 +15,17 @@ pub record IsRanked {X : Type 0} (rank : X → ℕ) (xs ys : List X) : Type 0 wh
   pub same : IsPermutation xs ys
   pub falls : IsSortedBy (above rank) ys
   pub keeps : IsStableBy (above rank) xs ys
+
+-- the list with one more item, which stands before the first that is not greater
+abbrev pub with_item : {X : Type 0} → (X → ℕ) → X → List X → List X
+with_item rank x [] = x ∷ []
+with_item rank x (y ∷ ys) =
+    if above rank y x then y ∷ with_item rank x ys else x ∷ y ∷ ys
+
+-- the items ranked; `ranking_law` says that there is no other such list
+abbrev pub ranked_by : {X : Type 0} → (X → ℕ) → List X → List X
+ranked_by rank [] = []
+ranked_by rank (x ∷ xs) = with_item rank x (ranked_by rank xs)
 
 -- the items of a list with qualities, ranked
 pub record IsRanking {T : Type 0} (rank : QualityItem T → ℕ) (xs : List (QualityItem T))
