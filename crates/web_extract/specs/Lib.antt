@@ -17,3 +17,6 @@ pub mod BodyFutures
 pub mod LayerConfigurations
 pub mod StringArgument
 pub mod FirstTaker
+pub mod HeadArguments
+pub mod DataArguments
+pub mod PayloadArgument

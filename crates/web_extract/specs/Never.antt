@@ -13,6 +13,10 @@ NeverGives e f = f ≡ fault_of (Io Other)
 pub never_converted : (e : Never) → (f : Fault) × NeverGives e f
 never_converted e = (fault_of (Io Other), refl)
 
+-- what stands for an error where one has to be named
+abbrev pub never : Never
+never = record { sealed = tt }
+
 -- no refusal is allowed
 abbrev pub NeverRefuses :
     {T E : Type 0} → (List Mark → List Mark → ℕ → Result T E → Type 0) → Type 0

@@ -26,3 +26,7 @@ pub record Parts (L D C : Type 0) : Type 0 where
 pub record Record (L D C : Type 0) : Type 0 where
   pub request : Request L D C
   pub serial : ℕ
+
+-- a record of this request
+abbrev pub record_of : {L D C : Type 0} → Request L D C → Record L D C
+record_of q = record { request = q; serial = 0 }
