@@ -3,8 +3,8 @@ use Rattle.std.specs.Prelude.{ℕ, Option, None, Some, option_map}
 use Rattle.web_texts.specs.MediaTypes.{MediaType}
 use Rattle.web_body.specs.PayloadSettings.{PayloadSettings, default_payload_settings}
 use Rattle.web_extract.specs.LayerConfigurations.{Configurations, holds_nothing}
-use Rattle.web_extract.specs.declared.layer_configs.NoHandler.{NoHandler}
-use Rattle.web_extract.specs.declared.layer_configs.NoType.{NoType}
+use Rattle.web_extract.specs.declared.refuse.NoHandler.{NoHandler}
+use Rattle.web_extract.specs.declared.refuse.NoType.{NoType}
 use Rattle.web_script.specs.declared.layer.LayerSettings.{LayerSettings}
 use Rattle.web_demo.specs.declared.layer.DemoLayer.{DemoLayer}
 

@@ -10,6 +10,7 @@ pub mod OptionArgument
 pub mod PerPlace
 pub mod Place
 pub mod ReadyFuture
+pub mod Refusals
 pub mod ConvertedFutures
 pub mod EitherFutures
 pub mod BodyArguments

@@ -8,7 +8,8 @@ ghost use Rattle.web_extract.specs.BodyArguments.{unexpected_type};
 ghost use Rattle.web_extract.specs.LayerConfigurations.{payload_settings};
 
 use crate::bad_request::bad_request;
-use crate::layer_configs::{Configs, PayloadChoice};
+use crate::config_choices::PayloadChoice;
+use crate::layer_configs::Configs;
 use std::alloc::Global;
 use web_body::{DEFAULT_LIMIT, PayloadConfig};
 use web_reply::Error;

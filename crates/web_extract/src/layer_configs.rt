@@ -1,18 +1,13 @@
 //! The configurations that a layer has.
-ghost use Rattle.std.specs.Prelude.{◌≡◌, option_copied};
-ghost use Rattle.web_extract.specs.LayerConfigurations.{Configurations, Lends, holds_nothing};
+ghost use Rattle.std.specs.Prelude.{◌≡◌, IfSome, option_copied};
+ghost use Rattle.web_extract.specs.LayerConfigurations.{AreUsable, Configurations, Lends};
+ghost use Rattle.web_extract.specs.LayerConfigurations.{IsUsable, IsUsableForm, IsUsableJson};
+ghost use Rattle.web_extract.specs.LayerConfigurations.{holds_nothing};
 
-use std::marker::PhantomData;
-use web_body::PayloadConfig;
-use web_request::{AppLayer, ConfigChoice, Data, NoData};
-
-/// The type of a handler of faults that a layer does not have. It has no value.
-#[derive(Drop)]
-pub enum NoHandler {}
-
-/// The type of a predicate of media types that a layer does not have. It has no value.
-#[derive(Drop)]
-pub enum NoType {}
+use crate::refuse::{NoHandler, NoType, Refuse};
+use web_body::{JsonPayloadError, PathError, PayloadConfig, QueryPayloadError, UrlencodedError};
+use web_decoders::{AllowType, FormConfig, JsonConfig, PathConfig, QueryConfig};
+use web_request::{AppLayer, Data, NoData};
 
 /// The configurations that a layer lends, each where the layer has one.
 ///
@@ -24,8 +19,20 @@ pub struct LayerConfigs<'a, OnJson, OnForm, OnPath, OnQuery, JsonType> {
     pub payload: Option<&'a PayloadConfig>,
     /// How bodies are read, where no layer has a configuration of its own.
     pub shared_payload: Option<&'a Data<PayloadConfig>>,
-    /// The types of the layer's handlers and of its predicate.
-    pub types: PhantomData<(OnJson, OnForm, OnPath, OnQuery, JsonType)>,
+    /// How JSON bodies are read.
+    pub json: Option<&'a JsonConfig<OnJson, JsonType>>,
+    /// How JSON bodies are read, where no layer has a configuration of its own.
+    pub shared_json: Option<&'a Data<JsonConfig<OnJson, JsonType>>>,
+    /// How forms are read.
+    pub form: Option<&'a FormConfig<OnForm>>,
+    /// How forms are read, where no layer has a configuration of its own.
+    pub shared_form: Option<&'a Data<FormConfig<OnForm>>>,
+    /// How the parameters of paths are read.
+    pub path: Option<&'a PathConfig<OnPath>>,
+    /// How the parameters of paths are read, where no layer has a configuration of its own.
+    pub shared_path: Option<&'a Data<PathConfig<OnPath>>>,
+    /// How queries are read. This configuration is not shared.
+    pub query: Option<&'a QueryConfig<OnQuery>>,
 }
 
 impl<'a, OnJson, OnForm, OnPath, OnQuery, JsonType> LayerConfigs<
@@ -43,7 +50,13 @@ impl<'a, OnJson, OnForm, OnPath, OnQuery, JsonType> LayerConfigs<
         LayerConfigs {
             payload: None,
             shared_payload: None,
-            types: PhantomData,
+            json: None,
+            shared_json: None,
+            form: None,
+            shared_form: None,
+            path: None,
+            shared_path: None,
+            query: None,
         }
     }
 }
@@ -56,31 +69,33 @@ impl<'a, OnJson, OnForm, OnPath, OnQuery, JsonType> LayerConfigs<
 /// A layer implements `configurations` alone. Where it has no handler or no predicate of some kind,
 /// it names [`NoHandler`] or [`NoType`] as the type.
 pub trait Configs: AppLayer {
-    /// A handler of faults in JSON bodies.
-    type OnJson: Drop;
+    /// A handler of refusals of JSON bodies.
+    type OnJson: Refuse<JsonPayloadError>;
 
-    /// A handler of faults in bodies that are forms.
-    type OnForm: Drop;
+    /// A handler of refusals of bodies that are forms.
+    type OnForm: Refuse<UrlencodedError>;
 
-    /// A handler of faults in the parameters of a path.
-    type OnPath: Drop;
+    /// A handler of refusals of the parameters of a path.
+    type OnPath: Refuse<PathError>;
 
-    /// A handler of faults in a query.
-    type OnQuery: Drop;
+    /// A handler of refusals of a query.
+    type OnQuery: Refuse<QueryPayloadError>;
 
     /// A predicate of the media types that are read as JSON.
-    type JsonType: Drop;
+    type JsonType: AllowType;
 
     /// The configurations.
     ghost configurations: { Self → Configurations
         Self.OnJson Self.OnForm Self.OnPath Self.OnQuery Self.JsonType };
 
-    /// The configurations.
+    /// The configurations. Their handlers and predicates may be called where the layer is ready.
     fn configurations(
         &self,
     ) -> LayerConfigs<'_, Self::OnJson, Self::OnForm, Self::OnPath, Self::OnQuery, Self::JsonType>
         requires { Self.ready self.now }
-        ensures { Lends result (configurations self.now) };
+        ensures lends { Lends result (configurations self.now) }
+        ensures usable { AreUsable Self.OnJson.ready Self.OnForm.ready Self.OnPath.ready
+            Self.OnQuery.ready Self.JsonType.ready result };
 
     /// The layer's own configuration of payloads.
     fn payload(&self) -> Option<&PayloadConfig>
@@ -96,6 +111,69 @@ pub trait Configs: AppLayer {
         ensures { option_copied result ≡ (configurations self.now).shared_payload }
     {
         self.configurations().shared_payload
+    }
+
+    /// The layer's own configuration of JSON bodies.
+    fn json(&self) -> Option<&JsonConfig<Self::OnJson, Self::JsonType>>
+        requires { Self.ready self.now }
+        ensures value { option_copied result ≡ (configurations self.now).json }
+        ensures usable { IfSome result (λ c. IsUsableJson Self.OnJson.ready Self.JsonType.ready c.now) }
+    {
+        self.configurations().json
+    }
+
+    /// The configuration of JSON bodies that the layer shares.
+    fn shared_json(&self) -> Option<&Data<JsonConfig<Self::OnJson, Self::JsonType>>>
+        requires { Self.ready self.now }
+        ensures value { option_copied result ≡ (configurations self.now).shared_json }
+        ensures usable { IfSome result (λ c. IsUsableJson Self.OnJson.ready Self.JsonType.ready c.now) }
+    {
+        self.configurations().shared_json
+    }
+
+    /// The layer's own configuration of forms.
+    fn form(&self) -> Option<&FormConfig<Self::OnForm>>
+        requires { Self.ready self.now }
+        ensures value { option_copied result ≡ (configurations self.now).form }
+        ensures usable { IfSome result (λ c. IsUsableForm Self.OnForm.ready c.now) }
+    {
+        self.configurations().form
+    }
+
+    /// The configuration of forms that the layer shares.
+    fn shared_form(&self) -> Option<&Data<FormConfig<Self::OnForm>>>
+        requires { Self.ready self.now }
+        ensures value { option_copied result ≡ (configurations self.now).shared_form }
+        ensures usable { IfSome result (λ c. IsUsableForm Self.OnForm.ready c.now) }
+    {
+        self.configurations().shared_form
+    }
+
+    /// The layer's own configuration of the parameters of paths.
+    fn path(&self) -> Option<&PathConfig<Self::OnPath>>
+        requires { Self.ready self.now }
+        ensures value { option_copied result ≡ (configurations self.now).path }
+        ensures usable { IfSome result (λ c. IsUsable Self.OnPath.ready c.now) }
+    {
+        self.configurations().path
+    }
+
+    /// The configuration of the parameters of paths that the layer shares.
+    fn shared_path(&self) -> Option<&Data<PathConfig<Self::OnPath>>>
+        requires { Self.ready self.now }
+        ensures value { option_copied result ≡ (configurations self.now).shared_path }
+        ensures usable { IfSome result (λ c. IsUsable Self.OnPath.ready c.now) }
+    {
+        self.configurations().shared_path
+    }
+
+    /// The layer's own configuration of queries.
+    fn query(&self) -> Option<&QueryConfig<Self::OnQuery>>
+        requires { Self.ready self.now }
+        ensures value { option_copied result ≡ (configurations self.now).query }
+        ensures usable { IfSome result (λ c. IsUsable Self.OnQuery.ready c.now) }
+    {
+        self.configurations().query
     }
 }
 
@@ -118,27 +196,5 @@ impl Configs for NoData {
         &self,
     ) -> LayerConfigs<'_, NoHandler, NoHandler, NoHandler, NoHandler, NoType> {
         LayerConfigs::none()
-    }
-}
-
-/// The choice of the configuration of payloads, for `HttpRequest::nearest_config`.
-pub struct PayloadChoice;
-
-impl<L: Configs> ConfigChoice<L> for PayloadChoice {
-    type Config = PayloadConfig;
-
-    ghost own = { λ l. (L.configurations l).payload };
-
-    ghost shared = { λ l. (L.configurations l).shared_payload };
-
-    fn own(layer: &L) -> Option<&PayloadConfig> {
-        layer.payload()
-    }
-
-    fn shared(layer: &L) -> Option<&PayloadConfig> {
-        match layer.shared_payload() {
-            Some(shared) => Some(shared.get_ref()),
-            None => None,
-        }
     }
 }

@@ -1,0 +1,17 @@
+-- What handlers answer.
+use Rattle.std.proofs.Common.{refl}
+use Rattle.std.specs.Prelude.{Result, Ok, Err, IfOk}
+use Rattle.std.specs.Fn.{Shared, FnReturns}
+use Rattle.std.specs.Borrow.{Bor}
+use Rattle.web_texts.specs.declared.memory.NoMemory.{NoMemory}
+use Rattle.web_request.specs.declared.head.RequestHead.{RequestHead}
+use Rattle.web_request.specs.Head.{head_view}
+use Rattle.web_reply.specs.Replies.{Fault}
+use Rattle.web_extract.specs.Refusals.{ClosureRefuses}
+
+-- an error that a closure returned is one that it may return
+pub closure_refuses : {F E : Type 0} (closure : Shared F (E × (Bor RequestHead × Unit {0})) (Result Fault NoMemory))
+    (f : F) (e : E) (lent : Bor RequestHead) (r : Result Fault NoMemory) → FnReturns closure f (e, (lent, tt)) r
+    → IfOk r (λ x. ClosureRefuses closure f e (head_view lent.now) x)
+closure_refuses closure f e lent (Ok x) h = record { lent = lent; is_head = refl; returns = h }
+closure_refuses closure f e lent (Err n) h = tt
