@@ -59,3 +59,15 @@ uri_some head e m none =
 abbrev pub seen_target : {E : Type 0} → Result Uri E → Result Target E
 seen_target (Ok u) = Ok (uri_view u)
 seen_target (Err e) = Err e
+
+-- nothing but this is allowed, seen by the view, for all marks, which are left
+abbrev pub OnlyNow : {X Y : Type 0}
+    → (X → Y) → (List Mark → List Mark → ℕ → X → Type 0) → Y → Type 0
+OnlyNow {X} view means y = (m rest : List Mark) (n : ℕ) (x : X) → means m rest n x
+    → (rest ≡ m) × (n ≡ 0) × (view x ≡ y)
+
+-- the same for a target that has the parts of the head's
+abbrev pub OnlyTarget : {E : Type 0}
+    → Head → (List Mark → List Mark → ℕ → Result Uri E → Type 0) → Type 0
+OnlyTarget head means = (u : Uri) → uri_view u ≡ head_target head
+    → OnlyNow seen_target means (Ok (head_target head))

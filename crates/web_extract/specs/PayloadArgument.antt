@@ -37,3 +37,12 @@ seen_payload feed (Err e) = Err e
 -- the payload as an argument, seen by its marks
 abbrev pub payload_result : List Mark → DelayedResult (Option (List Mark))
 payload_result m = immediate (Ok (Some m))
+
+-- Where some payload has the marks, nothing but a payload that has them is allowed, and none is
+-- left.
+abbrev pub OnlyPayload : {S : Type 0}
+    → (S → Feed) → (List Mark → List Mark → ℕ → Result (Payload S) Fault → Type 0) → Type 0
+OnlyPayload {S} feed means = (p : Payload S) (m : List Mark) → (payload_feed feed p).marks ≡ Some m
+    → (rest : List Mark) (n : ℕ) (x : Result (Payload S) Fault) → means m rest n x
+    → (rest ≡ []) × (n ≡ (payload_result m).delay)
+    × (seen_payload feed x ≡ (payload_result m).result)

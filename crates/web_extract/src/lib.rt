@@ -1,6 +1,7 @@
 //! The arguments of handlers, and how they are extracted from requests.
 #![tactic(auto)]
 
+mod argument_laws;
 mod bad_request;
 mod body_futures;
 mod bytes_argument;
@@ -33,6 +34,7 @@ mod tuple_two;
 mod unit;
 mod uri_argument;
 
+pub use argument_laws::{data_law, head_law, payload_law};
 pub use body_futures::{BytesExtractFut, StringExtractFut};
 pub use config_choices::{FormChoice, JsonChoice, PathChoice, PayloadChoice, QueryChoice};
 pub use either_future::EitherFuture;
