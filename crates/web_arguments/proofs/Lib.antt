@@ -1,1 +1,2 @@
 pub mod HeaderArgumentLemmas
+pub mod ReadArgumentsLemmas

@@ -1,1 +1,4 @@
 pub mod HeaderArgument
+pub mod ReadArguments
+pub mod PathArgument
+pub mod QueryArgument

@@ -3,6 +3,11 @@
 
 mod header_argument;
 mod laws;
+mod path_argument;
+mod path_parameters;
+mod query_argument;
 
 pub use header_argument::Header;
-pub use laws::header_law;
+pub use laws::{header_law, path_law, query_law};
+pub use path_argument::Path;
+pub use query_argument::Query;
