@@ -60,6 +60,7 @@ const CONTENT_RANGES: &[Row] = &[
     (&[b"x"], None),
     (&[b""], None),
     (&[], None),
+    (&[b"bytes  0-1/2"], None),
 ];
 
 #[test]
@@ -87,6 +88,26 @@ const RANGES: &[Row] = &[
     (&[b"=1"], None),
     (&[b"bytes"], None),
     (&[], None),
+    (&[b"bytes=-50"], Some("bytes=-50")),
+    (&[b"bytes=x"], None),
+    (&[b"x="], None),
+    (&[b"bytes= 0-1 , 2-3 "], Some("bytes=0-1,2-3")),
+    (
+        &[b"bytes=18446744073709551615-"],
+        Some("bytes=18446744073709551615-"),
+    ),
+    (&[b"bytes=-8"], Some("bytes=-8")),
+    (&[b"bytes=-10"], Some("bytes=-10")),
+    (&[b"items=0-8,8-9"], Some("items=0-8,8-9")),
+    (&[b"bytes ="], None),
+    (&[b"bytes= 2-4 "], Some("bytes=2-4")),
+    (&[b"bytes=-11"], Some("bytes=-11")),
+    (&[b"bytes=8-"], Some("bytes=8-")),
+    (&[b"bytes=9-"], Some("bytes=9-")),
+    (&[b"bytes=1-2"], Some("bytes=1-2")),
+    (&[b"bytes=1-9"], Some("bytes=1-9")),
+    (&[b"bytes=100-"], Some("bytes=100-")),
+    (&[b"items=1-"], Some("items=1-")),
 ];
 
 #[test]
@@ -121,6 +142,27 @@ const TAG_LISTS: &[Row] = &[
     (&[b"W/\"e\", , w/\"v1\""], Some("W/\"e\"")),
     (&[b"\"v1, \"\""], Some("")),
     (&[b"W/\"v1\", \"\xff\""], None),
+    (&[b"*"], Some("*")),
+    (&[b"\"a\"", b"*"], Some("\"a\"")),
+    (&[b"*", b"\"a\""], Some("*")),
+    (&[b"x"], Some("")),
+    (&[b"\"\xff\", \"v1\", \"x\""], None),
+    (&[b"\"\", \"e\""], Some("\"\", \"e\"")),
+    (&[b"v1"], Some("")),
+    (&[b"\"v1"], Some("")),
+    (&[b"W/\"v1\", \"e\""], Some("W/\"v1\", \"e\"")),
+    (&[b"W/\"v1\", *, w/\"v1\""], Some("W/\"v1\"")),
+    (
+        &[b"W/\"a,b\", W/\"a,b\", W/\"e\""],
+        Some("W/\"a,b\", W/\"a,b\", W/\"e\""),
+    ),
+    (&[b", W/\"v1\", \"\""], Some("W/\"v1\", \"\"")),
+    (&[b", \"v1\""], Some("\"v1\"")),
+    (&[b"\"x\""], Some("\"x\"")),
+    (&[b"\"v1\", W/\"e\", \"x\""], Some("\"v1\", W/\"e\", \"x\"")),
+    (&[b"v1, W/\"e\", v1"], Some("W/\"e\"")),
+    (&[b"\"v 1\", "], Some("")),
+    (&[b"W/\"e\", , W/\"v1\""], Some("W/\"e\", W/\"v1\"")),
 ];
 
 #[test]
@@ -138,6 +180,11 @@ const IF_RANGES: &[Row] = &[
     (&[b" Tue, 15 Nov 1994 08:12:31 GMT"], None),
     (&[b"x"], None),
     (&[], None),
+    (&[b"\"xyzzy\""], Some("\"xyzzy\"")),
+    (
+        &[b"Tue, 15 Nov 1994 08:12:31 GMT"],
+        Some("Tue, 15 Nov 1994 08:12:31 GMT"),
+    ),
 ];
 
 #[test]
@@ -174,6 +221,13 @@ const DISPOSITIONS: &[Row] = &[
     (&[b"; a=b"], None),
     (&[b"\xff"], None),
     (&[], None),
+    (&[b" form-data; name=a "], Some("form-data; name=a")),
+    (
+        &[b"form-data;name=\"\";NAME=b"],
+        Some("form-data; name=; name=b"),
+    ),
+    (&[b"a; x*=utf-8'en'a"], Some("a; x*=UTF-8'en'a")),
+    (&[b""], None),
 ];
 
 #[test]

@@ -7,6 +7,10 @@
 #[cfg(test)]
 mod compare;
 #[cfg(test)]
+mod compressing_proxy;
+#[cfg(test)]
 mod entity_headers;
+#[cfg(test)]
+mod file_service;
 #[cfg(test)]
 mod negotiation;

@@ -37,6 +37,60 @@ const ACCEPT: &[Row] = &[
     ),
     (&["*/html;q=-1,text;q=1."], Some("")),
     (&["a/b", "ÿ"], None),
+    (&["a/b ; q=0.5"], Some("a/b; q=0.5")),
+    (&["*/*;q=0.5, ÿ;q=1, text/plain"], None),
+    (
+        &["ÿ;q=1, text;q=1, application/json ; q=0.3, */html;q=0.5;x=1"],
+        None,
+    ),
+    (&["text/x+y;q=1.000"], Some("text/x+y")),
+    (
+        &["application/xhtml+xml;q=0.5;x=1, text;q=0., application/xhtml+xml;q=0.999"],
+        Some("application/xhtml+xml; q=0.5; x=1, application/xhtml+xml; q=0.999"),
+    ),
+    (
+        &["text/*, text/html;level=1;q=0.5, text/html;charset=UTF-8;q=1.001, */*;q=0.5"],
+        Some("text/*, text/html; level=1; q=0.5, */*; q=0.5"),
+    ),
+    (
+        &["application/*;q,,application/xhtml+xml;q=1.000,,text/plain;q=0.5;x=1,,*/*;q=00.5"],
+        Some("application/xhtml+xml, text/plain; q=0.5; x=1"),
+    ),
+    (
+        &["text/html;level=1;q=00.5, application/xhtml+xml;q=0.001, text/html;q, */*; q =0.5"],
+        Some("application/xhtml+xml; q=0.001"),
+    ),
+    (
+        &["text/html;q=.5, text;q=-1, text/*;x=y, */html;q="],
+        Some("text/*; x=y"),
+    ),
+    (
+        &["text/html;x=y, text/html;Q=0.7, text/html;q=0.5, a/b+c;d=\"e f\";q=0.1234"],
+        Some("text/html; x=y, text/html; q=0.7, text/html; q=0.5"),
+    ),
+    (
+        &["*/*;, text/html;q=-1, text/html;charset=UTF-8;q=0.999, text/html; level=\"1\";q=1.001"],
+        Some("text/html; charset=utf-8; q=0.999"),
+    ),
+    (
+        &["text/html;a=\"b,c\", TEXT/Html;q=0.001, application/*;q=0,5, text/html;q=.5"],
+        Some("text/html; q=0.001, application/*; q=0"),
+    ),
+    (
+        &["image/*,text/plain;q=0,5,text/html; level=\"1\";q=0.5,text/*;Q=0.7"],
+        Some("image/*, text/plain; q=0, text/html; level=1; q=0.5, text/*; q=0.7"),
+    ),
+    (&["text/html; level=\"1\";q=1."], Some("text/html; level=1")),
+    (&["application/json;q=.5"], Some("")),
+    (
+        &["text/*, a/b+c;d=\"e f\", image/*;q= 0.5, TEXT/Html;q=-1"],
+        Some("text/*, a/b+c; d=\"e f\""),
+    ),
+    (&["*/*"], Some("*/*")),
+    (
+        &["text/html;q=-1, text/x+y;Q=0.7, text/html;charset=UTF-8;q=1"],
+        Some("text/x+y; q=0.7, text/html; charset=utf-8"),
+    ),
 ];
 
 const ACCEPT_ENCODING: &[Row] = &[
@@ -49,12 +103,48 @@ const ACCEPT_ENCODING: &[Row] = &[
         Some("zstd; q=0, 5, identity;x=y"),
     ),
     (&["x;q=.5, x;q=2, gzip;x"], Some("")),
+    (&["GZIP"], Some("gzip")),
+    (&["x-y;q=0.5"], Some("x-y; q=0.5")),
+    (&[""], Some("")),
+    (&["*;q=0.999"], Some("*; q=0.999")),
+    (&["gzip, compress, zstd;q=.5"], Some("gzip, compress")),
+    (&["identity, zstd"], Some("identity, zstd")),
+    (&["gzip;q=0., br"], Some("gzip; q=0, br")),
+    (&["*;q=0.1234"], Some("")),
+    (&["gzip ;q=0.5, deflate;"], Some("gzip; q=0.5")),
+    (&["zstd;q=-1, br;q=1.000"], Some("br")),
+    (&["*;q=0.5"], Some("*; q=0.5")),
+    (
+        &["gzip ;q=0.5, gzip ; q=0.3"],
+        Some("gzip; q=0.5, gzip; q=0.3"),
+    ),
+    (&["x-gzip, br;q=0.1234, gzip;q="], Some("x-gzip")),
+    (&["identity;q=0.999"], Some("identity; q=0.999")),
+    (&[";q=.5, x-gzip;q=0,5"], Some("x-gzip; q=0, 5")),
 ];
 
 const ACCEPT_LANGUAGE: &[Row] = &[
     (&["en-US, en; q=0.5, fr"], Some("en-US, en; q=0.5, fr")),
     (&["*;q=0,5, fr;q=1.001, en-US;q=1."], Some("*; q=0, en-US")),
     (&["1, en_US, de-, abcdefghi;q=0.5"], Some("")),
+    (&["1, en"], Some("en")),
+    (&["De; q =0.5, en-US;q=.5"], Some("")),
+    (&["en_US;q=1.001, ;q=1."], Some("")),
+    (&["en;q=0.5, e;q=1., ; q=0"], Some("en; q=0.5, e")),
+    (&["d;q=0.001"], Some("d; q=0.001")),
+    (&["; q =0.5, en-US, EN;x=y"], Some("en-US")),
+    (&["d;"], Some("")),
+    (&["d;q, De;q=-1, De;q=0.5"], Some("De; q=0.5")),
+    (&["1;Q=0.7, EN;Q=0.7"], Some("EN; q=0.7")),
+    (&["de-;x=y"], Some("")),
+    (&["de-;q=0.1234, abcdefghi;q=0.5"], Some("")),
+    (&["de-;q=.5, en;q=0.1234"], Some("")),
+    (&[", abcdefghi;q=0.5, de;q= 0.5"], Some("")),
+    (&["de;, ;q=0.5"], Some("")),
+    (&["e, EN;q=0.1234"], Some("e")),
+    (&["EN; q =0.5, *;q=0., de;q=00.5"], Some("*; q=0")),
+    (&["e, De;q=0.1234, d;q=0.001"], Some("e, d; q=0.001")),
+    (&["en_US;q= 0.5, en-US;q=1.001"], Some("")),
 ];
 
 const ACCEPT_CHARSET: &[Row] = &[(&["utf-8, *;q=0.1"], Some("UTF-8, *; q=0.1"))];
@@ -79,6 +169,14 @@ const CACHE_CONTROL: &[Row] = &[
     (&["foo="], None),
     (&[""], None),
     (&[], None),
+    (&["max-age=100, private"], Some("max-age=100, private")),
+    (
+        &["max-age=\"5\", s-maxage=7"],
+        Some("max-age=5, s-maxage=7"),
+    ),
+    (&["no-store, max-age=x"], Some("no-store")),
+    (&["a=\"b\"c\""], Some("a=b\"c")),
+    (&["=a"], Some("=a")),
 ];
 
 const CONTENT_LANGUAGE: &[Row] = &[(&["en, de"], Some("en, de")), (&[], None)];
@@ -125,6 +223,34 @@ const DATES: &[Row] = &[
     (&["Mon, 29 Feb 2100 00:00:00 GMT"], None),
     (&["Sun, 06 Nov 1994 08:49:37"], None),
     (&[], None),
+    (
+        &["Sunday, 06-Nov-94 08:49:37 GMT"],
+        Some("Sun, 06 Nov 1994 08:49:37 GMT"),
+    ),
+    (
+        &["Sun Nov  6 08:49:37 1994"],
+        Some("Sun, 06 Nov 1994 08:49:37 GMT"),
+    ),
+    (&[""], None),
+    (
+        &["Tue, 14 Nov 2023 22:03:20 GMT"],
+        Some("Tue, 14 Nov 2023 22:03:20 GMT"),
+    ),
+    (
+        &["Tuesday, 14-Nov-23 22:13:20 GMT"],
+        Some("Tue, 14 Nov 2023 22:13:20 GMT"),
+    ),
+    (
+        &["Tue, 14 Nov 2023 22:13:19 GMT"],
+        Some("Tue, 14 Nov 2023 22:13:19 GMT"),
+    ),
+    (&["Tue, 14 Nov 2023 M2:13:19 GMT"], None),
+    (&["Tue, 14 N7v 2023 22:13:21 GMT"], None),
+    (
+        &["Thu Jan  1 00:00:00 1970"],
+        Some("Thu, 01 Jan 1970 00:00:00 GMT"),
+    ),
+    (&["Tu0 Nov 14 22:13:20 2023"], None),
 ];
 
 fn map_of<H: Header>(rt: &impl Abort, alloc: Global, values: &[&str]) -> HeaderMap<HeaderValue> {
