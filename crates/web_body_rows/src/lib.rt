@@ -17,4 +17,8 @@ mod messages;
 #[cfg(test)]
 mod records;
 #[cfg(test)]
+mod request_parts;
+#[cfg(test)]
 mod requests;
+#[cfg(test)]
+mod whole_payloads;
