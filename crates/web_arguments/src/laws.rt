@@ -26,8 +26,8 @@ pub fn header_law<P: App, T: web_headers::Header + Drop>()
 {}
 
 /// Where the reader of `T` allows exactly one thing of the decoded parameters, and each of its
-/// refusals has exactly one error, by the configured handler or by the refusal itself, `Path` allows
-/// exactly one result. It comes at the first poll, and the payload is left.
+/// refusals has exactly one error, by the configured handler or by the refusal itself, `Path`
+/// allows exactly one result. It comes at the first poll, and the payload is left.
 pub fn path_law<P: App, T: ReadPairs>()
 where
     P::Layer: Configs,

@@ -86,9 +86,9 @@ impl<T: fmt::Display> fmt::Display for Path<T> {
 }
 
 /// What the reader of `T` makes of the parameters of the path, at the first poll. Their values are
-/// percent-decoded, and their names stay as they are. Refused exactly where the reader refuses them:
-/// with status 404 and the reader's text, or as the handler of the configuration of paths answers
-/// to the `PathError`.
+/// percent-decoded, and their names stay as they are. Refused exactly where the reader refuses
+/// them: with status 404 and the reader's text, or as the handler of the configuration of paths
+/// answers to the `PathError`.
 impl<A: App, T: ReadPairs> FromRequest<A> for Path<T>
 where
     A::Layer: Configs,

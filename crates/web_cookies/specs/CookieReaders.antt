@@ -9,7 +9,9 @@ use Rattle.web_texts.specs.Blanks.{trimmed}
 use Rattle.web_texts.specs.Cut.{split_once}
 use Rattle.web_texts.specs.PieceItems.{is_empty}
 use Rattle.web_cookies.specs.declared.cookie_parse_error.CookieParseError.{CookieParseError}
-use Rattle.web_cookies.specs.declared.cookie_parse_error.CookieParseError.TheVariants.{MissingPair, EmptyName, Utf8}
+use Rattle.web_cookies.specs.declared.cookie_parse_error.CookieParseError.TheVariants.{MissingPair}
+use Rattle.web_cookies.specs.declared.cookie_parse_error.CookieParseError.TheVariants.{EmptyName}
+use Rattle.web_cookies.specs.declared.cookie_parse_error.CookieParseError.TheVariants.{Utf8}
 use Rattle.web_cookies.specs.CookieFields.{CookieFields, plain_cookie}
 use Rattle.web_cookies.specs.Attributes.{attributes_of, with_attributes}
 

@@ -3,7 +3,9 @@ use Rattle.std.specs.Prelude.{ℕ, ◌++◌, Bool, false, true, List, [], Option
 use Rattle.std.specs.Prelude.{decimal, if◌then◌else◌}
 use Rattle.httpdate.specs.Text.{imf_fixdate}
 use Rattle.web_cookies.specs.declared.cookie_parse_error.CookieParseError.{CookieParseError}
-use Rattle.web_cookies.specs.declared.cookie_parse_error.CookieParseError.TheVariants.{MissingPair, EmptyName, Utf8}
+use Rattle.web_cookies.specs.declared.cookie_parse_error.CookieParseError.TheVariants.{MissingPair}
+use Rattle.web_cookies.specs.declared.cookie_parse_error.CookieParseError.TheVariants.{EmptyName}
+use Rattle.web_cookies.specs.declared.cookie_parse_error.CookieParseError.TheVariants.{Utf8}
 use Rattle.web_cookies.specs.declared.same_site.SameSite.{SameSite}
 use Rattle.web_cookies.specs.declared.same_site.SameSite.TheVariants as site
 use Rattle.web_cookies.specs.CookieFields.{CookieFields}

@@ -16,8 +16,8 @@ impl Cookie {
     /// between them, which are trimmed of blanks, and attributes behind semicolons. An attribute
     /// that is unknown or cannot be read is left out, and a later one replaces an earlier one.
     ///
-    /// Returns `MissingPair` where the part before the first semicolon has no `=`, `EmptyName` where
-    /// its name is empty, and `NoMemory` where allocation failed.
+    /// Returns `MissingPair` where the part before the first semicolon has no `=`, `EmptyName`
+    /// where its name is empty, and `NoMemory` where allocation failed.
     pub fn parse(alloc: Global, text: &str) -> Result<Cookie, Fail<CookieParseError>>
         ensures { Says result (cookie_said false text.now) }
     {

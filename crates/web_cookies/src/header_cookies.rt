@@ -13,8 +13,8 @@ use std::str;
 use web_texts::{Fail, NoMemory, first_part, trim};
 
 /// The cookies that a client sends back in the header Cookie (RFC 6265, section 5.4), in their
-/// order, with names and values percent-decoded. Each part between semicolons is trimmed and read by
-/// itself; one that is blank or no cookie is left out.
+/// order, with names and values percent-decoded. Each part between semicolons is trimmed and read
+/// by itself; one that is blank or no cookie is left out.
 ///
 /// Returns `Utf8` where a value of the header is not UTF-8, and `NoMemory` where allocation failed.
 pub fn decoded_cookies(

@@ -1,5 +1,5 @@
 -- Data of the application and of a single request as arguments.
-use Rattle.std.specs.Prelude.{ℕ, List, Option, None, Some, Result, Ok, Err, codes}
+use Rattle.std.specs.Prelude.{ℕ, List, ◌++◌, Option, None, Some, Result, Ok, Err, codes}
 use Rattle.std.specs.Prelude.{option_and_then}
 use Rattle.web_request.specs.Nearest.{nearest}
 use Rattle.web_reply.specs.declared.cause.Cause.TheVariants.{Custom}
@@ -11,7 +11,9 @@ abbrev pub internal_error : List ℕ → Fault
 internal_error text = fault_of (Custom 500 text)
 
 abbrev pub missing_data_text : List ℕ
-missing_data_text = codes "Requested application data is not configured correctly. View/enable debug logs for more details."
+missing_data_text =
+    codes "Requested application data is not configured correctly. "
+    ++ codes "View/enable debug logs for more details."
 
 abbrev pub missing_request_data_text : List ℕ
 missing_request_data_text = codes "Missing expected request extension data"

@@ -117,7 +117,8 @@ pub trait Configs: AppLayer {
     fn json(&self) -> Option<&JsonConfig<Self::OnJson, Self::JsonType>>
         requires { Self.ready self.now }
         ensures value { option_copied result ≡ (configurations self.now).json }
-        ensures usable { IfSome result (λ c. IsUsableJson Self.OnJson.ready Self.JsonType.ready c.now) }
+        ensures usable { IfSome result
+            (λ c. IsUsableJson Self.OnJson.ready Self.JsonType.ready c.now) }
     {
         self.configurations().json
     }
@@ -126,7 +127,8 @@ pub trait Configs: AppLayer {
     fn shared_json(&self) -> Option<&Data<JsonConfig<Self::OnJson, Self::JsonType>>>
         requires { Self.ready self.now }
         ensures value { option_copied result ≡ (configurations self.now).shared_json }
-        ensures usable { IfSome result (λ c. IsUsableJson Self.OnJson.ready Self.JsonType.ready c.now) }
+        ensures usable { IfSome result
+            (λ c. IsUsableJson Self.OnJson.ready Self.JsonType.ready c.now) }
     {
         self.configurations().shared_json
     }
