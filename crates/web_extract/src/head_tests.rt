@@ -1,9 +1,10 @@
 //! The tests of a head before the body is read as an argument. They leave the payload.
 ghost use Rattle.std.specs.Prelude.{◌≡◌, IfOk, IsOk, None, Ok, option_copied};
 ghost use Rattle.std.specs.Option.{option_or, unwrap_or};
-ghost use Rattle.web_request.specs.MessageFields.{first_content_type};
+ghost use Rattle.std.specs.Str.{str_eq_ignore_ascii_case};
+ghost use Rattle.web_request.specs.MessageFields.{first_content_type, is_utf8_name, type_test};
 ghost use Rattle.web_body.specs.PayloadSettings.{default_payload_settings};
-ghost use Rattle.web_extract.specs.BodyArguments.{charset_refusal, type_refusal};
+ghost use Rattle.web_extract.specs.BodyArguments.{charset_refusal, error_of, type_refusal};
 ghost use Rattle.web_extract.specs.BodyArguments.{unexpected_type};
 ghost use Rattle.web_extract.specs.LayerConfigurations.{payload_settings};
 
@@ -14,7 +15,7 @@ use std::alloc::Global;
 use web_body::{DEFAULT_LIMIT, PayloadConfig};
 use web_reply::Error;
 use web_request::{App, HttpMessage, HttpRequest, NoMemory};
-use web_texts::{Fail, Mime};
+use web_texts::{ContentTypeError, Fail, Mime};
 
 /// The configuration of payloads for a request, or `None` where it is the default.
 pub(crate) fn payload_config<A: App>(req: &HttpRequest<A>) -> Option<&PayloadConfig>
@@ -84,8 +85,8 @@ fn unexpected_type(
     Ok(Some(bad_request(alloc, text)?))
 }
 
-/// The first refusal of these two tests. It allocates nothing where no type is required and there
-/// is no Content-Type.
+/// The first refusal of these two tests. Content-Type is read once. It allocates nothing where no
+/// type is required and there is no Content-Type.
 pub(crate) fn text_refusal<M: HttpMessage>(
     alloc: Global,
     message: &M,
@@ -97,10 +98,57 @@ pub(crate) fn text_refusal<M: HttpMessage>(
     ensures memory { option_copied required.entry ≡ None
         → first_content_type (M.fields message.now) ≡ None → IsOk result }
 {
-    match type_refusal(alloc, message, required)? {
-        Some(refusal) => Ok(Some(refusal)),
-        None => charset_refusal(alloc, message),
+    let Some(required) = required else {
+        return charset_refusal(alloc, message);
+    };
+    match message.mime_type(alloc) {
+        Ok(found) => refusal_of_text(alloc, &found, required),
+        Err(Fail::Of(error)) => Ok(Some(Error::from(error))),
+        Err(Fail::NoMemory) => Err(NoMemory),
     }
+}
+
+/// The first refusal of a media type: one other than the required one, and one of a charset other
+/// than UTF-8.
+fn refusal_of_text(
+    alloc: Global,
+    found: &Option<Mime>,
+    required: &Mime,
+) -> Result<Option<Error>, NoMemory>
+    ensures { IfOk result (λ refusal. refusal ≡ option_or
+        (unexpected_type required.now (Ok found.now)) (error_of (type_test (Ok found.now)))) }
+{
+    match unexpected_type(alloc, found, required)? {
+        Some(refusal) => Ok(Some(refusal)),
+        None => Ok(refusal_of_charset(found)),
+    }
+}
+
+/// The refusal of a media type with a charset other than UTF-8.
+fn refusal_of_charset(found: &Option<Mime>) -> Option<Error>
+    ensures { result ≡ error_of (type_test (Ok found.now)) }
+{
+    let Some(found) = found else {
+        return None;
+    };
+    match found.charset() {
+        Some(charset) if !is_utf8_name(charset) => {
+            Some(Error::from(ContentTypeError::UnknownEncoding))
+        }
+        _ => None,
+    }
+}
+
+fn is_word(text: &[u8], word: &[u8]) -> bool
+    ensures { result ≡ str_eq_ignore_ascii_case text.now word.now }
+{
+    text.eq_ignore_ascii_case(word)
+}
+
+fn is_utf8_name(charset: &str) -> bool
+    ensures { result ≡ is_utf8_name charset.now }
+{
+    is_word(charset.as_bytes(), b"utf-8") || is_word(charset.as_bytes(), b"utf8")
 }
 
 /// The refusal of an unreadable Content-Type, and of a charset other than UTF-8. It allocates
