@@ -1,0 +1,4 @@
+pub mod FormArgumentLemmas
+pub mod HandledLemmas
+pub mod JsonArgumentLemmas
+pub mod ValueRepliesLemmas

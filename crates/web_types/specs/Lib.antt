@@ -1,0 +1,5 @@
+pub mod FormArgument
+pub mod HandledBodies
+pub mod JsonArgument
+pub mod ReadTypes
+pub mod ValueReplies

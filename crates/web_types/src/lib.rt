@@ -1,0 +1,18 @@
+//! JSON values, forms and one of two types as arguments of handlers, and as responses.
+#![tactic(auto)]
+
+mod form_argument;
+mod form_future;
+mod form_responder;
+mod form_value;
+mod json_argument;
+mod json_future;
+mod json_responder;
+mod json_value;
+mod kept_request;
+mod typed_response;
+
+pub use form_future::FormExtractFut;
+pub use form_value::Form;
+pub use json_future::JsonExtractFut;
+pub use json_value::Json;
