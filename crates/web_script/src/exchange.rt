@@ -65,7 +65,17 @@ impl Model for ScriptedExchange {
 fn is_unbuilt(segment: &[u8]) -> bool
     ensures { result ≡ is_unbuilt segment.now }
 {
-    bytes_equal(segment, b"who")
+    bytes_equal(segment, b"json")
+        || bytes_equal(segment, b"form")
+        || bytes_equal(segment, b"option")
+        || bytes_equal(segment, b"result")
+        || bytes_equal(segment, b"either")
+        || bytes_equal(segment, b"path")
+        || bytes_equal(segment, b"query")
+        || bytes_equal(segment, b"data")
+        || bytes_equal(segment, b"raw")
+        || bytes_equal(segment, b"header")
+        || bytes_equal(segment, b"who")
         || bytes_equal(segment, b"cookies")
         || bytes_equal(segment, b"lines")
 }
