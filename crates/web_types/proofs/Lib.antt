@@ -2,3 +2,4 @@ pub mod FormArgumentLemmas
 pub mod HandledLemmas
 pub mod JsonArgumentLemmas
 pub mod ValueRepliesLemmas
+pub mod TypeFunctionsLemmas

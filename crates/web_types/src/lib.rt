@@ -10,9 +10,11 @@ mod json_future;
 mod json_responder;
 mod json_value;
 mod kept_request;
+mod type_laws;
 mod typed_response;
 
 pub use form_future::FormExtractFut;
 pub use form_value::Form;
 pub use json_future::JsonExtractFut;
 pub use json_value::Json;
+pub use type_laws::{form_law, json_law};

@@ -1,0 +1,27 @@
+//! Laws of the arguments that are read from a body, as contracts of functions that callers cite in
+//! proofs. A call of one has no effect.
+ghost use Rattle.web_types.specs.TypeFunctions.{DecidesForm, DecidesJson};
+
+use crate::form_value::Form;
+use crate::json_value::Json;
+use web_extract::{Configs, FromRequest};
+use web_request::App;
+use web_values::{ReadJson, ReadPairs};
+
+/// Where the handlers, the predicates and the reader are functions, `Json` allows exactly one
+/// result for each request and marks, and leaves one rest of them (`json_result`, `json_rest`).
+pub fn json_law<P: App, T: ReadJson>()
+where
+    P::Layer: Configs,
+    ensures { DecidesJson P.Layer.Configs.configurations P.Layer.OnJson.refuses
+        P.Layer.JsonType.allows_type T.reads ⟦<Json<T> as FromRequest<P>>⟧.means }
+{}
+
+/// Where the handlers and the reader are functions, `Form` allows exactly one result for each
+/// request and marks, and leaves one rest of them (`form_result`, `form_rest`).
+pub fn form_law<P: App, T: ReadPairs>()
+where
+    P::Layer: Configs,
+    ensures { DecidesForm P.Layer.Configs.configurations P.Layer.OnForm.refuses T.reads_pairs
+        ⟦<Form<T> as FromRequest<P>>⟧.means }
+{}
