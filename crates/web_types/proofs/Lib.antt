@@ -1,3 +1,5 @@
+pub mod EitherLawLemmas
+pub mod EitherStepsLemmas
 pub mod FormArgumentLemmas
 pub mod HandledLemmas
 pub mod JsonArgumentLemmas

@@ -1,3 +1,9 @@
+pub mod AddedDelays
+pub mod EitherArgument
+pub mod EitherLaw
+pub mod EitherReplies
+pub mod EitherStates
+pub mod EitherValues
 pub mod FormArgument
 pub mod HandledBodies
 pub mod JsonArgument

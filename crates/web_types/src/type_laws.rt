@@ -1,5 +1,9 @@
 //! Laws of the arguments that are read from a body, as contracts of functions that callers cite in
 //! proofs. A call of one has no effect.
+ghost use Rattle.web_request.specs.Request.{Request};
+ghost use Rattle.web_extract.specs.BytesArgument.{MeansBytes};
+ghost use Rattle.web_extract.specs.LayerConfigurations.{payload_settings};
+ghost use Rattle.web_types.specs.EitherLaw.{DecidesEither};
 ghost use Rattle.web_types.specs.TypeFunctions.{DecidesForm, DecidesJson};
 
 use crate::form_value::Form;
@@ -24,4 +28,15 @@ where
     P::Layer: Configs,
     ensures { DecidesForm P.Layer.Configs.configurations P.Layer.OnForm.refuses T.reads_pairs
         ⟦<Form<T> as FromRequest<P>>⟧.means }
+{}
+
+/// What one of two arguments means where each of them allows exactly one result: the refusal of the
+/// buffering; else what the left argument gives of the whole body, and where that refuses, what the
+/// right one gives of it, or the left error. The delays are added.
+pub fn either_law<P: App, L: FromRequest<P>, R: FromRequest<P>>()
+where
+    P::Layer: Configs,
+    ensures { (q : Request P.Layer P.Local P.Conn) → DecidesEither
+        (MeansBytes (payload_settings P.Layer.Configs.configurations q.layers) q.head.headers)
+        L.Error.converts (L.means q) R.Error.converts (R.means q) }
 {}
