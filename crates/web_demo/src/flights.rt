@@ -27,7 +27,6 @@ fn exchange_of(alloc: Global, scripted: ScriptedExchange) -> Result<Exchange<Dem
         params,
         layers,
         marks,
-        ..
     } = scripted;
     Ok(Exchange {
         layers: demo_layers(alloc, layers)?,

@@ -97,7 +97,6 @@ pub(crate) fn demo_layer(alloc: Global, settings: LayerSettings) -> Result<DemoL
         payload,
         mime,
         shared_payload: shared,
-        ..
     } = settings;
     let own = own_payload(payload, mime);
     Ok(DemoLayer {

@@ -76,7 +76,7 @@ const REFUSALS: &[(&str, &str, u64, &str)] = &[
         "bad layer",
     ),
     (
-        "a setting with a sign",
+        "a setting with a sign, beside one that is not built",
         "exchange POST /a\nlayer json-any payload=+1\n",
         2,
         "bad layer",
@@ -88,28 +88,10 @@ const REFUSALS: &[(&str, &str, u64, &str)] = &[
         "bad layer",
     ),
     (
-        "a setting that takes no value and has one",
-        "exchange POST /a\nlayer json-any=1\n",
+        "a setting that is not built",
+        "exchange POST /a\nlayer payload=1 json=2\n",
         2,
-        "bad layer",
-    ),
-    (
-        "a setting that needs a value and has none",
-        "exchange POST /a\nlayer number\n",
-        2,
-        "bad layer",
-    ),
-    (
-        "a great number of a request",
-        "exchange POST /a\nlocal 18446744073709551615\nlocal 18446744073709551616\n",
-        3,
-        "bad number",
-    ),
-    (
-        "no number of a connection",
-        "exchange POST /a\nconn\n",
-        2,
-        "bad number",
+        "not built",
     ),
     (
         "a letter that is no digit",

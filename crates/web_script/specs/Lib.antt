@@ -5,7 +5,6 @@ pub mod Line
 pub mod LineArguments
 pub mod LineFaults
 pub mod LineKinds
-pub mod Numbers
 pub mod PlanEntries
 pub mod Reader
 pub mod ReasonTexts

@@ -37,10 +37,6 @@ pub struct ScriptedExchange {
     pub layers: Vec<LayerSettings>,
     /// The marks of the body. In those of a script no piece is empty, and a fault is the last mark.
     pub marks: Vec<Mark>,
-    /// The number of the last `local` line: the data of the request.
-    pub local: Option<u64>,
-    /// The number of the last `conn` line: the data of the connection.
-    pub conn: Option<u64>,
 }
 
 impl Model for ScriptedExchange {
@@ -56,8 +52,6 @@ impl Model for ScriptedExchange {
       params = e.params.items;
       layers = e.layers.items;
       marks = e.marks.items;
-      local = e.local;
-      conn = e.conn;
     } };
 }
 
@@ -147,11 +141,11 @@ pub fn read_request(alloc: Global, text: &Bytes) -> Result<ScriptedExchange, Fai
 }
 
 impl ScriptedExchange {
-    ghost use Rattle.std.specs.Prelude.{◌≡◌, ◌∷◌, [], None, OnOk};
+    ghost use Rattle.std.specs.Prelude.{◌≡◌, ◌∷◌, [], OnOk};
     ghost use Rattle.web_script.specs.Reader.{with_headers, with_layers, with_marks, with_params};
     ghost use Rattle.web_script.specs.Targets.{parts_of};
 
-    /// An exchange without headers, parameters, layers, body and data.
+    /// An exchange without headers, parameters, layers and body.
     pub fn new(alloc: Global, method: Method, uri: Uri) -> Self
         ensures { result ≡ record {
           method = method;
@@ -160,8 +154,6 @@ impl ScriptedExchange {
           params = [];
           layers = [];
           marks = [];
-          local = None;
-          conn = None;
         } }
     {
         ScriptedExchange {
@@ -171,8 +163,6 @@ impl ScriptedExchange {
             params: Vec::new(alloc),
             layers: Vec::new(alloc),
             marks: Vec::new(alloc),
-            local: None,
-            conn: None,
         }
     }
 

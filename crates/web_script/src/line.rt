@@ -17,8 +17,6 @@ pub enum Word {
     Piece,
     Stall,
     Fault,
-    Local,
-    Conn,
     /// An empty line or a comment.
     Skipped,
     /// A word that is not built yet.
@@ -29,7 +27,7 @@ pub enum Word {
 fn is_unbuilt(name: &[u8]) -> bool
     ensures { result ≡ is_unbuilt name.now }
 {
-    bytes_equal(name, b"peer")
+    bytes_equal(name, b"peer") || bytes_equal(name, b"local") || bytes_equal(name, b"conn")
 }
 
 fn word_named(name: &[u8]) -> Word
@@ -53,10 +51,6 @@ fn word_named(name: &[u8]) -> Word
         Word::Stall
     } else if bytes_equal(name, b"fault") {
         Word::Fault
-    } else if bytes_equal(name, b"local") {
-        Word::Local
-    } else if bytes_equal(name, b"conn") {
-        Word::Conn
     } else if is_unbuilt(name) {
         Word::Unbuilt
     } else {
