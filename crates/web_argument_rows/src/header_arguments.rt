@@ -27,13 +27,13 @@ fn head_with<T: web_headers::Header>(
 }
 
 /// A body that stalls.
-fn new_payload(rt: &impl Abort, alloc: Global) -> Payload<Marks> {
+pub(crate) fn new_payload(rt: &impl Abort, alloc: Global) -> Payload<Marks> {
     let marks = vec![in alloc; Mark::Stall].expect(rt, "memory");
     Payload::Stream(Marks::new(marks))
 }
 
 /// The value of the first poll.
-fn first_of<F: Poll>(rt: &impl Abort, alloc: Global, mut future: F) -> F::Output {
+pub(crate) fn first_of<F: Poll>(rt: &impl Abort, alloc: Global, mut future: F) -> F::Output {
     assert!(rt; !future.finished());
     match future.poll(alloc) {
         Step::Ready(value) => value,

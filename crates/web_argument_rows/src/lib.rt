@@ -1,4 +1,4 @@
-//! Tests of `web_arguments`: arguments of a request.
+//! Tests of the arguments of `web_arguments` and `web_extract` that read no body.
 //!
 //! What is expected is written by hand.
 #![tactic(auto)]
@@ -6,6 +6,14 @@
 #[cfg(test)]
 mod compare;
 #[cfg(test)]
+mod data_arguments;
+#[cfg(test)]
+mod demo_requests;
+#[cfg(test)]
 mod header_arguments;
+#[cfg(test)]
+mod queries;
+#[cfg(test)]
+mod read_arguments;
 #[cfg(test)]
 mod requests;

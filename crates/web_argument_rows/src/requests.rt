@@ -14,17 +14,20 @@ use web_request::{
 /// The application of the tests.
 pub(crate) type Site = PlainApp<Marks>;
 
-fn pool(rt: &impl Abort, alloc: Global) -> HttpRequestPool<Site> {
-    let config = AppConfig {
+pub(crate) fn config(rt: &impl Abort, alloc: Global) -> AppConfig {
+    AppConfig {
         host: Text::of(alloc, "localhost:8080").expect(rt, "memory"),
         secure: false,
         local_addr: SocketAddr {
             ip: IpAddr::V4([127, 0, 0, 1]),
             port: 8080,
         },
-    };
+    }
+}
+
+fn pool(rt: &impl Abort, alloc: Global) -> HttpRequestPool<Site> {
     let root = Rc::new(alloc, NoData).expect(rt, "memory");
-    HttpRequestPool::with_capacity(alloc, root, config, 0).expect(rt, "memory")
+    HttpRequestPool::with_capacity(alloc, root, config(rt, alloc), 0).expect(rt, "memory")
 }
 
 /// The head of a POST request, without headers.
