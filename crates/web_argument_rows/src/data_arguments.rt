@@ -65,7 +65,7 @@ const NO_DATA: &str = "Requested application data is not configured correctly. V
 
 const NO_REQUEST_DATA: &str = "Missing expected request extension data";
 
-/// The numbers of two layers, the outer one first, and of a request, and what the two arguments are.
+/// The numbers of two layers, the outer one first, and of a request, and both arguments.
 type NumberRow = (
     Option<u64>,
     Option<u64>,
