@@ -1,26 +1,27 @@
 //! Data, the parts of the head, the request and its payload as arguments.
 use crate::compare::{assert_holds, assert_same};
-use crate::demo_requests::{Layered, Parts, Visits, assert_refusal, demo_request, targeted};
 use crate::header_arguments::{first_of, new_payload};
+use crate::layered_requests::{
+    Layer, Layered, Parts, Visits, assert_refusal, layered_request, targeted,
+};
 use http::Method;
 use http_uri::Uri;
 use std::alloc::Global;
 use std::process::Abort;
 use web_body::{Marks, Payload};
-use web_demo_layers::DemoLayer;
 use web_extract::FromRequest;
 use web_reply::Error;
 use web_request::{Data, HttpRequest, ReqData, Turn};
 
 /// A layer with this number.
-fn numbered(rt: &impl Abort, alloc: Global, number: Option<u64>) -> DemoLayer {
+fn numbered(rt: &impl Abort, alloc: Global, number: Option<u64>) -> Layer {
     let number = match number {
         Some(number) => Some(Data::new(alloc, number).expect(rt, "memory")),
         None => None,
     };
-    DemoLayer {
+    Layer {
         number,
-        ..DemoLayer::new()
+        ..Layer::new()
     }
 }
 
@@ -93,7 +94,7 @@ fn data_stand_in_three_places(rt: HostRuntime) {
         };
         let outer = numbered(&rt, alloc, *outer);
         let inner = numbered(&rt, alloc, *inner);
-        let request = demo_request(&rt, alloc, &parts, outer, inner);
+        let request = layered_request(&rt, alloc, &parts, outer, inner);
         assert_number(&rt, alloc, layer_number(&rt, alloc, &request), *application);
         assert_number(&rt, alloc, own_number(&rt, alloc, &request), *own);
         assert_same(&rt, request.conn_data::<u64>().copied(), Some(7));
@@ -107,7 +108,7 @@ fn the_head_and_the_request_are_arguments(rt: HostRuntime) {
         local: Some(6),
         ..targeted("/a?b=c")
     };
-    let request = demo_request(&rt, alloc, &parts, DemoLayer::new(), DemoLayer::new());
+    let request = layered_request(&rt, alloc, &parts, Layer::new(), Layer::new());
     let uri = <Uri as FromRequest<Layered>>::extract(alloc, &request).expect(&rt, "memory");
     let uri = first_of(&rt, alloc, uri).ok().expect(&rt, "a target");
     assert_same(&rt, (uri.path(), uri.query()), ("/a", Some("b=c")));
@@ -124,7 +125,7 @@ fn the_head_and_the_request_are_arguments(rt: HostRuntime) {
 fn a_payload_comes_unread(rt: HostRuntime) {
     let alloc = rt.alloc();
     let parts = targeted("/raw");
-    let request = demo_request(&rt, alloc, &parts, DemoLayer::new(), DemoLayer::new());
+    let request = layered_request(&rt, alloc, &parts, Layer::new(), Layer::new());
     let mut payload = new_payload(&rt, alloc);
     let future = <Payload<Marks> as FromRequest<Layered>>::from_request(
         alloc,

@@ -8,9 +8,11 @@ mod compare;
 #[cfg(test)]
 mod data_arguments;
 #[cfg(test)]
-mod demo_requests;
-#[cfg(test)]
 mod header_arguments;
+#[cfg(test)]
+mod item;
+#[cfg(test)]
+mod layered_requests;
 #[cfg(test)]
 mod queries;
 #[cfg(test)]

@@ -1,10 +1,10 @@
 //! Queries, read from texts.
 use crate::compare::assert_same;
-use crate::demo_requests::assert_item;
+use crate::item::Item;
+use crate::layered_requests::assert_item;
 use std::alloc::Global;
 use std::process::Abort;
 use web_arguments::Query;
-use web_demo_layers::Item;
 use web_texts::Fail;
 
 /// The text of a query, and the item or why its reader refuses it.

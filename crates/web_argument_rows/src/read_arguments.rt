@@ -1,12 +1,14 @@
 //! Items of paths and queries as arguments.
 use crate::compare::assert_same;
-use crate::demo_requests::{Layered, Parts, assert_item, assert_refusal, demo_request, targeted};
 use crate::header_arguments::first_of;
+use crate::item::{Item, Teapot};
+use crate::layered_requests::{
+    Layer, Layered, Parts, assert_item, assert_refusal, layered_request, targeted,
+};
 use std::alloc::Global;
 use std::process::Abort;
 use web_arguments::{Path, Query};
 use web_decoders::{PathConfig, QueryConfig};
-use web_demo_layers::{DemoLayer, Item, Teapot};
 use web_extract::FromRequest;
 use web_reply::Error;
 use web_request::HttpRequest;
@@ -16,13 +18,13 @@ use web_texts::Duplicate;
 type Expected = Result<(&'static str, u64), (u16, &'static str)>;
 
 /// A layer with a handler of refused paths, and of refused queries.
-fn teapots() -> DemoLayer {
+fn teapots() -> Layer {
     let path: PathConfig<Teapot> = PathConfig::new();
     let query: QueryConfig<Teapot> = QueryConfig::new();
-    DemoLayer {
+    Layer {
         path: Some(path.error_handler(Teapot)),
         query: Some(query.error_handler(Teapot)),
-        ..DemoLayer::new()
+        ..Layer::new()
     }
 }
 
@@ -83,14 +85,14 @@ fn items_are_read_of_paths(rt: HostRuntime) {
             params: *params,
             ..targeted("/path")
         };
-        let plain = demo_request(&rt, alloc, &parts, DemoLayer::new(), DemoLayer::new());
+        let plain = layered_request(&rt, alloc, &parts, Layer::new(), Layer::new());
         assert_read(&rt, alloc, path_item(&rt, alloc, &plain), *expected);
     }
     let parts = Parts {
         params: &[("name", "a%2Fb")],
         ..targeted("/path")
     };
-    let handled = demo_request(&rt, alloc, &parts, teapots(), DemoLayer::new());
+    let handled = layered_request(&rt, alloc, &parts, teapots(), Layer::new());
     let expected = Err((418, "Path deserialize error: missing n"));
     assert_read(&rt, alloc, path_item(&rt, alloc, &handled), expected);
 }
@@ -114,11 +116,11 @@ fn items_are_read_of_queries(rt: HostRuntime) {
     let alloc = rt.alloc();
     for (target, expected) in QUERIES {
         let parts = targeted(target);
-        let plain = demo_request(&rt, alloc, &parts, DemoLayer::new(), DemoLayer::new());
+        let plain = layered_request(&rt, alloc, &parts, Layer::new(), Layer::new());
         assert_read(&rt, alloc, query_item(&rt, alloc, &plain), *expected);
     }
     let parts = targeted("/query?n=7");
-    let handled = demo_request(&rt, alloc, &parts, DemoLayer::new(), teapots());
+    let handled = layered_request(&rt, alloc, &parts, Layer::new(), teapots());
     let expected = Err((418, "Query deserialize error: missing name"));
     assert_read(&rt, alloc, query_item(&rt, alloc, &handled), expected);
 }

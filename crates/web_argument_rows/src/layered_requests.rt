@@ -1,5 +1,6 @@
-//! Requests with layers of the demo, and what their arguments are compared with.
+//! Requests with layers, and what their arguments are compared with.
 use crate::compare::assert_same;
+use crate::item::{Item, Teapot};
 use crate::requests::config;
 use http::{Method, Version};
 use http_header::HeaderMap;
@@ -8,11 +9,12 @@ use std::alloc::Global;
 use std::process::Abort;
 use std::rc::Rc;
 use web_body::Marks;
-use web_demo_layers::{DemoConn, DemoLayer, Item};
+use web_decoders::{PathConfig, QueryConfig};
+use web_extract::{Configs, LayerConfigs, NoHandler, NoType};
 use web_reply::{Error, ResponseError};
 use web_request::{
-    App, Duplicate, Holds, HttpRequest, HttpRequestPool, NoMemory, Pair, RequestHead, RequestParts,
-    Text,
+    App, AppLayer, Data, Duplicate, Holds, HttpRequest, HttpRequestPool, NoMemory, Pair,
+    RequestHead, RequestParts, Text,
 };
 
 /// The data of a request: a number.
@@ -37,15 +39,78 @@ impl Holds<Visits> for Visits {
     }
 }
 
-/// An application with the layers of the demo.
+impl Holds<u64> for Visits {
+    ghost use Rattle.std.specs.Prelude.{Some};
+
+    ghost held = { λ visits. Some visits.count };
+
+    fn held(&self) -> Option<&u64> {
+        Some(&self.count)
+    }
+}
+
+/// A layer with a number and handlers of refused paths and queries.
+#[derive(Drop)]
+pub(crate) struct Layer {
+    pub(crate) number: Option<Data<u64>>,
+    pub(crate) path: Option<PathConfig<Teapot>>,
+    pub(crate) query: Option<QueryConfig<Teapot>>,
+}
+
+impl Layer {
+    pub(crate) fn new() -> Layer {
+        Layer {
+            number: None,
+            path: None,
+            query: None,
+        }
+    }
+}
+
+impl AppLayer for Layer {}
+
+impl Holds<Data<u64>> for Layer {
+    ghost held = { λ layer. layer.number };
+
+    fn held(&self) -> Option<&Data<u64>> {
+        self.number.as_ref()
+    }
+}
+
+impl Configs for Layer {
+    ghost use Rattle.web_extract.specs.LayerConfigurations.{holds_nothing};
+
+    type OnJson = NoHandler;
+
+    type OnForm = NoHandler;
+
+    type OnPath = Teapot;
+
+    type OnQuery = Teapot;
+
+    type JsonType = NoType;
+
+    ghost configurations = { λ layer.
+        record (holds_nothing) { path = layer.path; query = layer.query } };
+
+    fn configurations(&self) -> LayerConfigs<'_, NoHandler, NoHandler, Teapot, Teapot, NoType> {
+        LayerConfigs {
+            path: self.path.as_ref(),
+            query: self.query.as_ref(),
+            ..LayerConfigs::none()
+        }
+    }
+}
+
+/// An application with these layers.
 pub(crate) struct Layered;
 
 impl App for Layered {
-    type Layer = DemoLayer;
+    type Layer = Layer;
 
     type Local = Visits;
 
-    type Conn = DemoConn;
+    type Conn = Visits;
 
     type Source = Marks;
 }
@@ -83,16 +148,20 @@ fn pairs(rt: &impl Abort, alloc: Global, params: &[(&str, &str)]) -> Vec<Pair> {
 }
 
 /// A request of these parts under two layers, the outer one first.
-pub(crate) fn demo_request(
+pub(crate) fn layered_request(
     rt: &impl Abort,
     alloc: Global,
     parts: &Parts,
-    outer: DemoLayer,
-    inner: DemoLayer,
+    outer: Layer,
+    inner: Layer,
 ) -> HttpRequest<Layered> {
     let inner = Rc::new(alloc, inner).ok().expect(rt, "memory");
     let conn = match parts.conn {
-        Some(number) => Some(Rc::new(alloc, DemoConn(number)).ok().expect(rt, "memory")),
+        Some(number) => Some(
+            Rc::new(alloc, Visits { count: number })
+                .ok()
+                .expect(rt, "memory"),
+        ),
         None => None,
     };
     let parts = RequestParts {
