@@ -1,22 +1,18 @@
 -- The cookie that a text says, and why it says none.
-use Rattle.std.specs.Prelude.{◌≡◌, ℕ, Bool, true, false, List, Option, None, Some}
+use Rattle.std.specs.Prelude.{ℕ, Bool, true, false, List, Option, None, Some}
 use Rattle.std.specs.Prelude.{Result, Ok, Err, if◌then◌else◌}
 use Rattle.std.specs.Str.{is_utf8}
 use Rattle.percent_encoding.specs.Percent.{percent_decode}
-use Rattle.web_texts.specs.declared.memory.Fail.{Fail}
-use Rattle.web_texts.specs.declared.memory.Fail.TheVariants as fail
 use Rattle.web_texts.specs.Blanks.{trimmed}
 use Rattle.web_texts.specs.Cut.{split_once}
 use Rattle.web_texts.specs.PieceItems.{is_empty}
 use Rattle.web_cookies.specs.declared.cookie_parse_error.CookieParseError.{CookieParseError}
-use Rattle.web_cookies.specs.declared.cookie_parse_error.CookieParseError.TheVariants.{MissingPair}
-use Rattle.web_cookies.specs.declared.cookie_parse_error.CookieParseError.TheVariants.{EmptyName}
-use Rattle.web_cookies.specs.declared.cookie_parse_error.CookieParseError.TheVariants.{Utf8}
+use Rattle.web_cookies.specs.declared.cookie_parse_error.CookieParseError.TheVariants as cause
 use Rattle.web_cookies.specs.CookieFields.{CookieFields, plain_cookie}
 use Rattle.web_cookies.specs.Attributes.{attributes_of, with_attributes}
 
 abbrev pub utf8_text : List ℕ → Result (List ℕ) CookieParseError
-utf8_text text = if is_utf8 text then Ok text else Err Utf8
+utf8_text text = if is_utf8 text then Ok text else Err cause.Utf8
 
 -- the text, percent-decoded where `encoded`, which must be UTF-8 then
 abbrev pub decoded_text : Bool → List ℕ → Result (List ℕ) CookieParseError
@@ -31,11 +27,11 @@ pair_of (Err error) value = Err error
 
 abbrev pub named : Bool → List ℕ → List ℕ → Result CookieFields CookieParseError
 named encoded name value =
-    if is_empty name then Err EmptyName
+    if is_empty name then Err cause.EmptyName
     else pair_of (decoded_text encoded name) (decoded_text encoded value)
 
 abbrev pub pair_in : Bool → Option (List ℕ × List ℕ) → Result CookieFields CookieParseError
-pair_in encoded None = Err MissingPair
+pair_in encoded None = Err cause.MissingPair
 pair_in encoded (Some halves) = named encoded (trimmed halves.0) (trimmed halves.1)
 
 -- what the first part says: a name and a value round its first `=`, trimmed
@@ -57,17 +53,3 @@ cookie_in encoded text (Some halves) =
 -- and behind it attributes.
 abbrev pub cookie_said : Bool → List ℕ → Result CookieFields CookieParseError
 cookie_said encoded text = cookie_in encoded text (split_once 59 text)
-
-abbrev pub SaysError : {T E : Type 0} → Fail E → Result T E → Type 0
-SaysError fail.NoMemory said = Unit {0}
-SaysError (fail.Of error) said = said ≡ Err error
-
--- A reader's result is what is said, value or error; only allocation may fail besides.
-abbrev pub Says : {T E : Type 0} → Result T (Fail E) → Result T E → Type 0
-Says (Ok x) said = said ≡ Ok x
-Says (Err error) said = SaysError error said
-
--- the same, where contracts see what is read by a view
-abbrev pub SaysBy : {X T E : Type 0} → (X → T) → Result X (Fail E) → Result T E → Type 0
-SaysBy view (Ok x) said = said ≡ Ok (view x)
-SaysBy view (Err error) said = SaysError error said

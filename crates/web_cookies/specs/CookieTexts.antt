@@ -3,17 +3,15 @@ use Rattle.std.specs.Prelude.{ℕ, ◌++◌, Bool, false, true, List, [], Option
 use Rattle.std.specs.Prelude.{decimal, if◌then◌else◌}
 use Rattle.httpdate.specs.Text.{imf_fixdate}
 use Rattle.web_cookies.specs.declared.cookie_parse_error.CookieParseError.{CookieParseError}
-use Rattle.web_cookies.specs.declared.cookie_parse_error.CookieParseError.TheVariants.{MissingPair}
-use Rattle.web_cookies.specs.declared.cookie_parse_error.CookieParseError.TheVariants.{EmptyName}
-use Rattle.web_cookies.specs.declared.cookie_parse_error.CookieParseError.TheVariants.{Utf8}
+use Rattle.web_cookies.specs.declared.cookie_parse_error.CookieParseError.TheVariants as cause
 use Rattle.web_cookies.specs.declared.same_site.SameSite.{SameSite}
 use Rattle.web_cookies.specs.declared.same_site.SameSite.TheVariants as site
 use Rattle.web_cookies.specs.CookieFields.{CookieFields}
 
 abbrev pub cookie_error_text : CookieParseError → List ℕ
-cookie_error_text MissingPair = codes "cookie has no pair"
-cookie_error_text EmptyName = codes "cookie name is empty"
-cookie_error_text Utf8 = codes "cookie is not UTF-8"
+cookie_error_text cause.MissingPair = codes "cookie has no pair"
+cookie_error_text cause.EmptyName = codes "cookie name is empty"
+cookie_error_text cause.Utf8 = codes "cookie is not UTF-8"
 
 abbrev pub site_name : SameSite → List ℕ
 site_name site.Strict = codes "Strict"

@@ -1,7 +1,9 @@
 //! The cookies of a request.
-ghost use Rattle.std.specs.Prelude.{◌≡◌, ◌++◌, OnOk, codes, true, false};
+ghost use Rattle.std.specs.Prelude.{◌≡◌, ◌++◌, IfOk, OnOk, codes, true, false};
+ghost use Rattle.std.specs.List.{find};
+ghost use Rattle.std.specs.Str.{bytes_eq};
 ghost use Rattle.http_header.specs.HeaderMap.{get_all};
-ghost use Rattle.web_cookies.specs.CookieReaders.{SaysBy};
+ghost use Rattle.web_texts.specs.Returns.{ReturnsBy};
 ghost use Rattle.web_cookies.specs.HeaderCookies.{cookie_of_part, cookies_in, cookies_said};
 
 use crate::cookie_parse_error::CookieParseError;
@@ -10,7 +12,7 @@ use crate::response_cookie::Cookie;
 use http_header::{COOKIE, HeaderMap, HeaderValue};
 use std::alloc::Global;
 use std::str;
-use web_texts::{Fail, NoMemory, first_part, trim};
+use web_texts::{Duplicate, Fail, NoMemory, first_part, trim};
 
 /// The cookies that a client sends back in the header Cookie (RFC 6265, section 5.4), in their
 /// order, with names and values percent-decoded. Each part between semicolons is trimmed and read
@@ -21,7 +23,7 @@ pub fn decoded_cookies(
     alloc: Global,
     headers: &HeaderMap<HeaderValue>,
 ) -> Result<Vec<Cookie>, Fail<CookieParseError>>
-    ensures { SaysBy (λ cookies. cookies.items) result
+    ensures { ReturnsBy (λ cookies. cookies.items) result
         (cookies_said true (get_all headers.now (codes "cookie"))) }
 {
     read_cookies(alloc, headers, true)
@@ -32,7 +34,7 @@ pub fn raw_cookies(
     alloc: Global,
     headers: &HeaderMap<HeaderValue>,
 ) -> Result<Vec<Cookie>, Fail<CookieParseError>>
-    ensures { SaysBy (λ cookies. cookies.items) result
+    ensures { ReturnsBy (λ cookies. cookies.items) result
         (cookies_said false (get_all headers.now (codes "cookie"))) }
 {
     read_cookies(alloc, headers, false)
@@ -43,7 +45,7 @@ fn read_cookies(
     headers: &HeaderMap<HeaderValue>,
     encoded: bool,
 ) -> Result<Vec<Cookie>, Fail<CookieParseError>>
-    ensures { SaysBy (λ cookies. cookies.items) result
+    ensures { ReturnsBy (λ cookies. cookies.items) result
         (cookies_said encoded (get_all headers.now (codes "cookie"))) }
 {
     let mut cookies = Vec::new(alloc);
@@ -98,4 +100,22 @@ fn add_cookie(
         Err(Fail::NoMemory) => Err(NoMemory),
         Err(Fail::Of(_)) => Ok(()),
     }
+}
+
+/// A copy of the first of these cookies that has this name. Returns `NoMemory` where allocation
+/// failed.
+pub fn cookie_named(
+    alloc: Global,
+    cookies: &[Cookie],
+    name: &str,
+) -> Result<Option<Cookie>, NoMemory>
+    ensures { IfOk result (λ found.
+        found ≡ find (λ cookie. bytes_eq cookie.name name.now) cookies.now) }
+{
+    for cookie in cookies {
+        if cookie.name() == name {
+            return Ok(Some(cookie.duplicate(alloc)?));
+        }
+    }
+    Ok(None)
 }

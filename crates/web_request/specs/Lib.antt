@@ -1,10 +1,15 @@
 pub mod Shared
 pub mod Head
 pub mod ReadyLayers
+pub mod AddressTexts
+pub mod Connections
 pub mod Request
+pub mod KeptValues
+pub mod FullUrls
+pub mod Computed
 pub mod Nearest
 pub mod MessageFields
-pub mod Returns
+pub use Rattle.web_texts.specs.Returns
 pub mod Pool
 pub mod KeptRecords
 pub mod Body

@@ -8,7 +8,7 @@ ghost use Rattle.web_request.specs.MessageFields.{content_type_of, first_content
 ghost use Rattle.web_request.specs.MessageFields.{contains_word, encoding_of, header_text};
 ghost use Rattle.web_request.specs.MessageFields.{is_chunked_of, is_utf8_name, mime_type_of};
 ghost use Rattle.web_request.specs.MessageFields.{starts_with_word, type_in};
-ghost use Rattle.web_request.specs.Returns.{Returns};
+ghost use Rattle.web_texts.specs.Returns.{Returns};
 
 use http_header::{CONTENT_TYPE, HeaderMap, HeaderValue, TRANSFER_ENCODING};
 use std::alloc::Global;

@@ -16,6 +16,7 @@ pub mod Pieces
 pub mod QualityItems
 pub mod QualityValues
 pub mod QuotedText
+pub mod Returns
 pub mod TextParts
 pub mod TextReaders
 pub mod Tokens
