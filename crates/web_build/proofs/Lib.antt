@@ -1,0 +1,2 @@
+pub mod HeaderStepLemmas
+pub mod LayeringLemmas

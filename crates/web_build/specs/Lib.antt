@@ -1,0 +1,6 @@
+pub mod HeaderSteps
+pub mod CookieHeaders
+pub mod Builders
+pub mod LentBuilders
+pub mod RedirectReplies
+pub mod Customized

@@ -1,0 +1,3 @@
+pub mod PreparedReplies
+pub mod InternalErrors
+pub mod Mappers

@@ -1,0 +1,2 @@
+pub mod CookieItemLemmas
+pub mod ResponseCookieLemmas
