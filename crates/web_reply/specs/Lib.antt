@@ -3,6 +3,9 @@ pub mod Causes
 pub mod ResponseHeads
 pub mod LentParts
 pub mod BodyMaps
+pub mod PreparedReplies
 pub mod Replies
+pub mod InternalErrors
+pub mod Mappers
 pub mod Responders
 pub mod CowTexts
