@@ -19,9 +19,9 @@ use Rattle.web_worker.specs.OutcomeFunctions.{AnswersOnce}
 use Rattle.web_worker.specs.PlanCalls.{ArgumentsOnce}
 use Rattle.web_worker.specs.Setting.{Setting}
 use Rattle.web_script.specs.ScriptedView.{ScriptedExchangeView}
-use Rattle.web_demo.specs.declared.layer.DemoLayer.{DemoLayer}
-use Rattle.web_demo.specs.declared.app.DemoLocal.{DemoLocal}
-use Rattle.web_demo.specs.declared.app.DemoConn.{DemoConn}
+use Rattle.web_demo_layers.specs.declared.layer.DemoLayer.{DemoLayer}
+use Rattle.web_demo_layers.specs.declared.app.DemoLocal.{DemoLocal}
+use Rattle.web_demo_layers.specs.declared.app.DemoConn.{DemoConn}
 use Rattle.web_demo.specs.DemoExchanges.{DemoRequest, demo_exchange, demo_pool, demo_request}
 use Rattle.web_demo.specs.ServiceFunctions.{ArgumentFunctions, ArgumentsMeet, ConvertsTo}
 use Rattle.web_demo.specs.ServiceFunctions.{HandlerFunctions, HandlerMeets}

@@ -18,9 +18,9 @@ use Rattle.web_script.specs.ScriptedView.{ScriptedExchangeView}
 use Rattle.web_script.specs.declared.script.InvalidScript.{InvalidScript}
 use Rattle.web_print.specs.OutcomeText.{print}
 use Rattle.web_print.specs.TextLines.{newline}
-use Rattle.web_demo.specs.declared.layer.DemoLayer.{DemoLayer}
-use Rattle.web_demo.specs.declared.app.DemoLocal.{DemoLocal}
-use Rattle.web_demo.specs.declared.app.DemoConn.{DemoConn}
+use Rattle.web_demo_layers.specs.declared.layer.DemoLayer.{DemoLayer}
+use Rattle.web_demo_layers.specs.declared.app.DemoLocal.{DemoLocal}
+use Rattle.web_demo_layers.specs.declared.app.DemoConn.{DemoConn}
 use Rattle.web_demo.specs.DemoExchanges.{demo_exchange, demo_request}
 use Rattle.web_demo.specs.ServiceFunctions.{ArgumentFunctions, ArgumentsMeet}
 use Rattle.web_demo.specs.ServiceFunctions.{HandlerFunctions, HandlerMeets, delay_of, reply_of}

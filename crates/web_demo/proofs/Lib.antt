@@ -1,1 +1,3 @@
+pub mod ItemArgumentsLemmas
 pub mod PickedArgumentsLemmas
+pub mod SeenArgumentsLemmas

@@ -1,203 +1,244 @@
 -- The arguments that the first segment of a path asks for.
-use Rattle.std.proofs.Common.{◌≡◌, ℕ, suc, List, refl, subst, sym, ap, ◌∙◌, inl, inr}
-use Rattle.std.specs.Prelude.{◌↔◌, Option, Result, Ok, Err, String, string_bytes}
+use Rattle.std.proofs.Common.{◌≡◌, ℕ, List, [], refl, subst, sym, ap, ◌∙◌}
+use Rattle.std.specs.Prelude.{Option, None, Some, Result, Ok, Err, String, string_bytes, codes}
 use Rattle.std.specs.Global.{Global}
-use Rattle.web_texts.specs.declared.text.Pair.{Pair}
+use Rattle.std.specs.Option.{option_map}
+use Rattle.web_texts.specs.MediaTypes.{MediaType}
+use Rattle.web_texts.specs.declared.errors.ParseError.{ParseError}
+use Rattle.web_texts.specs.declared.quality_item.QualityItem.{QualityItem}
+use Rattle.web_headers.specs.ListHeaders.{accept_of}
+use Rattle.web_headers.specs.declared.accept_header.Accept.{Accept}
 use Rattle.web_request.specs.declared.source.Mark.{Mark}
+use Rattle.web_request.specs.Feed.{Feed}
 use Rattle.web_request.specs.Head.{head_path}
+use Rattle.web_request.specs.Request.{Record}
+use Rattle.web_body.specs.MemoryBodies.{marks_feed}
+use Rattle.web_body.specs.declared.payload.Payload.{Payload}
+use Rattle.web_body.specs.declared.payload.Payload.TheVariants as payload
 use Rattle.web_reply.specs.Replies.{Fault}
-use Rattle.web_extract.specs.ArgumentLists.{ConvertsRefusal, Joins2, One, RefusedBefore, map_value}
-use Rattle.web_extract.specs.BytesArgument.{bytes_rest}
-use Rattle.web_extract.specs.ConvertedFutures.{ConvertsResult, GivesConvertedBy, converted_result}
+use Rattle.web_extract.specs.ArgumentLists.{map_value}
+use Rattle.web_extract.specs.ConvertedFutures.{GivesConvertedBy, converted_result}
 use Rattle.web_extract.specs.Extracts.{Extracts}
-use Rattle.web_extract.specs.ListResults.{Exactly, list1, list2}
-use Rattle.web_extract.specs.ListMeanings.{Meaning, Means1, Means2, Member}
+use Rattle.web_extract.specs.HeadArguments.{immediate as at_once, seen_request}
+use Rattle.web_extract.specs.ListResults.{DelayedResult, list1, list2, list3}
+use Rattle.web_extract.specs.OptionArgument.{GivesOption, as_option}
+use Rattle.web_extract.specs.PayloadArgument.{payload_result, seen_payload}
 use Rattle.web_extract.specs.ReadyFuture.{MeansUnit}
-use Rattle.web_extract.specs.StringArgument.{decoded, string_rest}
+use Rattle.web_extract.specs.ResultArgument.{AsResult}
+use Rattle.web_extract.specs.StringArgument.{decoded}
+use Rattle.web_extract.specs.declared.never.Never.{Never}
 use Rattle.web_extract.proofs.ConvertedFuturesLemmas.{GivesOnly, converted_only}
-use Rattle.web_extract.proofs.HandedMarksLemmas.{decides1, decides2}
+use Rattle.web_extract.proofs.HeadArgumentsLemmas.{only_payload, only_request}
+use Rattle.web_arguments.specs.HeaderArgument.{SaysOnly, header_result, request_values}
+use Rattle.web_arguments.specs.declared.header_argument.Header.{Header}
+use Rattle.web_arguments.proofs.HeaderArgumentLemmas.{gives_only}
+use Rattle.web_demo_layers.specs.declared.app.DemoConn.{DemoConn}
+use Rattle.web_demo_layers.specs.declared.app.DemoLocal.{DemoLocal}
+use Rattle.web_demo_layers.specs.declared.layer.DemoLayer.{DemoLayer}
 use Rattle.web_demo.specs.Choices.{choice_of}
+use Rattle.web_demo.specs.DemoArguments.{data_view, raw_view, seen_data}
 use Rattle.web_demo.specs.DemoExchanges.{DemoRequest}
 use Rattle.web_demo.specs.DemoFunctions.{picked_arguments}
 use Rattle.web_demo.specs.ServiceFunctions.{ArgumentsMeet, ConvertsTo}
-use Rattle.web_demo.specs.LateAndWait.{MeansLate, MeansWait, delay_in, late_result}
-use Rattle.web_demo.specs.PickedArguments.{MeansBody, MeansBoth, MeansBytesAlone, MeansChoice}
-use Rattle.web_demo.specs.PickedArguments.{MeansPicked, MeansText, MeansTextAlone}
-use Rattle.web_demo.specs.PickedArguments.{never_fault, same_fault, settings_of}
-use Rattle.web_demo.specs.PickedArguments.{body_result, choice_result, delayed_late, text_result}
+use Rattle.web_demo.specs.LateAndWait.{MeansLate, MeansWait}
+use Rattle.web_demo.specs.BodyArguments.{Alone, MeansBody, MeansRaw, MeansText, body_rest, body_result}
+use Rattle.web_demo.specs.BodyArguments.{text_rest, text_result}
+use Rattle.web_demo.specs.ArgumentMeanings.{By, ByEither, InList, ListOfOne}
+use Rattle.web_demo.specs.ArgumentMeanings.{never_fault, parse_fault, same_fault}
+use Rattle.web_demo.specs.ArgumentMeanings.{MeansAccept, accept_result, header_or_fault}
+use Rattle.web_demo.specs.ArgumentMeanings.{MeansBoth, both_result, delayed_late}
+use Rattle.web_demo.specs.ArgumentMeanings.{MeansData, MeansLocal, MeansNumber, MeansRequest}
+use Rattle.web_demo.specs.ArgumentMeanings.{local_result, number_result, numbers_result}
+use Rattle.web_demo.specs.ArgumentMeanings.{MeansOptional, optional_result, or_none}
+use Rattle.web_demo.specs.ArgumentMeanings.{without_refusal}
+use Rattle.web_demo.specs.ArgumentMeanings.{MeansItemOrRefusal, as_value}
+use Rattle.web_demo.specs.ItemArguments.{MeansEitherItem, MeansFormItem, MeansJsonItem}
+use Rattle.web_demo.specs.ItemArguments.{MeansPathItem, MeansQueryItem}
+use Rattle.web_demo.specs.ItemArguments.{either_item_result, form_item_result}
+use Rattle.web_demo.specs.ItemArguments.{form_item_rest, json_item_rest, json_item_result}
+use Rattle.web_demo.specs.ItemArguments.{path_item_result, query_item_result}
+use Rattle.web_demo.specs.PickedArguments.{MeansChoice, MeansDecoded, MeansImmediate, MeansPicked}
+use Rattle.web_demo.specs.PickedArguments.{choice_result, decoded_result, immediate_result}
 use Rattle.web_demo.specs.PickedArguments.{picked_delay, picked_result}
 use Rattle.web_demo.specs.declared.choice.Choice.{Choice}
 use Rattle.web_demo.specs.declared.choice.Choice.TheVariants as choice
+use Rattle.web_demo.specs.declared.choice.DecodedChoice.{DecodedChoice}
+use Rattle.web_demo.specs.declared.choice.DecodedChoice.TheVariants as decoded
+use Rattle.web_demo.specs.declared.choice.ImmediateChoice.{ImmediateChoice}
+use Rattle.web_demo.specs.declared.choice.ImmediateChoice.TheVariants as immediate
 use Rattle.web_demo.specs.declared.late.Late.{Late}
 use Rattle.web_demo.specs.declared.picked.Picked.{Picked}
 use Rattle.web_demo.specs.declared.picked.Picked.TheVariants as picked
+use Rattle.web_demo.proofs.ItemArgumentsLemmas.{either_seen, form_seen, json_seen, path_seen, query_seen}
+use Rattle.web_demo.proofs.SeenArgumentsLemmas.{Seen, SeenAlone, alone_seen, chosen_only, converted_same, listed_seen, pair_seen, three_seen}
 
-module _ {T E : Type 0} (error : E → Fault) where
-  member_to : (gives : ℕ → Result T E → Type 0) (n : ℕ) (x : Result T Fault)
-      → ConvertsRefusal (λ e f. f ≡ error e) gives n x
-      → (y : Result T E) × gives n y × (x ≡ converted_result (λ v. v) error y)
-  member_to gives n (Ok v) h = (Ok v, h, refl)
-  member_to gives n (Err f) h = (Err h.0, h.1, rw h.2 refl)
+-- each argument
 
-  member_from : (gives : ℕ → Result T E → Type 0) (n : ℕ) (y : Result T E)
-      → gives n y → ConvertsRefusal (λ e f. f ≡ error e) gives n (converted_result (λ v. v) error y)
-  member_from gives n (Ok v) h = h
-  member_from gives n (Err e) h = (e, h, refl)
+body_seen : (q : DemoRequest) → SeenAlone (λ v. v) same_fault (MeansBody q) (body_rest q) (body_result q)
+body_seen q m left n y h = (h.0, h.1, converted_same y ∙ h.2)
 
-  -- an argument with one rest, one delay and one result, as a member of a list
-  member_exactly : (means : List Mark → List Mark → ℕ → Result T E → Type 0)
-      (m rest : List Mark) (d : ℕ) (r : Result T E)
-      → ((left : List Mark) (n : ℕ) (y : Result T E)
-      → means m left n y ↔ (left ≡ rest) × (n ≡ d) × (y ≡ r))
-      → Exactly (Member (λ e f. f ≡ error e) means) m rest
-      (record { delay = d; result = converted_result (λ v. v) error r })
-  member_exactly means m rest d r one left n x = (
-    λ h.
-        let y = member_to (means m left) n x h in
-        let is = (one left n y.0).0 y.1 in
-        (is.0, is.1, y.2 ∙ ap (converted_result (λ v. v) error) is.2),
-    λ e.
-        subst (λ (z : Result T Fault). ConvertsRefusal (λ e f. f ≡ error e) (means m left) n z) (sym e.2)
-        (member_from (means m left) n r ((one left n r).1 (e.0, e.1, refl))),
-  )
+text_value : (y : Result (String Global) Fault) → converted_result string_bytes same_fault y ≡ map_value string_bytes y
+text_value (Ok v) = refl
+text_value (Err e) = refl
 
-converted_same : {T : Type 0} (r : Result T Fault) → converted_result (λ v. v) same_fault r ≡ r
-converted_same (Ok v) = refl
-converted_same (Err e) = refl
+text_seen : (q : DemoRequest) → SeenAlone string_bytes same_fault (MeansText q) (text_rest q) (text_result q)
+text_seen q m left n y h = (h.1.0, h.1.1, text_value y ∙ h.2 ∙ ap decoded h.1.2)
 
-exactly_late : (params : List Pair) (m : List Mark)
-    → Exactly (Member (λ e f. f ≡ same_fault e) (MeansLate params)) m m (delayed_late params)
-exactly_late params m =
-    subst (λ (r : Result Late Fault). Exactly (Member (λ e f. f ≡ same_fault e) (MeansLate params))
-    m m (record { delay = delay_in params; result = r })) (converted_same (late_result params))
-    (member_exactly same_fault (MeansLate params) m m (delay_in params) (late_result params)
-    (λ left n y. (λ h. h, λ h. h)))
+raw_value : (y : Result (Payload Feed) Fault) → converted_result raw_view same_fault y ≡ seen_payload (λ feed. feed) y
+raw_value (Ok p) = refl
+raw_value (Err e) = refl
 
-grouped_result : {T V : Type 0} (value : T → V) (r : Result T Fault)
-    → converted_result value same_fault r ≡ map_value value r
-grouped_result value (Ok v) = refl
-grouped_result value (Err e) = refl
+raw_seen : SeenAlone raw_view same_fault MeansRaw (λ m. []) payload_result
+raw_seen m left n y h =
+    let once = only_payload (λ feed. feed) (payload.Stream (marks_feed m)) m refl left n y h in
+    (once.0, once.1, raw_value y ∙ once.2)
 
--- a place whose values are seen by a function, in a list of two
-module _ {T V B : Type 0} (f : T → V) (first : Meaning T) (seen : Meaning V) (second : Meaning B)
-    (to : (m rest : List Mark) (n : ℕ) (x : Result T Fault) → first m rest n x → seen m rest n (map_value f x)) where
-  refused_seen : (n k : ℕ) (x : Result T Fault) → RefusedBefore n k (map_value f x) → RefusedBefore n k x
-  refused_seen n k (Ok v) h = h
-  refused_seen n k (Err e) h = h
+late_seen : (q : DemoRequest) → SeenAlone (λ v. v) same_fault (MeansLate q.params) (λ m. m) (λ m. delayed_late q.params)
+late_seen q m left n y h = (h.0, h.1, converted_same y ∙ h.2)
 
-  joins_seen : (m left rest : List Mark) (n : ℕ) (x : Result (T × B) Fault)
-      → Joins2 (first m left) (second left rest) n x
-      → Joins2 (seen m left) (second left rest) n (map_value (λ v. (f v.0, v.1)) x)
-  joins_seen m left rest n (Ok v) j = (j.0, j.1, to m left j.0 (Ok v.0) j.2, j.3, j.4)
-  joins_seen m left rest n (Err x) (inl j) = inl (to m left n (Err x) j.0, j.1)
-  joins_seen m left rest n (Err x) (inr j) =
-      inr (j.0, λ p. j.1 (λ k y g. refused_seen (suc n) k y (p k (map_value f y) (to m left k y g))))
+number_seen : (q : DemoRequest) → SeenAlone (λ v. v) same_fault (MeansNumber q) (λ m. m) (λ m. number_result q)
+number_seen q m left n y h = (h.0, h.1, converted_same y ∙ h.2)
 
-  alone_seen : (m rest : List Mark) (n : ℕ) (x : Result (One T) Fault) → Means1 first m rest n x
-      → Means1 seen m rest n (map_value (λ v. record { 0 = f v.0 }) x)
-  alone_seen m rest n (Ok v) h = to m rest n (Ok v.0) h
-  alone_seen m rest n (Err e) h = to m rest n (Err e) h
+local_seen : (q : DemoRequest) → SeenAlone (λ v. v) same_fault (MeansLocal q) (λ m. m) (λ m. local_result q)
+local_seen q m left n y h = (h.0, h.1, converted_same y ∙ h.2)
 
-  means_seen : (m rest : List Mark) (n : ℕ) (x : Result (T × B) Fault) → Means2 first second m rest n x
-      → Means2 seen second m rest n (map_value (λ v. (f v.0, v.1)) x)
-  means_seen m rest n x h = (h.0, joins_seen m h.0 rest n x h.1)
+request_value : (y : Result (Record DemoLayer DemoLocal DemoConn) Fault) → converted_result (λ r. r.request) same_fault y ≡ seen_request y
+request_value (Ok r) = refl
+request_value (Err e) = refl
 
--- the bytes of a text, as a place
-abbrev SeenText : DemoRequest → Meaning (List ℕ)
-SeenText q m rest n y =
-    (rest ≡ string_rest (settings_of q) q.head.headers m)
-    × (n ≡ (text_result q m).delay) × (y ≡ (text_result q m).result)
+request_seen : (q : DemoRequest) → SeenAlone (λ r. r.request) same_fault (MeansRequest q) (λ m. m) (λ m. at_once (Ok q))
+request_seen q m left n y h =
+    let once = only_request q m left n y h in
+    (once.0, once.1, request_value y ∙ once.2)
 
-text_seen : (q : DemoRequest) (m rest : List Mark) (n : ℕ) (x : Result (String Global) Fault)
-    → MeansText q m rest n x → SeenText q m rest n (map_value string_bytes x)
-text_seen q m rest n x h = (h.1.0, h.1.1, h.2 ∙ ap decoded h.1.2)
+-- the header Accept
 
-member_seen : (q : DemoRequest) (m rest : List Mark) (n : ℕ) (x : Result (String Global) Fault)
-    → Member (λ e f. f ≡ same_fault e) (MeansText q) m rest n x → SeenText q m rest n (map_value string_bytes x)
-member_seen q m rest n (Ok v) h = text_seen q m rest n (Ok v) h
-member_seen q m rest n (Err e) h = rw h.2 (text_seen q m rest n (Err h.0) h.1)
+abbrev accept_said : Option (List (QualityItem MediaType)) → Option Accept
+accept_said items = option_map (λ i. record { 0 = i }) items
 
-exactly_text : (q : DemoRequest) (m : List Mark)
-    → Exactly (SeenText q) m (string_rest (settings_of q) q.head.headers m) (text_result q m)
-exactly_text q m left n y = (λ h. h, λ h. h)
+none_said : (other : Option Accept) → option_map (λ (header : Accept). header.0) other ≡ None → other ≡ None
+none_said None says = refl
+none_said (Some header) says = absurd (cc)
 
-text_alone_seen : (q : DemoRequest) (m rest : List Mark) (n : ℕ) (x : Result (One (String Global)) Fault)
-    → MeansTextAlone q m rest n x
-    → (n ≡ (list1 (text_result q m)).delay)
-    × (map_value (λ v. record { 0 = string_bytes v.0 }) x ≡ (list1 (text_result q m)).result)
-text_alone_seen q m rest n x h =
-    let second = Member (λ e f. f ≡ same_fault e) (MeansLate q.params) in
-    let seen = alone_seen string_bytes (Member (λ e f. f ≡ same_fault e) (MeansText q)) (SeenText q) second
-    (member_seen q) m rest n x h in
-    let alone = (decides1 (SeenText q) m (string_rest (settings_of q) q.head.headers m) (text_result q m)
-    (exactly_text q m) rest n _).0 seen in
-    (alone.1, alone.2)
+some_said : (i : List (QualityItem MediaType)) (other : Option Accept) → option_map (λ (header : Accept). header.0) other ≡ Some i → other ≡ Some (record { 0 = i })
+some_said i None says = absurd (cc)
+some_said i (Some header) says =
+    let same : header.0 ≡ i = cc in
+    ap (λ (l : List (QualityItem MediaType)). Some (record { 0 = l })) same
 
-exactly_bytes : (q : DemoRequest) (m : List Mark)
-    → Exactly (Member (λ e f. f ≡ same_fault e) (MeansBody q)) m
-    (bytes_rest (settings_of q) q.head.headers m) (body_result q m)
-exactly_bytes q m =
-    subst (λ (r : Result (List ℕ) Fault). Exactly (Member (λ e f. f ≡ same_fault e) (MeansBody q))
-    m (bytes_rest (settings_of q) q.head.headers m) (record { delay = (body_result q m).delay; result = r }))
-    (converted_same (body_result q m).result)
-    (member_exactly same_fault (MeansBody q) m (bytes_rest (settings_of q) q.head.headers m)
-    (body_result q m).delay (body_result q m).result (λ left n y. (λ h. h, λ h. h)))
+only_said : (items : Option (List (QualityItem MediaType))) → SaysOnly (λ said. option_map (λ (header : Accept). header.0) said ≡ items) (accept_said items)
+only_said None = (refl, λ other says. none_said other says)
+only_said (Some i) = (refl, λ other says. some_said i other says)
 
-bytes_only : (q : DemoRequest) (m rest : List Mark)
-    → GivesOnly (λ n x. MeansBytesAlone q m rest n x) (list1 (body_result q m)).delay
-    (list1 (body_result q m)).result
-bytes_only q m rest n x h =
-    let alone = (decides1 (Member (λ e f. f ≡ same_fault e) (MeansBody q)) m
-    (bytes_rest (settings_of q) q.head.headers m) (body_result q m) (exactly_bytes q m) rest n x).0 h in
-    (alone.1, alone.2)
+accept_value : (items : Option (List (QualityItem MediaType))) → converted_result (λ v. v) parse_fault (header_result (accept_said items)) ≡ header_or_fault items
+accept_value None = refl
+accept_value (Some i) = refl
 
-both_seen : (q : DemoRequest) (m rest : List Mark) (n : ℕ) (x : Result (String Global × Late) Fault)
-    → MeansBoth q m rest n x
-    → (n ≡ (list2 (text_result q m) (delayed_late q.params)).delay)
-    × (map_value (λ v. (string_bytes v.0, v.1)) x ≡ (list2 (text_result q m) (delayed_late q.params)).result)
-both_seen q m rest n x h =
-    let late = Member (λ e f. f ≡ same_fault e) (MeansLate q.params) in
-    let left = string_rest (settings_of q) q.head.headers m in
-    let seen = means_seen string_bytes (Member (λ e f. f ≡ same_fault e) (MeansText q)) (SeenText q) late
-    (member_seen q) m rest n x h in
-    let both = (decides2 (SeenText q) late m left left (text_result q m) (delayed_late q.params)
-    (exactly_text q m) (exactly_late q.params left) rest n _).0 seen in
-    (both.1, both.2)
+accept_seen : (q : DemoRequest) → SeenAlone (λ v. v) parse_fault (MeansAccept q) (λ m. m) (λ m. accept_result q)
+accept_seen q m left n y h =
+    let items = accept_of (request_values (codes "accept") q) in
+    let once = (gives_only (λ said. option_map (λ (header : Accept). header.0) said ≡ items) (accept_said items) (only_said items) m).1 left n y h in
+    (once.0, once.1, ap (converted_result (λ v. v) parse_fault) once.2 ∙ accept_value items)
 
--- values that are seen by a function, and then converted
-module _ {T V : Type 0} (f : T → V) (value : V → Picked) where
-  converted_seen : (y : Result T Fault) (x : Result Picked Fault)
-      → ConvertsResult (λ v w. w ≡ value (f v)) (λ e w. w ≡ same_fault e) y x
-      → x ≡ map_value value (map_value f y)
-  converted_seen (Ok v) x h = h.2 ∙ ap Ok h.1
-  converted_seen (Err e) x h = h.2 ∙ ap Err h.1
+-- an argument whose refusal is no refusal
 
-  seen_only : (gives : ℕ → Result T Fault → Type 0) (d : ℕ) (r : Result V Fault)
-      → ((n : ℕ) (y : Result T Fault) → gives n y → (n ≡ d) × (map_value f y ≡ r))
-      → GivesOnly (GivesConvertedBy (λ v. value (f v)) same_fault gives) d (map_value value r)
-  seen_only gives d r only n x h =
-      let once = only n h.0 h.1 in
-      (once.0, converted_seen h.0 x h.2 ∙ ap (map_value value) once.1)
+option_value : {T : Type 0} (y : Result T Fault) → converted_result (λ v. v) never_fault (as_option y) ≡ or_none y
+option_value (Ok v) = refl
+option_value (Err e) = refl
+
+option_seen : (q : DemoRequest) → SeenAlone (λ v. v) never_fault (λ m rest. GivesOption (MeansJsonItem q m rest)) (json_item_rest q) (λ m. without_refusal (json_item_result q m))
+option_seen q m left n x h =
+    let once = json_seen q m left n h.0 h.1 in
+    (once.0, once.1, ap (converted_result (λ v. v) never_fault) h.2 ∙ option_value h.0 ∙ ap or_none (sym (converted_same h.0) ∙ once.2))
+
+result_value : {T : Type 0} (y : Result T Fault) (x : Result (Result T Fault) Never) → AsResult (By same_fault) y x
+    → converted_result (λ v. v) never_fault x ≡ Ok y
+result_value (Ok v) x h = rw h refl
+result_value (Err e) x h = rw (h.2, h.1) refl
+
+result_seen : (q : DemoRequest) → SeenAlone (λ v. v) never_fault (MeansItemOrRefusal q) (json_item_rest q) (λ m. as_value (json_item_result q m))
+result_seen q m left n x h =
+    let once = json_seen q m left n h.0 h.1 in
+    (once.0, once.1, result_value h.0 x h.2 ∙ ap Ok (sym (converted_same h.0) ∙ once.2))
+
+-- lists of arguments
+
+by_only : {E : Type 0} (error : E → Fault) (e : E) (f : Fault) → By error e f → f ≡ error e
+by_only error e f h = h
+
+listed : {T E V : Type 0} (f : T → V) (error : E → Fault) (means : Alone T E) (rest : List Mark → List Mark) (a : List Mark → DelayedResult V)
+    → SeenAlone f error means rest a → Seen f (InList (By error) means) rest a
+listed f error means rest a seen = listed_seen f (By error) error (by_only error) means rest a seen
+
+both_seen : (q : DemoRequest) → Seen (λ v. (string_bytes v.0, v.1)) (MeansBoth q) (text_rest q) (both_result q)
+both_seen q =
+    pair_seen string_bytes (λ v. v) (InList (By same_fault) (MeansText q)) (InList (By same_fault) (MeansLate q.params))
+    (text_rest q) (λ m. m) (text_result q) (λ m. delayed_late q.params)
+    (listed string_bytes same_fault (MeansText q) (text_rest q) (text_result q) (text_seen q))
+    (listed (λ v. v) same_fault (MeansLate q.params) (λ m. m) (λ m. delayed_late q.params) (late_seen q))
+
+optional_seen : (q : DemoRequest) → Seen (λ v. (v.0, v.1)) (MeansOptional q) (λ m. body_rest q (json_item_rest q m)) (optional_result q)
+optional_seen q =
+    pair_seen (λ v. v) (λ v. v) (InList (By never_fault) (λ m rest. GivesOption (MeansJsonItem q m rest))) (InList (By same_fault) (MeansBody q))
+    (json_item_rest q) (body_rest q) (λ m. without_refusal (json_item_result q m)) (body_result q)
+    (listed (λ v. v) never_fault (λ m rest. GivesOption (MeansJsonItem q m rest)) (json_item_rest q) (λ m. without_refusal (json_item_result q m)) (option_seen q))
+    (listed (λ v. v) same_fault (MeansBody q) (body_rest q) (body_result q) (body_seen q))
+
+data_seen : (q : DemoRequest) → Seen (λ v. (v.0, v.1, v.2.request)) (MeansData q) (λ m. m) (λ m. numbers_result q)
+data_seen q =
+    three_seen (λ v. v) (λ v. v) (λ r. r.request)
+    (InList (By same_fault) (MeansNumber q)) (InList (By same_fault) (MeansLocal q)) (InList (By same_fault) (MeansRequest q))
+    (λ m. m) (λ m. m) (λ m. m) (λ m. number_result q) (λ m. local_result q) (λ m. at_once (Ok q))
+    (listed (λ v. v) same_fault (MeansNumber q) (λ m. m) (λ m. number_result q) (number_seen q))
+    (listed (λ v. v) same_fault (MeansLocal q) (λ m. m) (λ m. local_result q) (local_seen q))
+    (listed (λ r. r.request) same_fault (MeansRequest q) (λ m. m) (λ m. at_once (Ok q)) (request_seen q))
+
+-- a list of one argument, as what was picked
+module _ {T E V : Type 0} (f : T → V) (converts : E → Fault → Type 0) (value : V → Picked) (means : Alone T E)
+    (rest : List Mark → List Mark) (a : List Mark → DelayedResult V) where
+  one_only : Seen f (InList converts means) rest a → (m left : List Mark)
+      → GivesOnly (λ n x. GivesConvertedBy (λ v. value (f v.0)) same_fault (ListOfOne converts means m left) n x)
+      (list1 (a m)).delay (map_value (λ v. value v.0) (list1 (a m)).result)
+  one_only seen m left =
+      chosen_only (λ v. record { 0 = f v.0 }) (λ v. value v.0) (ListOfOne converts means) rest (λ m. list1 (a m))
+      (alone_seen f (InList converts means) rest a seen) m left
+
+pick_one : {T E V : Type 0} (f : T → V) (error : E → Fault) (value : V → Picked) (means : Alone T E)
+    (rest : List Mark → List Mark) (a : List Mark → DelayedResult V) → SeenAlone f error means rest a → (m left : List Mark)
+    → GivesOnly (λ n x. GivesConvertedBy (λ v. value (f v.0)) same_fault (ListOfOne (By error) means m left) n x)
+    (list1 (a m)).delay (map_value (λ v. value v.0) (list1 (a m)).result)
+pick_one f error value means rest a seen = one_only f (By error) value means rest a (listed f error means rest a seen)
 
 -- one delay and one result for each choice
+
+decoded_only : (c : DecodedChoice) (q : DemoRequest) (m rest : List Mark)
+    → GivesOnly (λ n x. MeansDecoded c q m rest n x) (decoded_result c q m).delay (decoded_result c q m).result
+decoded_only decoded.Json q m rest = pick_one (λ v. v) same_fault (λ v. picked.Json v) (MeansJsonItem q) (json_item_rest q) (json_item_result q) (json_seen q) m rest
+decoded_only decoded.Form q m rest = pick_one (λ v. v) same_fault (λ v. picked.Form v) (MeansFormItem q) (form_item_rest q) (form_item_result q) (form_seen q) m rest
+decoded_only decoded.Either q m rest = one_only (λ v. v) ByEither (λ v. picked.Either v) (MeansEitherItem q) (body_rest q) (either_item_result q) (either_seen q) m rest
+decoded_only decoded.Option q m rest =
+    chosen_only (λ v. (v.0, v.1)) (λ v. picked.Option v.0 v.1) (MeansOptional q) (λ m. body_rest q (json_item_rest q m)) (optional_result q) (optional_seen q) m rest
+decoded_only decoded.Result q m rest = pick_one (λ v. v) never_fault (λ v. picked.Result v) (MeansItemOrRefusal q) (json_item_rest q) (λ m. as_value (json_item_result q m)) (result_seen q) m rest
+
+immediate_only : (c : ImmediateChoice) (q : DemoRequest) (m rest : List Mark)
+    → GivesOnly (λ n x. MeansImmediate c q m rest n x) (immediate_result c q m).delay (immediate_result c q m).result
+immediate_only immediate.Path q m rest = pick_one (λ v. v) same_fault (λ v. picked.Path v) (MeansPathItem q) (λ m. m) (λ m. path_item_result q) (path_seen q) m rest
+immediate_only immediate.Query q m rest = pick_one (λ v. v) same_fault (λ v. picked.Query v) (MeansQueryItem q) (λ m. m) (λ m. query_item_result q) (query_seen q) m rest
+immediate_only immediate.Header q m rest = pick_one (λ v. v) parse_fault (λ v. picked.Header v) (MeansAccept q) (λ m. m) (λ m. accept_result q) (accept_seen q) m rest
+immediate_only immediate.Data q m rest = chosen_only (λ v. (v.0, v.1, v.2.request)) (λ v. picked.Data (seen_data v)) (MeansData q) (λ m. m) (λ m. numbers_result q) (data_seen q) m rest
+immediate_only immediate.Raw q m rest = pick_one raw_view same_fault (λ v. picked.Raw v) MeansRaw (λ m. []) payload_result raw_seen m rest
+
 choice_only : (c : Choice) (q : DemoRequest) (m rest : List Mark)
-    → GivesOnly (λ n x. MeansChoice c q m rest n x) (choice_result c q m).delay
-    (choice_result c q m).result
-choice_only choice.Bytes q m rest n x h =
-    let once = converted_only (λ v. picked.Bytes v.0) same_fault (MeansBytesAlone q m rest) _ _
-    (bytes_only q m rest) n x h in
-    (once.0, once.1 ∙ grouped_result (λ v. picked.Bytes v.0) _)
-choice_only choice.Text q m rest n x h =
-    seen_only (λ v. record { 0 = string_bytes v.0 }) (λ v. picked.Text v.0) (MeansTextAlone q m rest) _ _
-    (text_alone_seen q m rest) n x h
-choice_only choice.Both q m rest n x h =
-    seen_only (λ v. (string_bytes v.0, v.1)) (λ v. picked.Both v.0 v.1) (MeansBoth q m rest) _ _
-    (both_seen q m rest) n x h
-choice_only choice.Wait q m rest n x h =
-    converted_only (λ v. picked.Wait v) never_fault (MeansWait q.params m rest) _ _
-    (λ k y g. (g.1, g.2)) n x h
-choice_only choice.Other q m rest n x h =
-    converted_only (λ v. picked.Other) never_fault (MeansUnit m rest) _ _ (λ k y g. (g.1, g.2)) n x h
+    → GivesOnly (λ n x. MeansChoice c q m rest n x) (choice_result c q m).delay (choice_result c q m).result
+choice_only choice.Bytes q m rest = pick_one (λ v. v) same_fault (λ v. picked.Bytes v) (MeansBody q) (body_rest q) (body_result q) (body_seen q) m rest
+choice_only choice.Text q m rest = pick_one string_bytes same_fault (λ v. picked.Text v) (MeansText q) (text_rest q) (text_result q) (text_seen q) m rest
+choice_only choice.Both q m rest = chosen_only (λ v. (string_bytes v.0, v.1)) (λ v. picked.Both v.0 v.1) (MeansBoth q) (text_rest q) (both_result q) (both_seen q) m rest
+choice_only choice.Wait q m rest =
+    converted_only (λ v. picked.Wait v) never_fault (MeansWait q.params m rest) _ _ (λ k y g. (g.1, g.2))
+choice_only choice.Other q m rest =
+    converted_only (λ v. picked.Other) never_fault (MeansUnit m rest) _ _ (λ k y g. (g.1, g.2))
+choice_only (choice.Decoded c) q m rest = decoded_only c q m rest
+choice_only (choice.Immediate c) q m rest = immediate_only c q m rest
 
 -- the future of a choice's arguments, for a request that makes this choice
 pub extracts_choice : (q : DemoRequest) (c : Choice)

@@ -1,5 +1,5 @@
 -- The exchanges of the program, as its worker sees them.
-use Rattle.std.specs.Prelude.{[], ◌∷◌, None, codes, map, true, false}
+use Rattle.std.specs.Prelude.{ℕ, [], ◌∷◌, None, codes, map, option_map, true, false}
 use Rattle.http.specs.declared.version.TheConstants.Version.{HTTP_11}
 use Rattle.web_request.specs.declared.address.IpAddr.TheVariants.{V4}
 use Rattle.web_request.specs.declared.config.AppConfig.{AppConfig}
@@ -10,10 +10,10 @@ use Rattle.web_request.specs.Request.{Parts, Request}
 use Rattle.web_body.specs.MemoryBodies.{marks_feed}
 use Rattle.web_body.specs.declared.payload.Payload.TheVariants as payload
 use Rattle.web_worker.specs.Exchanges.{ExchangeView}
-use Rattle.web_demo.specs.declared.app.DemoLocal.{DemoLocal}
-use Rattle.web_demo.specs.declared.app.DemoConn.{DemoConn}
-use Rattle.web_demo.specs.declared.layer.DemoLayer.{DemoLayer}
-use Rattle.web_demo.specs.DemoLayers.{demo_layer, no_layer}
+use Rattle.web_demo_layers.specs.declared.app.DemoLocal.{DemoLocal}
+use Rattle.web_demo_layers.specs.declared.app.DemoConn.{DemoConn}
+use Rattle.web_demo_layers.specs.declared.layer.DemoLayer.{DemoLayer}
+use Rattle.web_demo_layers.specs.DemoLayers.{demo_layer, no_layer}
 use Rattle.web_script.specs.ScriptedView.{ScriptedExchangeView}
 
 -- `localhost:8080`, not secure, on 127.0.0.1:8080
@@ -47,13 +47,20 @@ demo_head e = record {
   peer = None;
 }
 
+-- the data of a connection, and of a request
+abbrev pub conn_of : ℕ → DemoConn
+conn_of n = record { 0 = n }
+
+abbrev pub local_of : ℕ → DemoLocal
+local_of n = record { 0 = n }
+
 abbrev pub demo_parts : ScriptedExchangeView → Parts DemoLayer DemoLocal DemoConn
 demo_parts e = record {
   head = demo_head e;
   params = e.params;
   layers = map demo_layer e.layers;
-  conn = None;
-  local = None;
+  conn = option_map conn_of e.conn;
+  local = option_map local_of e.local;
 }
 
 -- the exchange that a script describes, with its body as a stream of its marks
@@ -69,7 +76,7 @@ demo_request e = record {
   head = demo_head e;
   params = e.params;
   layers = no_layer ∷ map demo_layer e.layers;
-  conn = None;
-  local = None;
+  conn = option_map conn_of e.conn;
+  local = option_map local_of e.local;
   config = demo_config;
 }

@@ -1,9 +1,13 @@
+pub mod ArgumentMeanings
+pub mod BodyArguments
 pub mod Choices
 pub mod DelayedValue
+pub mod DemoArguments
 pub mod DemoExchanges
 pub mod DemoFunctions
-pub mod DemoLayers
 pub mod DemoReplies
+pub mod DemoTexts
+pub mod ItemArguments
 pub mod LateAndWait
 pub mod PickedArguments
 pub mod ServiceFunctions

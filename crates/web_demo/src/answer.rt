@@ -1,29 +1,71 @@
 //! The output of the handler.
-ghost use Rattle.std.specs.Prelude.{◌≡◌};
+ghost use Rattle.std.specs.Prelude.{◌≡◌, ◌∷◌, [], IfOk, OnOk, codes};
+ghost use Rattle.http_header.specs.FieldValue.{plain_value};
+ghost use Rattle.web_reply.specs.Replies.{plain_reply};
+ghost use Rattle.web_reply.specs.ResponseBodies.{box_plain};
+ghost use Rattle.web_demo.specs.DemoReplies.{raw_reply};
 
+use crate::demo_arguments::RawBody;
 use bytes::Bytes;
+use http::StatusCode;
+use http_header::{CONTENT_TYPE, HeaderMap, HeaderValue};
 use std::alloc::Global;
+use web_body::Marks;
+use web_demo_layers::{Demo, Item};
 use web_reply::{BoxBody, Done, Error, HttpResponse, Responder};
-use web_request::{App, HttpRequest, NoMemory};
+use web_request::{HttpRequest, NoMemory};
 use web_texts::Text;
+use web_types::{Form, Json};
 
 /// The output of the handler.
-#[derive(Debug, Drop)]
+#[derive(Drop)]
 pub enum Answer {
     /// A 200 with these bytes.
     Bytes(Bytes),
     /// A 200 with this text.
     Text(Text),
+    /// A 200 with this item as JSON.
+    Json(Item),
+    /// A 200 with this item as a form.
+    Form(Item),
+    /// A 200 with what is left of this body, as a stream of bytes.
+    Raw(RawBody),
     /// An empty 204, as `Done(Ok(()))` responds.
     Done,
     /// An empty 404, as `None` responds.
     None,
 }
 
-impl<A: App> Responder<A> for Answer {
+/// Puts the content type of bytes into an empty map.
+fn put_octet_stream(headers: &mut HeaderMap<HeaderValue>) -> Result<(), NoMemory>
+    requires none { headers.old ≡ [] }
+    ensures { OnOk result (headers.new
+        ≡ (codes "content-type", plain_value (codes "application/octet-stream") ∷ []) ∷ []) }
+{
+    match headers.insert(CONTENT_TYPE, HeaderValue::from_static("application/octet-stream")) {
+        Ok(_) => Ok(()),
+        Err(_) => Err(NoMemory),
+    }
+}
+
+/// A 200 with what is left of this body, as a stream of bytes.
+fn raw_response(alloc: Global, body: RawBody) -> Result<HttpResponse<BoxBody<Marks>>, NoMemory>
+    ensures { IfOk result (λ reply.
+        plain_reply (λ b. box_plain (λ feed. feed) b) reply ≡ raw_reply body) }
+{
+    let RawBody { payload } = body;
+    let stream = BoxBody::Stream(Box::new(alloc, payload)?);
+    let mut reply = HttpResponse::with_body(alloc, StatusCode::OK, stream);
+    match put_octet_stream(reply.headers_mut()) {
+        Ok(()) => Ok(reply),
+        Err(e) => Err(e),
+    }
+}
+
+impl Responder<Demo> for Answer {
     ghost use Rattle.web_demo.specs.DemoReplies.{AnswerNeedsNoMemory, answer_reply};
 
-    type Body = BoxBody<A::Source>;
+    type Body = BoxBody<Marks>;
 
     ghost responds = { λ answer q r. r ≡ answer_reply answer };
 
@@ -32,11 +74,14 @@ impl<A: App> Responder<A> for Answer {
     fn respond_to(
         self,
         alloc: Global,
-        req: &HttpRequest<A>,
-    ) -> Result<HttpResponse<BoxBody<A::Source>>, NoMemory> {
+        req: &HttpRequest<Demo>,
+    ) -> Result<HttpResponse<BoxBody<Marks>>, NoMemory> {
         match self {
             Answer::Bytes(bytes) => bytes.respond_to(alloc, req)?.map_into_boxed_body(alloc),
             Answer::Text(text) => text.respond_to(alloc, req)?.map_into_boxed_body(alloc),
+            Answer::Json(item) => Json(item).respond_to(alloc, req)?.map_into_boxed_body(alloc),
+            Answer::Form(item) => Form(item).respond_to(alloc, req)?.map_into_boxed_body(alloc),
+            Answer::Raw(body) => raw_response(alloc, body),
             Answer::Done => {
                 let done: Done<Error> = Done(Ok(()));
                 done.respond_to(alloc, req)?.map_into_boxed_body(alloc)

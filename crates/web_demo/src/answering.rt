@@ -8,7 +8,7 @@ use std::marker::Model;
 use web_body::{Poll, Step};
 
 /// The output of the handler, after as many polls as it waits.
-#[derive(Debug, Drop)]
+#[derive(Drop)]
 pub struct Answering {
     delayed: Delayed<Answer>,
 }

@@ -12,7 +12,29 @@ pub enum Choice {
     Text,
     Both,
     Wait,
+    Decoded(DecodedChoice),
+    Immediate(ImmediateChoice),
     Other,
+}
+
+/// Arguments that decode the body.
+#[derive(Clone, Copy, Debug, PartialEq, Eq)]
+pub enum DecodedChoice {
+    Json,
+    Form,
+    Either,
+    Option,
+    Result,
+}
+
+/// Further arguments that come at the first poll.
+#[derive(Clone, Copy, Debug, PartialEq, Eq)]
+pub enum ImmediateChoice {
+    Path,
+    Query,
+    Header,
+    Data,
+    Raw,
 }
 
 fn is_named(segment: &[u8], name: &[u8]) -> bool
@@ -28,6 +50,26 @@ fn choice_named(segment: &[u8]) -> Choice
         Choice::Bytes
     } else if is_named(segment, b"text") {
         Choice::Text
+    } else if is_named(segment, b"json") {
+        Choice::Decoded(DecodedChoice::Json)
+    } else if is_named(segment, b"form") {
+        Choice::Decoded(DecodedChoice::Form)
+    } else if is_named(segment, b"either") {
+        Choice::Decoded(DecodedChoice::Either)
+    } else if is_named(segment, b"option") {
+        Choice::Decoded(DecodedChoice::Option)
+    } else if is_named(segment, b"result") {
+        Choice::Decoded(DecodedChoice::Result)
+    } else if is_named(segment, b"path") {
+        Choice::Immediate(ImmediateChoice::Path)
+    } else if is_named(segment, b"query") {
+        Choice::Immediate(ImmediateChoice::Query)
+    } else if is_named(segment, b"header") {
+        Choice::Immediate(ImmediateChoice::Header)
+    } else if is_named(segment, b"data") {
+        Choice::Immediate(ImmediateChoice::Data)
+    } else if is_named(segment, b"raw") {
+        Choice::Immediate(ImmediateChoice::Raw)
     } else if is_named(segment, b"both") {
         Choice::Both
     } else if is_named(segment, b"wait") {

@@ -1,20 +1,55 @@
 //! The flights of a script's exchanges.
-ghost use Rattle.std.specs.Prelude.{◌≡◌, ◌<◌, ◌^◌, [], IfOk, true, length};
+ghost use Rattle.std.specs.Prelude.{◌≡◌, ◌<◌, ◌^◌, [], IfOk, true, length, map, option_map};
+ghost use Rattle.web_request.specs.Shared.{value_of, values};
+ghost use Rattle.web_demo_layers.specs.DemoLayers.{demo_layer};
 ghost use Rattle.web_request.specs.Body.{is_body, piece_bytes};
-ghost use Rattle.web_demo.specs.DemoExchanges.{demo_exchange};
+ghost use Rattle.web_demo.specs.DemoExchanges.{conn_of, demo_exchange};
 
-use crate::app::Demo;
-use crate::layer::demo_layers;
 use http::Version;
 use std::alloc::Global;
+use std::rc::Rc;
 use web_body::{Marks, Payload};
+use web_demo_layers::{Demo, DemoConn, DemoLayer, DemoLocal, demo_layers};
 use web_extract::FromRequest;
 use web_request::RequestHead;
-use web_script::{ExchangeSink, ScriptedExchange};
+use web_script::{ExchangeSink, LayerSettings, ScriptedExchange};
 use web_texts::NoMemory;
 use web_worker::{Exchange, Flight, Handler};
 
-/// The exchange that a script describes, with its body as a stream. Only its layers need memory.
+/// The data of a connection, if a script names it.
+fn shared_conn(alloc: Global, conn: Option<u64>) -> Result<Option<Rc<DemoConn>>, NoMemory>
+    ensures { IfOk result (λ made. value_of made ≡ option_map conn_of conn) }
+{
+    match conn {
+        Some(number) => Ok(Some(Rc::new(alloc, DemoConn(number))?)),
+        None => Ok(None),
+    }
+}
+
+/// What an exchange shares: its layers, and the data of its connection.
+#[derive(Drop)]
+struct Shared {
+    layers: Vec<Rc<DemoLayer>>,
+    conn: Option<Rc<DemoConn>>,
+}
+
+fn shared_of(
+    alloc: Global,
+    lines: Vec<LayerSettings>,
+    conn: Option<u64>,
+) -> Result<Shared, NoMemory>
+    ensures layers { IfOk result (λ made.
+        values made.layers.items ≡ map demo_layer lines.items) }
+    ensures conn { IfOk result (λ made. value_of made.conn ≡ option_map conn_of conn) }
+{
+    Ok(Shared {
+        layers: demo_layers(alloc, lines)?,
+        conn: shared_conn(alloc, conn)?,
+    })
+}
+
+/// The exchange that a script describes, with its body as a stream. Only its layers and the data of
+/// its connection need memory.
 fn exchange_of(alloc: Global, scripted: ScriptedExchange) -> Result<Exchange<Demo>, NoMemory>
     requires body { is_body scripted.marks ≡ true }
     requires small { length (piece_bytes scripted.marks) < 2 ^ 63 }
@@ -27,9 +62,12 @@ fn exchange_of(alloc: Global, scripted: ScriptedExchange) -> Result<Exchange<Dem
         params,
         layers,
         marks,
+        local,
+        conn,
     } = scripted;
+    let Shared { layers, conn } = shared_of(alloc, layers, conn)?;
     Ok(Exchange {
-        layers: demo_layers(alloc, layers)?,
+        layers,
         head: RequestHead {
             uri,
             method,
@@ -38,8 +76,8 @@ fn exchange_of(alloc: Global, scripted: ScriptedExchange) -> Result<Exchange<Dem
             peer_addr: None,
         },
         params,
-        conn: None,
-        local: None,
+        conn,
+        local: local.map(|number| DemoLocal(number)),
         body: Payload::Stream(Marks::new(marks)),
     })
 }

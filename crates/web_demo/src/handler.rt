@@ -1,17 +1,19 @@
 //! The handler of the program.
-ghost use Rattle.std.specs.Prelude.{◌≡◌};
-ghost use Rattle.web_demo.specs.DemoReplies.{answer_of, wait_of};
+ghost use Rattle.std.specs.Prelude.{◌≡◌, IfOk, IsOk};
+ghost use Rattle.web_demo.specs.DemoReplies.{AnswersWithoutMemory, answer_of, wait_of};
 
 use crate::answer::Answer;
 use crate::answering::Answering;
 use crate::picked::Picked;
+use crate::texts::{accept_text, data_text, either_text, item_text, option_text, result_text};
 use std::alloc::Global;
 use web_request::NoMemory;
 use web_worker::Handler;
 
-/// The handler of the program: it replies with the body, with 204 after a wait, or with 404.
+/// The handler of the program. What it replies to the arguments of each segment stands in the
+/// command's page.
 ///
-/// `call` needs no memory, and neither does a poll of its future.
+/// `call` needs memory for the texts that it prints. A poll of its future needs none.
 #[derive(Debug, Drop)]
 pub struct DemoHandler;
 
@@ -24,20 +26,33 @@ fn wait_of(picked: &Picked) -> u64
     }
 }
 
-fn answer_of(picked: Picked) -> Answer
-    ensures { result ≡ answer_of picked }
+/// The output for these arguments. Those that were printed, or whose body was taken, are dropped.
+fn answer_of(alloc: Global, picked: Picked) -> Result<Answer, NoMemory>
+    ensures value { IfOk result (λ answer. answer ≡ answer_of picked) }
+    ensures memory { AnswersWithoutMemory picked → IsOk result }
 {
-    match picked {
-        Picked::Bytes(bytes) => Answer::Bytes(bytes),
-        Picked::Text(text) => Answer::Text(text),
-        Picked::Both(text, _) => Answer::Text(text),
-        Picked::Wait(_) => Answer::Done,
-        Picked::Other => Answer::None,
-    }
+    let text = match picked {
+        Picked::Bytes(bytes) => return Ok(Answer::Bytes(bytes)),
+        Picked::Text(text) => return Ok(Answer::Text(text)),
+        Picked::Json(json) => return Ok(Answer::Json(json.into_inner())),
+        Picked::Form(form) => return Ok(Answer::Form(form.into_inner())),
+        Picked::Raw(body) => return Ok(Answer::Raw(body)),
+        Picked::Both(text, _) => return Ok(Answer::Text(text)),
+        Picked::Wait(_) => return Ok(Answer::Done),
+        Picked::Other => return Ok(Answer::None),
+        Picked::Either(either) => either_text(alloc, &either),
+        Picked::Option(item, left) => option_text(alloc, &item, left.len()),
+        Picked::Result(read) => result_text(alloc, &read),
+        Picked::Path(path) => item_text(alloc, path.as_ref()),
+        Picked::Query(query) => item_text(alloc, &query.0),
+        Picked::Header(header) => accept_text(alloc, &header),
+        Picked::Data(arguments) => data_text(alloc, &arguments),
+    };
+    text.map(|text| Answer::Text(text))
 }
 
 impl Handler<Picked> for DemoHandler {
-    ghost use Rattle.std.specs.Prelude.{IfOk, IsOk, None, false, is_none};
+    ghost use Rattle.std.specs.Prelude.{IfOk, None, false, is_none};
     ghost use Rattle.web_worker.specs.HandlerPromises.{Within};
     ghost use Rattle.web_demo.specs.DelayedValue.{GivesDelayed};
     ghost use Rattle.web_demo.specs.DemoReplies.{HandlerAnswers};
@@ -50,13 +65,13 @@ impl Handler<Picked> for DemoHandler {
 
     ghost calls = { λ h. None };
 
-    fn call(&mut self, _alloc: Global, picked: Picked) -> Result<Answering, NoMemory>
+    fn call(&mut self, alloc: Global, picked: Picked) -> Result<Answering, NoMemory>
         ensures fresh { IfOk result (λ f. is_none f.value ≡ false) }
         ensures answers { IfOk result (λ f. Within
             (λ n x. GivesDelayed f n x) (λ n x. HandlerAnswers picked n x)) }
-        ensures ok { IsOk result }
+        ensures memory { AnswersWithoutMemory picked → IsOk result }
     {
         let wait = wait_of(&picked);
-        Ok(Answering::new(wait, answer_of(picked)))
+        Ok(Answering::new(wait, answer_of(alloc, picked)?))
     }
 }

@@ -3,9 +3,9 @@ ghost use Rattle.web_demo.specs.DemoFunctions.{demo_handler, picked_arguments};
 ghost use Rattle.web_demo.specs.ServiceFunctions.{ArgumentsMeet, HandlerMeets};
 
 use crate::answer::Answer;
-use crate::app::Demo;
 use crate::handler::DemoHandler;
 use crate::picked::Picked;
+use web_demo_layers::Demo;
 use web_extract::FromRequest;
 use web_reply::{Error, Responder};
 use web_worker::Handler;

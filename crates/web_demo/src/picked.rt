@@ -5,25 +5,50 @@ ghost use Rattle.web_reply.specs.Replies.{Fault};
 ghost use Rattle.web_demo.specs.DemoExchanges.{DemoRequest};
 ghost use Rattle.web_demo.specs.PickedArguments.{MeansPicked, picked_delay, picked_result};
 
-use crate::app::Demo;
 use crate::choice::{Choice, choice_of};
+use crate::demo_arguments::{DataArguments, RawBody};
+use crate::further_futures::{FurtherFuture, FutureOf, decoded_future, immediate_future};
 use crate::late::Late;
 use crate::wait::Wait;
 use bytes::Bytes;
 use std::alloc::Global;
+use web_arguments::{Header, Path, Query};
 use web_body::{Marks, Payload};
-use web_extract::{EitherFuture, FromRequest, IntoSome, MapInto, from_request_into};
+use web_demo_layers::{Demo, Item};
+use web_extract::{EitherFuture, FromRequest, from_request_into};
+use web_headers::Accept;
 use web_reply::Error;
 use web_request::{HttpRequest, NoMemory};
 use web_texts::Text;
+use web_types::{Either, Form, Json};
 
 /// The arguments that the first segment of the path asks for.
-#[derive(Debug, Drop)]
+#[derive(Drop)]
 pub enum Picked {
     /// Of `/bytes`: the body.
     Bytes(Bytes),
     /// Of `/text`: the body as a text.
     Text(Text),
+    /// Of `/json`: the body as JSON.
+    Json(Json<Item>),
+    /// Of `/form`: the body as a form.
+    Form(Form<Item>),
+    /// Of `/either`: the body as JSON, and where that is refused as a form.
+    Either(Either<Json<Item>, Form<Item>>),
+    /// Of `/option`: the body as JSON, where it is not refused, and what is left of it.
+    Option(Option<Json<Item>>, Bytes),
+    /// Of `/result`: the body as JSON, or its refusal.
+    Result(Result<Json<Item>, Error>),
+    /// Of `/path`: the parameters.
+    Path(Path<Item>),
+    /// Of `/query`: the query.
+    Query(Query<Item>),
+    /// Of `/header`: the header Accept.
+    Header(Header<Accept>),
+    /// Of `/data`: the data of the layers and of the request, and the request.
+    Data(DataArguments),
+    /// Of `/raw`: the body, unread.
+    Raw(RawBody),
     /// Of `/both`: the body as a text, and an argument that comes late.
     Both(Text, Late),
     /// Of `/wait`: how long the handler waits.
@@ -32,105 +57,13 @@ pub enum Picked {
     Other,
 }
 
-impl From<(Bytes,)> for Picked {
-    ghost use Rattle.web_demo.specs.declared.picked.Picked.TheVariants as picked;
-
-    ghost from_gives = { λ list x. x ≡ picked.Bytes list.0 };
-
-    fn from(list: (Bytes,)) -> Picked {
-        let (bytes,) = list;
-        Picked::Bytes(bytes)
-    }
-}
-
-impl From<(String,)> for Picked {
-    ghost use Rattle.std.specs.Prelude.{string_bytes};
-    ghost use Rattle.web_demo.specs.declared.picked.Picked.TheVariants as picked;
-
-    ghost from_gives = { λ list x. x ≡ picked.Text (string_bytes list.0) };
-
-    fn from(list: (String,)) -> Picked {
-        let (text,) = list;
-        Picked::Text(Text::from(text))
-    }
-}
-
-impl From<(String, Late)> for Picked {
-    ghost use Rattle.std.specs.Prelude.{string_bytes};
-    ghost use Rattle.web_demo.specs.declared.picked.Picked.TheVariants as picked;
-
-    ghost from_gives = { λ both x. x ≡ picked.Both (string_bytes both.0) both.1 };
-
-    fn from(both: (String, Late)) -> Picked {
-        let (text, late) = both;
-        Picked::Both(Text::from(text), late)
-    }
-}
-
-impl From<Wait> for Picked {
-    ghost use Rattle.web_demo.specs.declared.picked.Picked.TheVariants as picked;
-
-    ghost from_gives = { λ wait x. x ≡ picked.Wait wait };
-
-    fn from(wait: Wait) -> Picked {
-        Picked::Wait(wait)
-    }
-}
-
-impl From<()> for Picked {
-    ghost use Rattle.web_demo.specs.declared.picked.Picked.TheVariants as picked;
-
-    ghost from_gives = { λ _ x. x ≡ picked.Other };
-
-    fn from(_nothing: ()) -> Picked {
-        Picked::Other
-    }
-}
-
-impl IntoSome<Picked> for (Bytes,) {
-    ghost use Rattle.web_extract.specs.ConvertedFutures.{converts_by};
-    ghost use Rattle.web_demo.specs.declared.picked.Picked.TheVariants as picked;
-
-    ghost converted = { converts_by (λ list. picked.Bytes list.0) };
-}
-
-impl IntoSome<Picked> for (String,) {
-    ghost use Rattle.std.specs.Prelude.{string_bytes};
-    ghost use Rattle.web_extract.specs.ConvertedFutures.{converts_by};
-    ghost use Rattle.web_demo.specs.declared.picked.Picked.TheVariants as picked;
-
-    ghost converted = { converts_by (λ list. picked.Text (string_bytes list.0)) };
-}
-
-impl IntoSome<Picked> for (String, Late) {
-    ghost use Rattle.std.specs.Prelude.{string_bytes};
-    ghost use Rattle.web_extract.specs.ConvertedFutures.{converts_by};
-    ghost use Rattle.web_demo.specs.declared.picked.Picked.TheVariants as picked;
-
-    ghost converted = { converts_by (λ both. picked.Both (string_bytes both.0) both.1) };
-}
-
-impl IntoSome<Picked> for Wait {
-    ghost use Rattle.web_extract.specs.ConvertedFutures.{converts_by};
-    ghost use Rattle.web_demo.specs.declared.picked.Picked.TheVariants as picked;
-
-    ghost converted = { converts_by (λ wait. picked.Wait wait) };
-}
-
-impl IntoSome<Picked> for () {
-    ghost use Rattle.web_extract.specs.ConvertedFutures.{converts_by};
-    ghost use Rattle.web_demo.specs.declared.picked.Picked.TheVariants as picked;
-
-    ghost converted = { converts_by (λ _. picked.Other) };
-}
-
-/// The future of one choice.
-type FutureOf<T> = MapInto<<T as FromRequest<Demo>>::Future, Picked, Error>;
-
 /// The future of the arguments that were chosen.
 pub type PickedFuture = EitherFuture<
-    EitherFuture<FutureOf<(Bytes,)>, FutureOf<(String,)>>,
-    EitherFuture<FutureOf<(String, Late)>, EitherFuture<FutureOf<Wait>, FutureOf<()>>>,
+    EitherFuture<
+        EitherFuture<FutureOf<(Bytes,)>, FutureOf<(String,)>>,
+        EitherFuture<FutureOf<(String, Late)>, EitherFuture<FutureOf<Wait>, FutureOf<()>>>,
+    >,
+    FurtherFuture,
 >;
 
 /// The arguments that the first segment of the path asks for, and no others.
@@ -161,27 +94,37 @@ impl FromRequest<Demo> for Picked {
                 let future = from_request_into::<Demo, (Bytes,), Picked, Error>(
                     alloc, req, payload,
                 )?;
-                Ok(EitherFuture::Left(EitherFuture::Left(future)))
+                Ok(EitherFuture::Left(EitherFuture::Left(EitherFuture::Left(future))))
             }
             Choice::Text => {
                 let future = from_request_into::<Demo, (String,), Picked, Error>(
                     alloc, req, payload,
                 )?;
-                Ok(EitherFuture::Left(EitherFuture::Right(future)))
+                Ok(EitherFuture::Left(EitherFuture::Left(EitherFuture::Right(future))))
             }
             Choice::Both => {
                 let future = from_request_into::<Demo, (String, Late), Picked, Error>(
                     alloc, req, payload,
                 )?;
-                Ok(EitherFuture::Right(EitherFuture::Left(future)))
+                Ok(EitherFuture::Left(EitherFuture::Right(EitherFuture::Left(future))))
             }
             Choice::Wait => {
-                let future = from_request_into::<Demo, Wait, Picked, Error>(alloc, req, payload)?;
-                Ok(EitherFuture::Right(EitherFuture::Right(EitherFuture::Left(future))))
+                let future = from_request_into::<Demo, Wait, Picked, Error>(
+                    alloc, req, payload,
+                )?;
+                Ok(EitherFuture::Left(EitherFuture::Right(EitherFuture::Right(EitherFuture::Left(future)))))
             }
+            Choice::Decoded(choice) => Ok(EitherFuture::Right(decoded_future(
+                alloc, req, payload, choice,
+            )?)),
+            Choice::Immediate(choice) => Ok(EitherFuture::Right(immediate_future(
+                alloc, req, payload, choice,
+            )?)),
             Choice::Other => {
-                let future = from_request_into::<Demo, (), Picked, Error>(alloc, req, payload)?;
-                Ok(EitherFuture::Right(EitherFuture::Right(EitherFuture::Right(future))))
+                let future = from_request_into::<Demo, (), Picked, Error>(
+                    alloc, req, payload,
+                )?;
+                Ok(EitherFuture::Left(EitherFuture::Right(EitherFuture::Right(EitherFuture::Right(future)))))
             }
         }
     }

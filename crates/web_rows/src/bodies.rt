@@ -5,7 +5,9 @@ use std::process::Abort;
 use web_cli::Status;
 
 /// A name, a script of one exchange that is answered with a text, the status, and the text.
-const TEXTS: &[(&str, &str, u16, &str)] = &[
+pub(crate) type TextRow = (&'static str, &'static str, u16, &'static str);
+
+const TEXTS: &[TextRow] = &[
     (
         "the limit is passed",
         "exchange POST /bytes\nlayer payload=4\ntext abcde\nplan 0\n",
@@ -130,7 +132,7 @@ const BODIES: &[(&str, &str)] = &[
     ),
 ];
 
-fn assert_text(rt: &impl Abort, alloc: Global, row: &(&str, &str, u16, &str)) {
+pub(crate) fn assert_text(rt: &impl Abort, alloc: Global, row: &TextRow) {
     let (name, script, status, text) = *row;
     let reply = format!(in alloc;
         "exchange 0\nstatus {status}\n\

@@ -165,7 +165,7 @@ module _ (text method target : List ℕ) (cut : IsCut 32 text method target) whe
 
   pub asked_for : (t : Target) (m : List ℕ) (made : ScriptedExchangeView) → has_space target ≡ false → unless (is_method method) reason.BadExchange ≡ None → m ≡ method
       → target_fault (target_of target) ≡ None → target_of target ≡ Some t
-      → made ≡ record { method = m; target = t; headers = []; params = []; layers = []; marks = [] } → (request_fault text ≡ None) × (made ≡ new_exchange text)
+      → made ≡ record { method = m; target = t; headers = []; params = []; layers = []; marks = []; local = None; conn = None } → (request_fault text ≡ None) × (made ≡ new_exchange text)
   asked_for t m made plain is same none reads made_is =
       let here : target_of (after_space text) ≡ Some t = ap target_of (sym cut.after_is) ∙ reads in
       let named_count : m ≡ before_space text = same ∙ cut.before_is in

@@ -15,7 +15,8 @@ use Rattle.web_request.specs.Body.{is_body, ends_in_fault, whole}
 use Rattle.web_texts.specs.declared.text.Pair.{Pair}
 use Rattle.web_script.specs.ScriptedView.{ScriptedExchangeView}
 use Rattle.web_script.specs.ExchangeSinks.{open_exchanges}
-use Rattle.web_script.specs.Reader.{ReaderView, new_reader, refusal, after_line, completed_by, with_headers, with_layers, with_marks, with_params}
+use Rattle.web_script.specs.Reader.{ReaderView, new_reader, refusal, after_line, completed_by, with_headers, with_layers, with_marks, with_params, with_local, with_conn}
+use Rattle.web_script.specs.Numbers.{line_number}
 use Rattle.web_script.specs.ScriptExchanges.{line_headers, line_layers}
 use Rattle.web_script.specs.declared.layer.LayerSettings.{LayerSettings}
 use Rattle.web_script.specs.declared.reason.Reason.{Reason}
@@ -80,6 +81,14 @@ layers_sound : (o : Option ScriptedExchangeView) (f : Bool) (l : List LayerSetti
 layers_sound None f l sound = tt
 layers_sound (Some e) f l sound = sound
 
+local_sound : (o : Option ScriptedExchangeView) (f : Bool) (n : ℕ) → IsOpenSound o f → IsOpenSound (option_map (with_local n) o) f
+local_sound None f n sound = tt
+local_sound (Some e) f n sound = sound
+
+conn_sound : (o : Option ScriptedExchangeView) (f : Bool) (n : ℕ) → IsOpenSound o f → IsOpenSound (option_map (with_conn n) o) f
+conn_sound None f n sound = tt
+conn_sound (Some e) f n sound = sound
+
 -- the line of a mark is refused where the exchange has a fault
 none_failed : (p b f : Bool) (argument : Option Reason)
     → option_or (cond p (Some reason.LineAfterPlan) (cond (not b) (Some reason.NoExchange) (cond f (Some reason.MarkAfterFault) None))) argument ≡ None → f ≡ false
@@ -113,6 +122,8 @@ open_more s word.Exchange text fine sound = (refl, refl)
 open_more s word.Header text fine sound = headers_sound s.open_exchange s.has_fault (line_headers word.Header text) sound
 open_more s word.Layer text fine sound = layers_sound s.open_exchange s.has_fault (line_layers word.Layer text) sound
 open_more s word.Param text fine sound = params_sound s.open_exchange s.has_fault _ sound
+open_more s word.Local text fine sound = local_sound s.open_exchange s.has_fault (line_number text) sound
+open_more s word.Conn text fine sound = conn_sound s.open_exchange s.has_fault (line_number text) sound
 open_more s word.Text text fine sound =
     marks_sound s.open_exchange s.has_fault s.has_fault _ (has_none s _ fine) ((whole_is text).0, (whole_is text).1 ∙ sym (has_none s _ fine)) sound
 open_more s word.Piece text fine sound =
@@ -131,6 +142,8 @@ whole_more whole s word.Text sound = rw (append-nil whole) sound.added
 whole_more whole s word.Piece sound = rw (append-nil whole) sound.added
 whole_more whole s word.Stall sound = rw (append-nil whole) sound.added
 whole_more whole s word.Fault sound = rw (append-nil whole) sound.added
+whole_more whole s word.Local sound = rw (append-nil whole) sound.added
+whole_more whole s word.Conn sound = rw (append-nil whole) sound.added
 whole_more whole s word.Param sound = rw (append-nil whole) sound.added
 whole_more whole s word.Plan sound = rw (append-nil whole) sound.added
 whole_more whole s word.Skipped sound = rw (append-nil whole) sound.added

@@ -2,7 +2,7 @@
 use Rattle.std.proofs.Common.{◌≡◌, ℕ, ◌+◌, Bool, true, false, not, ◌&&◌, ◌||◌, List, [], ◌∷◌, ◌++◌, length, Option, Some, None, cond, refl, ap, sym, ◌∙◌, append_assoc, length-append, subst, arith}
 use Rattle.std.specs.Prelude.{is_some, nat_le, bytes_eq}
 use Rattle.std.specs.Option.{option_map, option_or}
-use Rattle.std.specs.List.{before_first, count_by, flat_map}
+use Rattle.std.specs.List.{before_first, count_by, flat_map, last_or}
 use Rattle.std.proofs.lemmas.List.{append-nil}
 use Rattle.std.proofs.lemmas.Grind.{flat_map-append}
 use Rattle.std.proofs.lemmas.List.Sums.{fold-append, sum_by-cons}
@@ -13,9 +13,10 @@ use Rattle.web_script.specs.Line.{Line}
 use Rattle.web_script.specs.ScriptedView.{ScriptedExchangeView}
 use Rattle.web_script.specs.LineKinds.{has, is_mark}
 use Rattle.web_script.specs.LineFaults.{has_line, exchange_lines, place_fault, argument_fault, fault_of, max_headers}
-use Rattle.web_script.specs.ScriptExchanges.{line_headers, line_layers, line_marks, line_params, line_entries, plan, exchange_of, exchanges}
+use Rattle.web_script.specs.Numbers.{line_number}
+use Rattle.web_script.specs.ScriptExchanges.{line_headers, line_layers, line_marks, line_params, line_locals, line_conns, line_entries, plan, exchange_of, exchanges}
 use Rattle.web_script.specs.ExchangeSinks.{open_exchanges}
-use Rattle.web_script.specs.Reader.{ReaderView, header_count, word_fault, reader_fault, refusal, after_line, completed_by, with_headers, with_layers, with_marks, with_params}
+use Rattle.web_script.specs.Reader.{ReaderView, header_count, word_fault, reader_fault, refusal, after_line, completed_by, with_headers, with_layers, with_marks, with_params, with_local, with_conn}
 use Rattle.web_script.specs.declared.reason.Reason.{Reason}
 use Rattle.web_script.specs.declared.reason.Reason.TheVariants as reason
 use Rattle.web_script.specs.declared.line.Word.{Word}
@@ -71,7 +72,17 @@ grown x e = record e {
   params = e.params ++ line_params x.word x.argument;
   layers = e.layers ++ line_layers x.word x.argument;
   marks = e.marks ++ line_marks x.word x.argument;
+  local = last_or e.local (line_locals x.word x.argument);
+  conn = last_or e.conn (line_conns x.word x.argument);
 }
+
+last_append : (o : Option ℕ) (xs ys : List ℕ) → last_or o (xs ++ ys) ≡ last_or (last_or o xs) ys
+last_append o [] ys = refl
+last_append o (x ∷ xs) ys = last_append (Some x) xs ys
+
+last_more : (numbers : Line → List ℕ) (rest : List Line) (x : Line) → last_or None (flat_map numbers (rest ++ x ∷ [])) ≡ last_or (last_or None (flat_map numbers rest)) (numbers x)
+last_more numbers rest x =
+    rw (flat_map-append numbers rest (x ∷ []), append-nil (numbers x)) (last_append None (flat_map numbers rest) (numbers x))
 
 headers_more : (rest : List Line) (x : Line)
     → append_all [] (flat_map (λ l. line_headers l.word l.argument) (rest ++ x ∷ [])) ≡ append_all (append_all [] (flat_map (λ l. line_headers l.word l.argument) rest)) (line_headers x.word x.argument)
@@ -89,6 +100,8 @@ grown_is head rest x =
       append-nil (line_layers x.word x.argument),
       flat_map-append (λ (l : Line). line_params l.word l.argument) rest (x ∷ []),
       append-nil (line_params x.word x.argument),
+      last_more (λ (l : Line). line_locals l.word l.argument) rest x,
+      last_more (λ (l : Line). line_conns l.word l.argument) rest x,
     ) refl
 
 -- the exchanges of all lines, where the last begins at `first`
@@ -177,6 +190,8 @@ whole_after_is whole s word.Fault = sym (append-nil whole)
 whole_after_is whole s word.Header = sym (append-nil whole)
 whole_after_is whole s word.Param = sym (append-nil whole)
 whole_after_is whole s word.Layer = sym (append-nil whole)
+whole_after_is whole s word.Local = sym (append-nil whole)
+whole_after_is whole s word.Conn = sym (append-nil whole)
 whole_after_is whole s word.Plan = sym (append-nil whole)
 whole_after_is whole s word.Skipped = sym (append-nil whole)
 whole_after_is whole s word.Unbuilt = sym (append-nil whole)
@@ -233,6 +248,16 @@ one_more before whole s word.Layer text read =
     (keeps_as (before ++ line word.Layer text ∷ []) whole s.open_exchange s.has_fault (grown (line word.Layer text)) (with_layers (line_layers word.Layer text))
     (λ e. rw (append-nil e.params, append-nil e.marks) refl)
     (extend before whole s.open_exchange s.has_fault s.has_fault (line word.Layer text) refl (quiet (line word.Layer text) s.has_fault refl) read.exchange))
+one_more before whole s word.Local text read =
+    unplanned before whole s word.Local text whole _ s.has_fault refl refl read
+    (keeps_as (before ++ line word.Local text ∷ []) whole s.open_exchange s.has_fault (grown (line word.Local text)) (with_local (line_number text))
+    (λ e. rw (append-nil e.params, append-nil e.layers, append-nil e.marks) refl)
+    (extend before whole s.open_exchange s.has_fault s.has_fault (line word.Local text) refl (quiet (line word.Local text) s.has_fault refl) read.exchange))
+one_more before whole s word.Conn text read =
+    unplanned before whole s word.Conn text whole _ s.has_fault refl refl read
+    (keeps_as (before ++ line word.Conn text ∷ []) whole s.open_exchange s.has_fault (grown (line word.Conn text)) (with_conn (line_number text))
+    (λ e. rw (append-nil e.params, append-nil e.layers, append-nil e.marks) refl)
+    (extend before whole s.open_exchange s.has_fault s.has_fault (line word.Conn text) refl (quiet (line word.Conn text) s.has_fault refl) read.exchange))
 one_more before whole s word.Plan text read = record {
   plan = ap (λ l. l ++ line_entries word.Plan text) read.plan ∙ sym (plan_more before (line word.Plan text));
   has_plan = sym (came_this word.Plan before (line word.Plan text) refl);
@@ -292,6 +317,8 @@ one_header word.Layer text = refl
 one_header word.Piece text = refl
 one_header word.Stall text = refl
 one_header word.Fault text = refl
+one_header word.Local text = refl
+one_header word.Conn text = refl
 one_header word.Skipped text = refl
 one_header word.Unbuilt text = refl
 one_header word.Unknown text = refl
@@ -334,6 +361,8 @@ same_tests p b f m word.Layer text = refl
 same_tests p b f m word.Piece text = refl
 same_tests p b f m word.Stall text = refl
 same_tests p b f m word.Fault text = refl
+same_tests p b f m word.Local text = refl
+same_tests p b f m word.Conn text = refl
 same_tests p b f m word.Skipped text = refl
 same_tests p b f m word.Unbuilt text = refl
 same_tests p b f m word.Unknown text = refl
@@ -349,6 +378,8 @@ not_begun p f g m n word.Layer = refl
 not_begun p f g m n word.Piece = refl
 not_begun p f g m n word.Stall = refl
 not_begun p f g m n word.Fault = refl
+not_begun p f g m n word.Local = refl
+not_begun p f g m n word.Conn = refl
 not_begun p f g m n word.Skipped = refl
 not_begun p f g m n word.Unbuilt = refl
 not_begun p f g m n word.Unknown = refl

@@ -5,6 +5,7 @@ pub mod Line
 pub mod LineArguments
 pub mod LineFaults
 pub mod LineKinds
+pub mod Numbers
 pub mod PlanEntries
 pub mod Reader
 pub mod ReasonTexts

@@ -1,7 +1,7 @@
 -- A line's word and argument.
-use Rattle.std.specs.Prelude.{ℕ, ◌==◌, ◌||◌, Bool, List, [], ◌∷◌, length, slice_index}
+use Rattle.std.specs.Prelude.{ℕ, ◌==◌, ◌||◌, Bool, List, [], length, slice_index}
 use Rattle.std.specs.Prelude.{codes, if◌then◌else◌}
-use Rattle.std.specs.List.{list_any, before_first, after_first}
+use Rattle.std.specs.List.{before_first, after_first}
 use Rattle.std.specs.Str.{bytes_eq}
 use Rattle.web_script.specs.declared.line.Word.{Word}
 use Rattle.web_script.specs.declared.line.Word.TheVariants as word
@@ -15,8 +15,7 @@ is_space b = b == 32
 
 -- the words that are not built yet
 abbrev pub is_unbuilt : List ℕ → Bool
-is_unbuilt name =
-    list_any (bytes_eq name) (codes "peer" ∷ codes "local" ∷ codes "conn" ∷ [])
+is_unbuilt name = bytes_eq name (codes "peer")
 
 abbrev pub word_of : List ℕ → Word
 word_of name =
@@ -29,6 +28,8 @@ word_of name =
     else if bytes_eq name (codes "piece") then word.Piece
     else if bytes_eq name (codes "stall") then word.Stall
     else if bytes_eq name (codes "fault") then word.Fault
+    else if bytes_eq name (codes "local") then word.Local
+    else if bytes_eq name (codes "conn") then word.Conn
     else if is_unbuilt name then word.Unbuilt
     else word.Unknown
 

@@ -29,9 +29,7 @@ is_method text = nat_lt 0 (length text) && list_all is_token_byte text
 -- the first segments that are not built yet
 abbrev pub unbuilt_segments : List (List ℕ)
 unbuilt_segments =
-    codes "json" ∷ codes "form" ∷ codes "option" ∷ codes "result" ∷ codes "either"
-    ∷ codes "path" ∷ codes "query" ∷ codes "data" ∷ codes "raw" ∷ codes "header"
-    ∷ codes "who" ∷ codes "cookies" ∷ codes "lines" ∷ []
+    codes "who" ∷ codes "cookies" ∷ codes "lines" ∷ []
 
 -- the segment is one of them
 abbrev pub is_unbuilt : List ℕ → Bool

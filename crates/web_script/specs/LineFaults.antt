@@ -7,8 +7,9 @@ use Rattle.std.specs.Result.{is_ok}
 use Rattle.hex.specs.Hex.{decode_of}
 use Rattle.web_script.specs.Line.{Line}
 use Rattle.web_script.specs.LineKinds.{has, is_mark}
-use Rattle.web_script.specs.LayerLines.{layer_fault}
+use Rattle.web_script.specs.LayerLines.{is_layer}
 use Rattle.web_script.specs.LineArguments.{is_header, is_param, request_fault}
+use Rattle.web_script.specs.Numbers.{number_of}
 use Rattle.web_script.specs.PlanEntries.{entries_of}
 use Rattle.web_script.specs.declared.line.Word.{Word}
 use Rattle.web_script.specs.declared.line.Word.TheVariants as word
@@ -37,10 +38,12 @@ abbrev pub argument_fault : Word → List ℕ → Option Reason
 argument_fault word.Exchange text = request_fault text
 argument_fault word.Header text = unless (is_header text) reason.BadHeader
 argument_fault word.Param text = unless (is_param text) reason.BadParam
-argument_fault word.Layer text = layer_fault text
+argument_fault word.Layer text = unless (is_layer text) reason.BadLayer
 argument_fault word.Piece text = unless (is_ok (decode_of text)) reason.BadPiece
 argument_fault word.Stall text = unless (length text == 0) reason.BadMark
 argument_fault word.Fault text = unless (length text == 0) reason.BadMark
+argument_fault word.Local text = unless (is_some (number_of text)) reason.BadNumber
+argument_fault word.Conn text = unless (is_some (number_of text)) reason.BadNumber
 argument_fault word.Plan text = unless (is_some (entries_of text)) reason.BadPlan
 argument_fault _ text = None
 

@@ -12,6 +12,7 @@ use Rattle.web_script.specs.ExchangeSinks.{open_exchanges}
 use Rattle.web_script.specs.Line.{Line}
 use Rattle.web_script.specs.ScriptedView.{ScriptedExchangeView}
 use Rattle.web_script.specs.LineFaults.{argument_fault, max_headers}
+use Rattle.web_script.specs.Numbers.{line_number}
 use Rattle.web_script.specs.ScriptExchanges.{line_headers, line_layers, line_marks, line_params}
 use Rattle.web_script.specs.ScriptExchanges.{exchange_of, line_entries}
 use Rattle.web_script.specs.declared.layer.LayerSettings.{LayerSettings}
@@ -58,6 +59,14 @@ word_fault planned begun failed full word.Layer =
     if planned then Some reason.LineAfterPlan
     else if not begun then Some reason.NoExchange
     else None
+word_fault planned begun failed full word.Local =
+    if planned then Some reason.LineAfterPlan
+    else if not begun then Some reason.NoExchange
+    else None
+word_fault planned begun failed full word.Conn =
+    if planned then Some reason.LineAfterPlan
+    else if not begun then Some reason.NoExchange
+    else None
 word_fault planned begun failed full _ =
     if planned then Some reason.LineAfterPlan
     else if not begun then Some reason.NoExchange
@@ -89,6 +98,12 @@ with_layers more e = record e { layers = e.layers ++ more }
 abbrev pub with_marks : List Mark → ScriptedExchangeView → ScriptedExchangeView
 with_marks more e = record e { marks = e.marks ++ more }
 
+abbrev pub with_local : ℕ → ScriptedExchangeView → ScriptedExchangeView
+with_local n e = record e { local = Some n }
+
+abbrev pub with_conn : ℕ → ScriptedExchangeView → ScriptedExchangeView
+with_conn n e = record e { conn = Some n }
+
 -- the open exchange after a line of this word, which is not `exchange`
 abbrev pub open_after : ReaderView → Word → List ℕ → Option ScriptedExchangeView
 open_after s word.Header text =
@@ -101,6 +116,8 @@ open_after s word.Text text = option_map (with_marks (line_marks word.Text text)
 open_after s word.Piece text = option_map (with_marks (line_marks word.Piece text)) s.open_exchange
 open_after s word.Stall text = option_map (with_marks (line_marks word.Stall text)) s.open_exchange
 open_after s word.Fault text = option_map (with_marks (line_marks word.Fault text)) s.open_exchange
+open_after s word.Local text = option_map (with_local (line_number text)) s.open_exchange
+open_after s word.Conn text = option_map (with_conn (line_number text)) s.open_exchange
 open_after s _ text = s.open_exchange
 
 -- the reader after a line of this word
@@ -115,6 +132,8 @@ after_line s word.Piece text = record s { open_exchange = open_after s word.Piec
 after_line s word.Stall text = record s { open_exchange = open_after s word.Stall text }
 after_line s word.Fault text =
     record s { open_exchange = open_after s word.Fault text; has_fault = true }
+after_line s word.Local text = record s { open_exchange = open_after s word.Local text }
+after_line s word.Conn text = record s { open_exchange = open_after s word.Conn text }
 after_line s word.Plan text =
     record s { has_plan = true; plan = s.plan ++ line_entries word.Plan text }
 after_line s word.Skipped text = s

@@ -1,6 +1,6 @@
 -- What a script asks for, by filters over its lines.
-use Rattle.std.specs.Prelude.{ℕ, List, [], ◌∷◌, if◌then◌else◌, unwrap_or}
-use Rattle.std.specs.List.{flat_map, before_first}
+use Rattle.std.specs.Prelude.{ℕ, List, [], ◌∷◌, None, if◌then◌else◌, unwrap_or}
+use Rattle.std.specs.List.{flat_map, before_first, last_or}
 use Rattle.std.specs.Result.{result_unwrap_or}
 use Rattle.hex.specs.Hex.{decode_of}
 use Rattle.http_header.specs.FieldValue.{FieldValue}
@@ -14,6 +14,7 @@ use Rattle.web_script.specs.ScriptedView.{ScriptedExchangeView}
 use Rattle.web_script.specs.LineKinds.{has}
 use Rattle.web_script.specs.LayerLines.{layer_of}
 use Rattle.web_script.specs.LineArguments.{before_space, request_target, header_of, param_of}
+use Rattle.web_script.specs.Numbers.{line_number}
 use Rattle.web_script.specs.PlanEntries.{entries_of}
 use Rattle.web_script.specs.declared.layer.LayerSettings.{LayerSettings}
 use Rattle.web_script.specs.declared.line.Word.{Word}
@@ -42,6 +43,16 @@ abbrev pub line_params : Word → List ℕ → List Pair
 line_params word.Param text = param_of text ∷ []
 line_params _ text = []
 
+-- the number of a `local` line
+abbrev pub line_locals : Word → List ℕ → List ℕ
+line_locals word.Local text = line_number text ∷ []
+line_locals _ text = []
+
+-- the number of a `conn` line
+abbrev pub line_conns : Word → List ℕ → List ℕ
+line_conns word.Conn text = line_number text ∷ []
+line_conns _ text = []
+
 -- the exchange of METHOD and TARGET, and of the lines up to the next `exchange` line
 abbrev pub exchange_of : List ℕ → List Line → ScriptedExchangeView
 exchange_of head lines = record {
@@ -51,6 +62,8 @@ exchange_of head lines = record {
   params = flat_map (λ line. line_params line.word line.argument) lines;
   layers = flat_map (λ line. line_layers line.word line.argument) lines;
   marks = flat_map (λ line. line_marks line.word line.argument) lines;
+  local = last_or None (flat_map (λ line. line_locals line.word line.argument) lines);
+  conn = last_or None (flat_map (λ line. line_conns line.word line.argument) lines);
 }
 
 -- one exchange for each `exchange` line, of the lines up to the next

@@ -1,5 +1,5 @@
 -- One exchange that a script asks for.
-use Rattle.std.specs.Prelude.{ℕ, List}
+use Rattle.std.specs.Prelude.{ℕ, List, Option}
 use Rattle.http_header.specs.FieldValue.{FieldValue}
 use Rattle.http_header.specs.HeaderMap.{Entries}
 use Rattle.web_texts.specs.declared.text.Pair.{Pair}
@@ -15,3 +15,6 @@ pub record ScriptedExchangeView : Type 0 where
   -- one for each `layer` line, the outermost first
   pub layers : List LayerSettings
   pub marks : List Mark
+  -- the number of the last `local` line, and of the last `conn` line
+  pub local : Option ℕ
+  pub conn : Option ℕ

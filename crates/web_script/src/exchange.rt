@@ -37,6 +37,10 @@ pub struct ScriptedExchange {
     pub layers: Vec<LayerSettings>,
     /// The marks of the body. In those of a script no piece is empty, and a fault is the last mark.
     pub marks: Vec<Mark>,
+    /// The number of the last `local` line: the data of the request.
+    pub local: Option<u64>,
+    /// The number of the last `conn` line: the data of the connection.
+    pub conn: Option<u64>,
 }
 
 impl Model for ScriptedExchange {
@@ -52,6 +56,8 @@ impl Model for ScriptedExchange {
       params = e.params.items;
       layers = e.layers.items;
       marks = e.marks.items;
+      local = e.local;
+      conn = e.conn;
     } };
 }
 
@@ -59,17 +65,7 @@ impl Model for ScriptedExchange {
 fn is_unbuilt(segment: &[u8]) -> bool
     ensures { result ≡ is_unbuilt segment.now }
 {
-    bytes_equal(segment, b"json")
-        || bytes_equal(segment, b"form")
-        || bytes_equal(segment, b"option")
-        || bytes_equal(segment, b"result")
-        || bytes_equal(segment, b"either")
-        || bytes_equal(segment, b"path")
-        || bytes_equal(segment, b"query")
-        || bytes_equal(segment, b"data")
-        || bytes_equal(segment, b"raw")
-        || bytes_equal(segment, b"header")
-        || bytes_equal(segment, b"who")
+    bytes_equal(segment, b"who")
         || bytes_equal(segment, b"cookies")
         || bytes_equal(segment, b"lines")
 }
@@ -141,11 +137,11 @@ pub fn read_request(alloc: Global, text: &Bytes) -> Result<ScriptedExchange, Fai
 }
 
 impl ScriptedExchange {
-    ghost use Rattle.std.specs.Prelude.{◌≡◌, ◌∷◌, [], OnOk};
+    ghost use Rattle.std.specs.Prelude.{◌≡◌, ◌∷◌, [], None, OnOk};
     ghost use Rattle.web_script.specs.Reader.{with_headers, with_layers, with_marks, with_params};
     ghost use Rattle.web_script.specs.Targets.{parts_of};
 
-    /// An exchange without headers, parameters, layers and body.
+    /// An exchange without headers, parameters, layers, body and data.
     pub fn new(alloc: Global, method: Method, uri: Uri) -> Self
         ensures { result ≡ record {
           method = method;
@@ -154,6 +150,8 @@ impl ScriptedExchange {
           params = [];
           layers = [];
           marks = [];
+          local = None;
+          conn = None;
         } }
     {
         ScriptedExchange {
@@ -163,6 +161,8 @@ impl ScriptedExchange {
             params: Vec::new(alloc),
             layers: Vec::new(alloc),
             marks: Vec::new(alloc),
+            local: None,
+            conn: None,
         }
     }
 

@@ -1,10 +1,10 @@
 //! The settings of a `layer` line.
-ghost use Rattle.std.specs.Prelude.{◌≡◌, IfOk, is_some, not};
+ghost use Rattle.std.specs.Prelude.{◌≡◌, IfOk, is_some};
 ghost use Rattle.web_texts.specs.MediaTypes.{media_type_of};
 ghost use Rattle.web_script.specs.Acceptance.{Accepts};
-ghost use Rattle.web_script.specs.LayerLines.{is_unbuilt, is_unbuilt_flag, is_unbuilt_number};
-ghost use Rattle.web_script.specs.LayerLines.{layer_fault, layer_of, mime_of, no_settings};
-ghost use Rattle.web_script.specs.LayerLines.{setting_of, valued_setting, with_setting, IsSet};
+ghost use Rattle.web_script.specs.LayerLines.{is_layer, layer_of, mime_of, no_settings};
+ghost use Rattle.web_script.specs.LayerLines.{plain_setting, setting_of, valued_setting};
+ghost use Rattle.web_script.specs.LayerLines.{with_setting, IsSet};
 ghost use Rattle.web_script.specs.LineFaults.{unless};
 ghost use Rattle.web_script.specs.declared.reason.Reason.TheVariants.{BadLayer};
 
@@ -13,7 +13,7 @@ use std::alloc::Global;
 use std::str;
 use web_texts::{Fail, Mime, NoMemory, bytes_equal, number_of, split_once_at};
 
-/// What a `layer` line sets. What it does not name is `None`.
+/// What a `layer` line sets. What it does not name is `None` or false.
 #[derive(Drop)]
 pub struct LayerSettings {
     /// `payload=N`: the most bytes of a body.
@@ -22,6 +22,24 @@ pub struct LayerSettings {
     pub mime: Option<Mime>,
     /// `shared-payload=N`: the most bytes of a body, of a configuration that is shared.
     pub shared_payload: Option<u64>,
+    /// `json=N`: the most bytes of a JSON body.
+    pub json: Option<u64>,
+    /// `json-any`: a JSON body needs no media type.
+    pub json_any: bool,
+    /// `json-vendor`: one more media type is that of a JSON body.
+    pub json_vendor: bool,
+    /// `json-teapot`: a handler says what a refused JSON body comes to.
+    pub json_teapot: bool,
+    /// `form=N`: the most bytes of a form.
+    pub form: Option<u64>,
+    /// `form-teapot`: a handler says what a refused form comes to.
+    pub form_teapot: bool,
+    /// `path-teapot`: a handler says what refused parameters come to.
+    pub path_teapot: bool,
+    /// `query-teapot`: a handler says what a refused query comes to.
+    pub query_teapot: bool,
+    /// `number=N`: a number that handlers may ask for.
+    pub number: Option<u64>,
 }
 
 /// One setting of a `layer` line.
@@ -30,25 +48,15 @@ pub(crate) enum Setting {
     Payload(u64),
     Mime(Mime),
     SharedPayload(u64),
-    /// A setting that is not built yet.
-    Unbuilt,
-}
-
-fn is_unbuilt_number(name: &[u8]) -> bool
-    ensures { result ≡ is_unbuilt_number name.now }
-{
-    bytes_equal(name, b"json") || bytes_equal(name, b"form") || bytes_equal(name, b"number")
-}
-
-fn is_unbuilt_flag(name: &[u8]) -> bool
-    ensures { result ≡ is_unbuilt_flag name.now }
-{
-    bytes_equal(name, b"json-any")
-        || bytes_equal(name, b"json-vendor")
-        || bytes_equal(name, b"json-teapot")
-        || bytes_equal(name, b"form-teapot")
-        || bytes_equal(name, b"path-teapot")
-        || bytes_equal(name, b"query-teapot")
+    Json(u64),
+    JsonAny,
+    JsonVendor,
+    JsonTeapot,
+    Form(u64),
+    FormTeapot,
+    PathTeapot,
+    QueryTeapot,
+    Number(u64),
 }
 
 fn read_media_type(alloc: Global, text: &str) -> Result<Option<Mime>, NoMemory>
@@ -75,18 +83,43 @@ fn read_mime(alloc: Global, text: &[u8]) -> Result<Option<Mime>, NoMemory>
 fn valued_setting(alloc: Global, name: &[u8], value: &[u8]) -> Result<Option<Setting>, NoMemory>
     ensures { IfOk result (λ read. read ≡ valued_setting name.now value.now) }
 {
-    let setting = if bytes_equal(name, b"payload") {
-        number_of(value, u64::MAX).map(|most| Setting::Payload(most))
-    } else if bytes_equal(name, b"mime") {
+    let setting = if bytes_equal(name, b"mime") {
         read_mime(alloc, value)?.map(|mime| Setting::Mime(mime))
+    } else if bytes_equal(name, b"payload") {
+        number_of(value, u64::MAX).map(|most| Setting::Payload(most))
     } else if bytes_equal(name, b"shared-payload") {
         number_of(value, u64::MAX).map(|most| Setting::SharedPayload(most))
-    } else if is_unbuilt_number(name) {
-        number_of(value, u64::MAX).map(|_| Setting::Unbuilt)
+    } else if bytes_equal(name, b"json") {
+        number_of(value, u64::MAX).map(|most| Setting::Json(most))
+    } else if bytes_equal(name, b"form") {
+        number_of(value, u64::MAX).map(|most| Setting::Form(most))
+    } else if bytes_equal(name, b"number") {
+        number_of(value, u64::MAX).map(|number| Setting::Number(number))
     } else {
         None
     };
     Ok(setting)
+}
+
+/// The setting NAME, which has no value, if it is one.
+fn plain_setting(name: &[u8]) -> Option<Setting>
+    ensures { result ≡ plain_setting name.now }
+{
+    if bytes_equal(name, b"json-any") {
+        Some(Setting::JsonAny)
+    } else if bytes_equal(name, b"json-vendor") {
+        Some(Setting::JsonVendor)
+    } else if bytes_equal(name, b"json-teapot") {
+        Some(Setting::JsonTeapot)
+    } else if bytes_equal(name, b"form-teapot") {
+        Some(Setting::FormTeapot)
+    } else if bytes_equal(name, b"path-teapot") {
+        Some(Setting::PathTeapot)
+    } else if bytes_equal(name, b"query-teapot") {
+        Some(Setting::QueryTeapot)
+    } else {
+        None
+    }
 }
 
 /// The setting of a text without spaces, if it is one.
@@ -95,8 +128,7 @@ fn read_setting(alloc: Global, text: &[u8]) -> Result<Option<Setting>, NoMemory>
 {
     match split_once_at(text, b'=') {
         Some((name, value)) => valued_setting(alloc, name, value),
-        None if is_unbuilt_flag(text) => Ok(Some(Setting::Unbuilt)),
-        None => Ok(None),
+        None => Ok(plain_setting(text)),
     }
 }
 
@@ -109,27 +141,42 @@ impl LayerSettings {
             payload: None,
             mime: None,
             shared_payload: None,
+            json: None,
+            json_any: false,
+            json_vendor: false,
+            json_teapot: false,
+            form: None,
+            form_teapot: false,
+            path_teapot: false,
+            query_teapot: false,
+            number: None,
         }
     }
 
-    /// Sets one setting in place of an earlier one of its name, and returns whether it is built.
-    fn set(&mut self, setting: Setting) -> bool
-        ensures layer { self.new ≡ with_setting self.old setting }
-        ensures built { result ≡ not (is_unbuilt setting) }
+    /// Sets one setting in place of an earlier one of its name.
+    fn set(&mut self, setting: Setting)
+        ensures { self.new ≡ with_setting self.old setting }
     {
         match setting {
             Setting::Payload(most) => self.payload = Some(most),
             Setting::Mime(mime) => self.mime = Some(mime),
             Setting::SharedPayload(most) => self.shared_payload = Some(most),
-            Setting::Unbuilt => return false,
+            Setting::Json(most) => self.json = Some(most),
+            Setting::JsonAny => self.json_any = true,
+            Setting::JsonVendor => self.json_vendor = true,
+            Setting::JsonTeapot => self.json_teapot = true,
+            Setting::Form(most) => self.form = Some(most),
+            Setting::FormTeapot => self.form_teapot = true,
+            Setting::PathTeapot => self.path_teapot = true,
+            Setting::QueryTeapot => self.query_teapot = true,
+            Setting::Number(number) => self.number = Some(number),
         }
-        true
     }
 
-    /// Reads one setting and sets it, and returns whether it is built.
-    fn read(&mut self, alloc: Global, text: &[u8]) -> Result<bool, Fail<Reason>>
+    /// Reads one setting and sets it.
+    fn read(&mut self, alloc: Global, text: &[u8]) -> Result<(), Fail<Reason>>
         ensures { Accepts result (unless (is_some (setting_of text.now)) BadLayer)
-            (λ built. IsSet self.old self.new (setting_of text.now) built) }
+            (λ _. IsSet self.old self.new (setting_of text.now)) }
     {
         match read_setting(alloc, text)? {
             Some(setting) => Ok(self.set(setting)),
@@ -141,18 +188,15 @@ impl LayerSettings {
 /// What the argument of a `layer` line sets: one or more settings with one space between. Of a
 /// setting that is repeated, the last counts.
 pub fn read_layer(alloc: Global, text: &[u8]) -> Result<LayerSettings, Fail<Reason>>
-    ensures { Accepts result (layer_fault text.now) (λ layer. layer ≡ layer_of text.now) }
+    ensures { Accepts result (unless (is_layer text.now) BadLayer)
+        (λ layer. layer ≡ layer_of text.now) }
 {
     let mut layer = LayerSettings::none();
-    let mut all_built = true;
     let mut rest = text;
     'settings: while let Some((setting, behind)) = split_once_at(rest, b' ') {
-        all_built &= layer.read(alloc, setting)?;
+        layer.read(alloc, setting)?;
         rest = behind;
     }
-    all_built &= layer.read(alloc, rest)?;
-    if !all_built {
-        return Err(Fail::Of(Reason::NotBuilt));
-    }
+    layer.read(alloc, rest)?;
     Ok(layer)
 }

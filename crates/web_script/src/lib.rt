@@ -7,6 +7,7 @@ mod header;
 mod law;
 mod layer;
 mod line;
+mod number;
 mod param;
 mod part;
 mod reader;

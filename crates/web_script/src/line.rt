@@ -17,6 +17,8 @@ pub enum Word {
     Piece,
     Stall,
     Fault,
+    Local,
+    Conn,
     /// An empty line or a comment.
     Skipped,
     /// A word that is not built yet.
@@ -27,7 +29,7 @@ pub enum Word {
 fn is_unbuilt(name: &[u8]) -> bool
     ensures { result ≡ is_unbuilt name.now }
 {
-    bytes_equal(name, b"peer") || bytes_equal(name, b"local") || bytes_equal(name, b"conn")
+    bytes_equal(name, b"peer")
 }
 
 fn word_named(name: &[u8]) -> Word
@@ -51,6 +53,10 @@ fn word_named(name: &[u8]) -> Word
         Word::Stall
     } else if bytes_equal(name, b"fault") {
         Word::Fault
+    } else if bytes_equal(name, b"local") {
+        Word::Local
+    } else if bytes_equal(name, b"conn") {
+        Word::Conn
     } else if is_unbuilt(name) {
         Word::Unbuilt
     } else {

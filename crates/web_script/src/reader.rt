@@ -1,12 +1,13 @@
 //! Reads a script line by line, with the exchange that the lines belong to.
 ghost use Rattle.std.specs.Prelude.{◌≡◌, ◌≢◌, ◌≤◌, ◌<◌, ◌^◌, ◌∷◌, [], Some, None, true, false};
-ghost use Rattle.std.specs.Prelude.{nat_le, length, take, OnOk, IfOk};
+ghost use Rattle.std.specs.Prelude.{nat_le, is_some, length, take, OnOk, IfOk};
 ghost use Rattle.std.specs.Option.{ForSome, option_map};
 ghost use Rattle.std.specs.Result.{is_ok, result_unwrap_or};
 ghost use Rattle.std.specs.Str.Lines.{strip_carriage_return};
 ghost use Rattle.hex.specs.Hex.{decode_of};
 ghost use Rattle.web_script.specs.declared.line.Word.TheVariants.{Exchange, Header, Text};
 ghost use Rattle.web_script.specs.declared.reason.Reason.TheVariants.{BadHeader, BadParam};
+ghost use Rattle.web_script.specs.declared.reason.Reason.TheVariants.{BadLayer, BadNumber};
 ghost use Rattle.web_script.specs.declared.reason.Reason.TheVariants.{BadPiece};
 
 use crate::entries::read_entries;
@@ -14,6 +15,7 @@ use crate::exchange::{ScriptedExchange, read_request};
 use crate::header::read_header;
 use crate::layer::read_layer;
 use crate::line::{Word, split_line, without_return};
+use crate::number::read_number;
 use crate::param::read_param;
 use crate::part::part_of;
 use crate::reason::Reason;
@@ -55,13 +57,15 @@ impl Reader {
     ghost use Rattle.web_script.specs.Acceptance.{Accepts};
     ghost use Rattle.web_script.specs.Reader.{new_reader, header_count, reader_fault, Reads};
     ghost use Rattle.web_script.specs.Reader.{completed_by, with_headers, with_layers, with_marks};
-    ghost use Rattle.web_script.specs.Reader.{with_params, new_exchange, after_line};
+    ghost use Rattle.web_script.specs.Reader.{with_conn, with_local, with_params, new_exchange};
+    ghost use Rattle.web_script.specs.Reader.{after_line};
     ghost use Rattle.web_script.specs.ExchangeSinks.{Adds, open_exchanges};
-    ghost use Rattle.web_script.specs.LayerLines.{layer_fault, layer_of};
+    ghost use Rattle.web_script.specs.LayerLines.{is_layer, layer_of};
     ghost use Rattle.web_script.specs.LineFaults.{argument_fault, max_headers, unless};
     ghost use Rattle.web_script.specs.Line.{line_of};
     ghost use Rattle.web_script.specs.LineArguments.{header_of, is_header, is_param, param_of};
     ghost use Rattle.web_script.specs.LineArguments.{request_fault};
+    ghost use Rattle.web_script.specs.Numbers.{line_number, number_of};
     ghost use Rattle.web_request.specs.Body.{is_body, piece_bytes, whole};
 
     pub fn new(alloc: Global) -> Self
@@ -158,11 +162,12 @@ impl Reader {
     }
 
     fn add_layer(&mut self, alloc: Global, text: &[u8]) -> Result<(), Fail<Reason>>
-        ensures { Accepts result (layer_fault text.now) (λ _. self.new ≡ record self.old {
-          open_exchange = option_map
-              (with_layers (layer_of text.now ∷ []))
-              self.old.open_exchange;
-        }) }
+        ensures { Accepts result (unless (is_layer text.now) BadLayer)
+            (λ _. self.new ≡ record self.old {
+              open_exchange = option_map
+                  (with_layers (layer_of text.now ∷ []))
+                  self.old.open_exchange;
+            }) }
     {
         let layer = read_layer(alloc, text)?;
         if let Some(exchange) = &mut self.open_exchange {
@@ -182,6 +187,36 @@ impl Reader {
         let param = read_param(alloc, text)?;
         if let Some(exchange) = &mut self.open_exchange {
             exchange.add_param(param)?;
+        }
+        Ok(())
+    }
+
+    fn set_local(&mut self, text: &[u8]) -> Result<(), Fail<Reason>>
+        ensures { Accepts result (unless (is_some (number_of text.now)) BadNumber)
+            (λ _. self.new ≡ record self.old {
+              open_exchange = option_map
+                  (with_local (line_number text.now))
+                  self.old.open_exchange;
+            }) }
+    {
+        let number = read_number(text)?;
+        if let Some(exchange) = &mut self.open_exchange {
+            exchange.local = Some(number);
+        }
+        Ok(())
+    }
+
+    fn set_conn(&mut self, text: &[u8]) -> Result<(), Fail<Reason>>
+        ensures { Accepts result (unless (is_some (number_of text.now)) BadNumber)
+            (λ _. self.new ≡ record self.old {
+              open_exchange = option_map
+                  (with_conn (line_number text.now))
+                  self.old.open_exchange;
+            }) }
+    {
+        let number = read_number(text)?;
+        if let Some(exchange) = &mut self.open_exchange {
+            exchange.conn = Some(number);
         }
         Ok(())
     }
@@ -220,6 +255,8 @@ impl Reader {
         match word {
             Word::Param => return self.add_param(alloc, argument),
             Word::Layer => return self.add_layer(alloc, argument),
+            Word::Local => return self.set_local(argument),
+            Word::Conn => return self.set_conn(argument),
             Word::Piece => return self.add_digits(alloc, argument),
             Word::Stall | Word::Fault if !argument.is_empty() => {
                 return Err(Fail::Of(Reason::BadMark));

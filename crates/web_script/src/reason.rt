@@ -24,11 +24,13 @@ pub enum Reason {
     BadLayer,
     /// The argument of a `piece` line is not an even number of hexadecimal digits.
     BadPiece,
+    /// The argument of a `local` or `conn` line is not a number up to 2^64 - 1.
+    BadNumber,
     /// The argument of a `stall` or `fault` line is not empty.
     BadMark,
     /// The argument of a `plan` line is not a list of numbers up to 4,294,967,295.
     BadPlan,
-    /// The word, the first segment of the target or a setting is not built yet.
+    /// The word or the first segment of the target is not built yet.
     NotBuilt,
 }
 
@@ -50,6 +52,7 @@ impl fmt::Display for Reason {
             Reason::BadParam => "bad param",
             Reason::BadLayer => "bad layer",
             Reason::BadPiece => "bad piece",
+            Reason::BadNumber => "bad number",
             Reason::BadMark => "bad mark",
             Reason::BadPlan => "bad plan",
             Reason::NotBuilt => "not built",

@@ -1,0 +1,52 @@
+-- The texts that the handler replies with.
+use Rattle.std.specs.Prelude.{ℕ, List, ◌++◌, length, codes, decimal, map}
+use Rattle.std.specs.Prelude.{Option, None, Some, Result, Ok, Err}
+use Rattle.web_texts.specs.MediaTypeTexts.{media_type_text}
+use Rattle.web_headers.specs.PrintedLists.{comma_joined}
+use Rattle.web_headers.specs.declared.accept_header.Accept.{Accept}
+use Rattle.web_negotiate.specs.MediaChoices.{media_rank}
+use Rattle.web_negotiate.specs.Rankings.{ranked_by}
+use Rattle.web_arguments.specs.declared.header_argument.Header.{Header}
+use Rattle.web_reply.specs.Causes.{cause_status}
+use Rattle.web_reply.specs.Replies.{Fault}
+use Rattle.web_types.specs.declared.either.Either.{Either}
+use Rattle.web_types.specs.declared.either.Either.TheVariants.{Left, Right}
+use Rattle.web_types.specs.declared.json_value.Json.{Json}
+use Rattle.web_types.specs.declared.form_value.Form.{Form}
+use Rattle.web_demo_layers.specs.Items.{item_text}
+use Rattle.web_demo_layers.specs.declared.app.DemoConn.{DemoConn}
+use Rattle.web_demo_layers.specs.declared.item.Item.{Item}
+use Rattle.web_demo.specs.DemoArguments.{DataView}
+
+abbrev pub space : List ℕ
+space = codes " "
+
+-- the side that was read, and its item
+abbrev pub either_text : Either (Json Item) (Form Item) → List ℕ
+either_text (Left json) = codes "left " ++ item_text json.0
+either_text (Right form) = codes "right " ++ item_text form.0
+
+-- the item, where there is one, and the size of the body that was left
+abbrev pub option_text : Option (Json Item) → ℕ → List ℕ
+option_text (Some json) left = codes "some " ++ (item_text json.0 ++ (space ++ decimal left))
+option_text None left = codes "none " ++ decimal left
+
+-- the item, or the status of the refusal
+abbrev pub result_text : Result (Json Item) Fault → List ℕ
+result_text (Ok json) = codes "ok " ++ item_text json.0
+result_text (Err e) = codes "refused " ++ decimal (cause_status e.cause)
+
+-- the number, or `-`
+abbrev pub conn_text : Option DemoConn → List ℕ
+conn_text None = codes "-"
+conn_text (Some conn) = decimal conn.0
+
+-- the numbers of the layers, of the request and of the connection
+abbrev pub data_text : DataView → List ℕ
+data_text d =
+    decimal d.number ++ (space ++ (decimal d.local ++ (space ++ conn_text d.request.conn)))
+
+-- the media types that are accepted, the most wanted first
+abbrev pub accept_text : Header Accept → List ℕ
+accept_text header =
+    comma_joined media_type_text (map (λ x. x.item) (ranked_by media_rank header.0.0))
