@@ -87,7 +87,7 @@ module _ {T U V W : Type 0} (f : T → V) (g : U → W) (first : Meaning T) (sec
   pair_as m left n x h = (
     h.0,
     joins_seen f g (first m h.0) (second h.0 left) (As rest1 a m h.0) (As rest2 b h.0 left)
-    (λ k y. seen1 m h.0 k y) (λ k y. seen2 h.0 left k y) n x h.1,
+        (λ k y. seen1 m h.0 k y) (λ k y. seen2 h.0 left k y) n x h.1,
   )
 
   -- a list of two, of which the second gets what the first leaves
@@ -114,13 +114,13 @@ module _ {T U X V W Y : Type 0} (f : T → V) (g : U → W) (h : X → Y)
     d.0,
     d.1,
     subst (λ (y : Result (V × (W × Y)) Fault).
-    Joins2 (As rest1 a m d.0) (Joins2 (As rest2 b d.0 d.1) (As rest3 c d.1 left)) n y) (nested_seen f g h x)
-    (joins_seen f (λ v. (g v.0, h v.1)) (first m d.0) (Joins2 (second d.0 d.1) (third d.1 left))
-    (As rest1 a m d.0) (Joins2 (As rest2 b d.0 d.1) (As rest3 c d.1 left))
-    (λ k y. seen1 m d.0 k y)
-    (joins_seen g h (second d.0 d.1) (third d.1 left) (As rest2 b d.0 d.1) (As rest3 c d.1 left)
-    (λ k y. seen2 d.0 d.1 k y) (λ k y. seen3 d.1 left k y))
-    n (nested3 x) d.2),
+        Joins2 (As rest1 a m d.0) (Joins2 (As rest2 b d.0 d.1) (As rest3 c d.1 left)) n y) (nested_seen f g h x)
+        (joins_seen f (λ v. (g v.0, h v.1)) (first m d.0) (Joins2 (second d.0 d.1) (third d.1 left))
+        (As rest1 a m d.0) (Joins2 (As rest2 b d.0 d.1) (As rest3 c d.1 left))
+        (λ k y. seen1 m d.0 k y)
+        (joins_seen g h (second d.0 d.1) (third d.1 left) (As rest2 b d.0 d.1) (As rest3 c d.1 left)
+        (λ k y. seen2 d.0 d.1 k y) (λ k y. seen3 d.1 left k y))
+        n (nested3 x) d.2),
   )
 
   -- a list of three, each of which gets what the one before leaves

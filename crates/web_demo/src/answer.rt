@@ -42,7 +42,10 @@ fn put_octet_stream(headers: &mut HeaderMap<HeaderValue>) -> Result<(), NoMemory
     ensures { OnOk result (headers.new
         ≡ (codes "content-type", plain_value (codes "application/octet-stream") ∷ []) ∷ []) }
 {
-    match headers.insert(CONTENT_TYPE, HeaderValue::from_static("application/octet-stream")) {
+    match headers.insert(
+        CONTENT_TYPE,
+        HeaderValue::from_static("application/octet-stream"),
+    ) {
         Ok(_) => Ok(()),
         Err(_) => Err(NoMemory),
     }
@@ -79,8 +82,12 @@ impl Responder<Demo> for Answer {
         match self {
             Answer::Bytes(bytes) => bytes.respond_to(alloc, req)?.map_into_boxed_body(alloc),
             Answer::Text(text) => text.respond_to(alloc, req)?.map_into_boxed_body(alloc),
-            Answer::Json(item) => Json(item).respond_to(alloc, req)?.map_into_boxed_body(alloc),
-            Answer::Form(item) => Form(item).respond_to(alloc, req)?.map_into_boxed_body(alloc),
+            Answer::Json(item) => Json(item)
+                .respond_to(alloc, req)?
+                .map_into_boxed_body(alloc),
+            Answer::Form(item) => Form(item)
+                .respond_to(alloc, req)?
+                .map_into_boxed_body(alloc),
             Answer::Raw(body) => raw_response(alloc, body),
             Answer::Done => {
                 let done: Done<Error> = Done(Ok(()));

@@ -12,6 +12,7 @@ use std::alloc::Global;
 use web_arguments::{Header, Path, Query};
 use web_body::{Marks, Payload, Poll};
 use web_demo_layers::{Demo, DemoLocal, Item};
+use web_extract::EitherFuture::{Left, Right};
 use web_extract::{EitherFuture, FromRequest, MapInto, from_request_into};
 use web_headers::Accept;
 use web_reply::Error;
@@ -29,10 +30,7 @@ type DecodedFuture = EitherFuture<
     EitherFuture<FutureOf<(Json<Item>,)>, FutureOf<(Form<Item>,)>>,
     EitherFuture<
         FutureOf<(Either<Json<Item>, Form<Item>>,)>,
-        EitherFuture<
-            FutureOf<(Option<Json<Item>>, Bytes)>,
-            FutureOf<(Result<Json<Item>, Error>,)>,
-        >,
+        EitherFuture<FutureOf<(Option<Json<Item>>, Bytes)>, FutureOf<(Result<Json<Item>, Error>,)>>,
     >,
 >;
 
@@ -70,31 +68,34 @@ pub(crate) fn decoded_future(
             let future = from_request_into::<Demo, (Json<Item>,), Picked, Error>(
                 alloc, req, payload,
             )?;
-            BoxedFuture::new(alloc, EitherFuture::Left(EitherFuture::Left(EitherFuture::Left(future))))
+            BoxedFuture::new(alloc, Left(Left(Left(future))))
         }
         DecodedChoice::Form => {
             let future = from_request_into::<Demo, (Form<Item>,), Picked, Error>(
                 alloc, req, payload,
             )?;
-            BoxedFuture::new(alloc, EitherFuture::Left(EitherFuture::Left(EitherFuture::Right(future))))
+            BoxedFuture::new(alloc, Left(Left(Right(future))))
         }
         DecodedChoice::Either => {
-            let future = from_request_into::<Demo, (Either<Json<Item>, Form<Item>>,), Picked, Error>(
-                alloc, req, payload,
-            )?;
-            BoxedFuture::new(alloc, EitherFuture::Left(EitherFuture::Right(EitherFuture::Left(future))))
+            let future = from_request_into::<
+                Demo,
+                (Either<Json<Item>, Form<Item>>,),
+                Picked,
+                Error,
+            >(alloc, req, payload)?;
+            BoxedFuture::new(alloc, Left(Right(Left(future))))
         }
         DecodedChoice::Option => {
             let future = from_request_into::<Demo, (Option<Json<Item>>, Bytes), Picked, Error>(
                 alloc, req, payload,
             )?;
-            BoxedFuture::new(alloc, EitherFuture::Left(EitherFuture::Right(EitherFuture::Right(EitherFuture::Left(future)))))
+            BoxedFuture::new(alloc, Left(Right(Right(Left(future)))))
         }
         DecodedChoice::Result => {
             let future = from_request_into::<Demo, (Result<Json<Item>, Error>,), Picked, Error>(
                 alloc, req, payload,
             )?;
-            BoxedFuture::new(alloc, EitherFuture::Left(EitherFuture::Right(EitherFuture::Right(EitherFuture::Right(future)))))
+            BoxedFuture::new(alloc, Left(Right(Right(Right(future)))))
         }
     }
 }
@@ -122,31 +123,34 @@ pub(crate) fn immediate_future(
             let future = from_request_into::<Demo, (Path<Item>,), Picked, Error>(
                 alloc, req, payload,
             )?;
-            BoxedFuture::new(alloc, EitherFuture::Right(EitherFuture::Left(EitherFuture::Left(future))))
+            BoxedFuture::new(alloc, Right(Left(Left(future))))
         }
         ImmediateChoice::Query => {
             let future = from_request_into::<Demo, (Query<Item>,), Picked, Error>(
                 alloc, req, payload,
             )?;
-            BoxedFuture::new(alloc, EitherFuture::Right(EitherFuture::Left(EitherFuture::Right(future))))
+            BoxedFuture::new(alloc, Right(Left(Right(future))))
         }
         ImmediateChoice::Header => {
             let future = from_request_into::<Demo, (Header<Accept>,), Picked, Error>(
                 alloc, req, payload,
             )?;
-            BoxedFuture::new(alloc, EitherFuture::Right(EitherFuture::Right(EitherFuture::Left(future))))
+            BoxedFuture::new(alloc, Right(Right(Left(future))))
         }
         ImmediateChoice::Data => {
-            let future = from_request_into::<Demo, (Data<u64>, ReqData<DemoLocal>, HttpRequest<Demo>), Picked, Error>(
-                alloc, req, payload,
-            )?;
-            BoxedFuture::new(alloc, EitherFuture::Right(EitherFuture::Right(EitherFuture::Right(EitherFuture::Left(future)))))
+            let future = from_request_into::<
+                Demo,
+                (Data<u64>, ReqData<DemoLocal>, HttpRequest<Demo>),
+                Picked,
+                Error,
+            >(alloc, req, payload)?;
+            BoxedFuture::new(alloc, Right(Right(Right(Left(future)))))
         }
         ImmediateChoice::Raw => {
             let future = from_request_into::<Demo, (Payload<Marks>,), Picked, Error>(
                 alloc, req, payload,
             )?;
-            BoxedFuture::new(alloc, EitherFuture::Right(EitherFuture::Right(EitherFuture::Right(EitherFuture::Right(future)))))
+            BoxedFuture::new(alloc, Right(Right(Right(Right(future)))))
         }
     }
 }

@@ -15,6 +15,7 @@ use std::alloc::Global;
 use web_arguments::{Header, Path, Query};
 use web_body::{Marks, Payload};
 use web_demo_layers::{Demo, Item};
+use web_extract::EitherFuture::{Left, Right};
 use web_extract::{EitherFuture, FromRequest, from_request_into};
 use web_headers::Accept;
 use web_reply::Error;
@@ -94,37 +95,29 @@ impl FromRequest<Demo> for Picked {
                 let future = from_request_into::<Demo, (Bytes,), Picked, Error>(
                     alloc, req, payload,
                 )?;
-                Ok(EitherFuture::Left(EitherFuture::Left(EitherFuture::Left(future))))
+                Ok(Left(Left(Left(future))))
             }
             Choice::Text => {
                 let future = from_request_into::<Demo, (String,), Picked, Error>(
                     alloc, req, payload,
                 )?;
-                Ok(EitherFuture::Left(EitherFuture::Left(EitherFuture::Right(future))))
+                Ok(Left(Left(Right(future))))
             }
             Choice::Both => {
                 let future = from_request_into::<Demo, (String, Late), Picked, Error>(
                     alloc, req, payload,
                 )?;
-                Ok(EitherFuture::Left(EitherFuture::Right(EitherFuture::Left(future))))
+                Ok(Left(Right(Left(future))))
             }
             Choice::Wait => {
-                let future = from_request_into::<Demo, Wait, Picked, Error>(
-                    alloc, req, payload,
-                )?;
-                Ok(EitherFuture::Left(EitherFuture::Right(EitherFuture::Right(EitherFuture::Left(future)))))
+                let future = from_request_into::<Demo, Wait, Picked, Error>(alloc, req, payload)?;
+                Ok(Left(Right(Right(Left(future)))))
             }
-            Choice::Decoded(choice) => Ok(EitherFuture::Right(decoded_future(
-                alloc, req, payload, choice,
-            )?)),
-            Choice::Immediate(choice) => Ok(EitherFuture::Right(immediate_future(
-                alloc, req, payload, choice,
-            )?)),
+            Choice::Decoded(choice) => Ok(Right(decoded_future(alloc, req, payload, choice)?)),
+            Choice::Immediate(choice) => Ok(Right(immediate_future(alloc, req, payload, choice)?)),
             Choice::Other => {
-                let future = from_request_into::<Demo, (), Picked, Error>(
-                    alloc, req, payload,
-                )?;
-                Ok(EitherFuture::Left(EitherFuture::Right(EitherFuture::Right(EitherFuture::Right(future)))))
+                let future = from_request_into::<Demo, (), Picked, Error>(alloc, req, payload)?;
+                Ok(Left(Right(Right(Right(future)))))
             }
         }
     }

@@ -51,10 +51,7 @@ pub(crate) fn option_text(
 }
 
 /// The item, or the status of the refusal.
-pub(crate) fn result_text(
-    alloc: Global,
-    read: &Result<Json<Item>, Error>,
-) -> Result<Text, NoMemory>
+pub(crate) fn result_text(alloc: Global, read: &Result<Json<Item>, Error>) -> Result<Text, NoMemory>
     ensures { IfOk result (λ text. text ≡ result_text read.now) }
 {
     match read {
