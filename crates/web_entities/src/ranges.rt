@@ -57,11 +57,16 @@ pub fn read_pair(first: &str, last: &str) -> Option<(u64, u64)>
 }
 
 impl ReadText for ByteRangeSpec {
+    ghost use Rattle.web_texts.specs.TextReaders.{Reads};
+    ghost use Rattle.web_headers.specs.TypedHeaders.{NeverNoMemory};
     ghost use Rattle.web_entities.specs.ByteRanges.{byte_range_of};
 
     ghost reads = { byte_range_of };
 
-    fn parse(_alloc: Global, text: &str) -> Result<Self, Fail<ParseError>> {
+    fn parse(_alloc: Global, text: &str) -> Result<Self, Fail<ParseError>>
+        ensures value { Reads result (byte_range_of text.now) }
+        ensures memory { NeverNoMemory result }
+    {
         let Some((first, last)) = cut_at(text, b'-') else {
             return Err(Fail::Of(ParseError::Header));
         };
@@ -150,7 +155,11 @@ impl Header for Range {
 }
 
 impl Duplicate for ByteRangeSpec {
-    fn duplicate(&self, _alloc: Global) -> Result<Self, NoMemory> {
+    ghost use Rattle.std.specs.Prelude.{◌≡◌, Ok};
+
+    fn duplicate(&self, _alloc: Global) -> Result<Self, NoMemory>
+        ensures { result ≡ Ok self.now }
+    {
         Ok(*self)
     }
 }

@@ -5,7 +5,8 @@ use std::alloc::Global;
 use std::fmt::Display;
 use std::process::Abort;
 use web_entities::{
-    ContentDisposition, ContentRange, ETag, EntityTag, IfMatch, IfNoneMatch, IfRange, Range,
+    ByteRangeSpec, ContentDisposition, ContentRange, ETag, EntityTag, IfMatch, IfNoneMatch,
+    IfRange, Range,
 };
 use web_headers::{Header, TryIntoHeaderValue};
 use web_texts::{Duplicate, Fail, ParseError, ReadText, Text};
@@ -47,6 +48,7 @@ const CONTENT_RANGES: &[Row] = &[
     (&[b"bytes */500"], Some("bytes */500")),
     (&[b"bytes */*"], Some("bytes */*")),
     (&[b"bytes 007-8/9"], Some("bytes 7-8/9")),
+    (&[b"seconds 1-2"], Some("seconds 1-2")),
     (&[b" x"], Some(" x")),
     (&[b"a "], Some("a ")),
     (&[b"Bytes 1-2/3"], Some("Bytes 1-2/3")),
@@ -60,7 +62,6 @@ const CONTENT_RANGES: &[Row] = &[
     (&[b"x"], None),
     (&[b""], None),
     (&[], None),
-    (&[b"bytes  0-1/2"], None),
 ];
 
 #[test]
@@ -110,9 +111,37 @@ const RANGES: &[Row] = &[
     (&[b"items=1-"], Some("items=1-")),
 ];
 
+/// A text, and the byte range that it is read as.
+const BYTE_RANGES: &[(&str, Option<ByteRangeSpec>)] = &[
+    ("0-1", Some(ByteRangeSpec::FromTo(0, 1))),
+    ("5-", Some(ByteRangeSpec::From(5))),
+    ("-0", Some(ByteRangeSpec::Last(0))),
+    (
+        "18446744073709551615-18446744073709551615",
+        Some(ByteRangeSpec::FromTo(u64::MAX, u64::MAX)),
+    ),
+    ("-", None),
+    ("0-1-2", None),
+    ("1-0", None),
+    ("", None),
+];
+
+fn byte_range(rt: &impl Abort, alloc: Global, text: &str) -> Option<ByteRangeSpec> {
+    match ByteRangeSpec::parse(alloc, text) {
+        Ok(spec) => Some(spec),
+        Err(error) => {
+            assert_same(rt, error, Fail::Of(ParseError::Header));
+            None
+        }
+    }
+}
+
 #[test]
 fn ranges(rt: HostRuntime) {
     assert_rows::<Range>(&rt, rt.alloc(), RANGES);
+    for (text, expected) in BYTE_RANGES {
+        assert_same(&rt, byte_range(&rt, rt.alloc(), text), *expected);
+    }
 }
 
 const TAGS: &[Row] = &[
@@ -127,9 +156,22 @@ const TAGS: &[Row] = &[
     (&[], None),
 ];
 
+/// A text, and whether it may stand in a tag.
+const TAG_TEXTS: &[(&str, bool)] = &[
+    ("a", true),
+    ("a,b", true),
+    ("", true),
+    ("\u{7f}", false),
+    ("a b", false),
+    ("\"", false),
+];
+
 #[test]
 fn tags(rt: HostRuntime) {
     assert_rows::<ETag>(&rt, rt.alloc(), TAGS);
+    for (text, expected) in TAG_TEXTS {
+        assert_same(&rt, EntityTag::is_tag_text(text), *expected);
+    }
 }
 
 const TAG_LISTS: &[Row] = &[
@@ -241,6 +283,8 @@ const COMPARISONS: &[(&str, &str, bool, bool)] = &[
     ("\"1\"", "W/\"1\"", false, true),
     ("W/\"1\"", "W/\"1\"", false, true),
     ("W/\"1\"", "\"2\"", false, false),
+    ("W/\"1\"", "W/\"2\"", false, false),
+    ("W/\"2\"", "\"2\"", false, true),
     ("\"\"", "\"\"", true, true),
     ("\"\"", "\"1\"", false, false),
 ];
@@ -266,6 +310,22 @@ fn disposition(rt: &impl Abort, alloc: Global, value: &str) -> ContentDispositio
     ContentDisposition::from_raw(alloc, &value).expect(rt, "a disposition")
 }
 
+/// A disposition, and the value of its first `filename`.
+const FILENAMES: &[(&str, Option<&str>)] = &[
+    (
+        "form-data; name=a; filename=b; NAME=c; FILENAME=d",
+        Some("b"),
+    ),
+    ("form-data; filename=x; name=\"y z\"", Some("x")),
+    ("attachment; a; filename=x", None),
+    ("attachment; filename*=UTF-8''x", None),
+];
+
+fn assert_filename(rt: &impl Abort, alloc: Global, row: &(&str, Option<&str>)) {
+    let found = disposition(rt, alloc, row.0);
+    assert_same(rt, found.get_filename(), row.1);
+}
+
 /// A disposition whose parameters come again.
 const REPEATED: &str = "form-data; name=a; filename=b; NAME=c; x=1; X=2; y*=UTF-8''d";
 
@@ -276,6 +336,9 @@ fn first_texts(rt: HostRuntime) {
     assert_same(&rt, names, (Some("a"), Some("b")));
     let unknown = (found.get_unknown("X"), found.get_unknown("name"));
     assert_same(&rt, unknown, (Some("1"), None));
+    for row in FILENAMES {
+        assert_filename(&rt, rt.alloc(), row);
+    }
 }
 
 #[test]

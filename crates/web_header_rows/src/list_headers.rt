@@ -6,11 +6,14 @@ use std::alloc::Global;
 use std::fmt::Display;
 use std::process::Abort;
 use web_headers::{
-    Accept, AcceptCharset, AcceptEncoding, AcceptLanguage, Allow, CacheControl, ContentLanguage,
-    ContentLength, ContentType, Date, Expires, Header, IfModifiedSince, IfUnmodifiedSince,
-    LastModified, TryIntoHeaderValue,
+    Accept, AcceptCharset, AcceptEncoding, AcceptLanguage, Allow, CacheControl, CacheDirective,
+    ContentLanguage, ContentLength, ContentType, Date, Encoding, Expires, Header, IfModifiedSince,
+    IfUnmodifiedSince, LastModified, Preference, TryIntoHeaderValue,
 };
-use web_texts::{Duplicate, Fail, LanguageTag, ParseError, parse_extended_value};
+use web_texts::{
+    Charset, Duplicate, Fail, LanguageTag, ParseError, QualityItem, ReadText, TagFault,
+    parse_extended_value,
+};
 
 /// The values of a header, in order, and its printed text, or `None` where it is refused.
 type Row = (&'static [&'static str], Option<&'static str>);
@@ -58,6 +61,13 @@ const ACCEPT: &[Row] = &[
     ),
     (
         &["text/html;level=1;q=00.5, application/xhtml+xml;q=0.001, text/html;q, */*; q =0.5"],
+        Some("application/xhtml+xml; q=0.001"),
+    ),
+    (
+        &[
+            "text/html;level=1;q=00.5, application/xhtml+xml;q=0.001, \
+            text/html;level=1;q, */*; q =0.5",
+        ],
         Some("application/xhtml+xml; q=0.001"),
     ),
     (
@@ -147,7 +157,10 @@ const ACCEPT_LANGUAGE: &[Row] = &[
     (&["en_US;q= 0.5, en-US;q=1.001"], Some("")),
 ];
 
-const ACCEPT_CHARSET: &[Row] = &[(&["utf-8, *;q=0.1"], Some("UTF-8, *; q=0.1"))];
+const ACCEPT_CHARSET: &[Row] = &[
+    (&["utf-8, *;q=0.1"], Some("UTF-8, *; q=0.1")),
+    (&[""], Some("")),
+];
 
 const ALLOW: &[Row] = &[(&["GET, HEAD", "A B, fOo"], Some("GET, HEAD, fOo"))];
 
@@ -216,6 +229,10 @@ const DATES: &[Row] = &[
         Some("Sun, 06 Nov 1994 08:49:37 GMT"),
     ),
     (
+        &["Sun, 06 Nov 1994 08:49:37 GMT"],
+        Some("Sun, 06 Nov 1994 08:49:37 GMT"),
+    ),
+    (
         &["Thu, 01 Jan 1970 00:00:00 GMT"],
         Some("Thu, 01 Jan 1970 00:00:00 GMT"),
     ),
@@ -262,19 +279,26 @@ fn map_of<H: Header>(rt: &impl Abort, alloc: Global, values: &[&str]) -> HeaderM
     map
 }
 
+/// Asserts what a value prints, and that its copy is equal.
+fn assert_text<T: Display + Duplicate + PartialEq>(
+    rt: &impl Abort,
+    alloc: Global,
+    value: &T,
+    expected: &str,
+) {
+    let printed = format!(in alloc; "{value}").expect(rt, "memory");
+    assert_same(rt, printed.as_str(), expected);
+    let copy = value.duplicate(alloc).expect(rt, "memory");
+    assert_holds(rt, expected, copy == *value);
+}
+
 fn assert_printed<H: Display + Duplicate + PartialEq + TryIntoHeaderValue>(
     rt: &impl Abort,
     alloc: Global,
     header: H,
     expected: &str,
 ) {
-    let printed = format!(in alloc; "{header}").expect(rt, "memory");
-    assert_same(rt, printed.as_str(), expected);
-    assert_holds(
-        rt,
-        expected,
-        header.duplicate(alloc).expect(rt, "memory") == header,
-    );
+    assert_text(rt, alloc, &header, expected);
     let value = header.try_into_value(alloc).expect(rt, "a value");
     assert_same(rt, value.as_bytes(), expected.as_bytes());
 }
@@ -319,38 +343,128 @@ fn headers_of_one_value_are_read_and_printed(rt: HostRuntime) {
     assert_rows::<LastModified>(&rt, alloc, DATES);
 }
 
-/// A text, and the printed text of its extended value, or `None` where it is refused.
-const EXTENDED: &[(&str, Option<&str>)] = &[
+/// A text, and the bytes and the printed text of its extended value, or `None` where it is refused.
+type Extended = (&'static str, Option<(&'static [u8], &'static str)>);
+
+const EXTENDED: &[Extended] = &[
     ("", None),
     ("a'b", None),
     ("a'1'b", None),
     (
-        "utf-8'en-GB'%c2%a3 rates",
-        Some("UTF-8'en-GB'%C2%A3%20rates"),
+        "UTF-8''na%C3%AFve.txt",
+        Some((b"na\xc3\xafve.txt", "UTF-8''na%C3%AFve.txt")),
     ),
-    ("x'' '%*()~!a", Some("X''%20%27%25%2A%28%29~!a")),
-    ("x''%00%ff", Some("X''%00%FF")),
+    (
+        "utf-8'en-GB'%c2%a3 rates",
+        Some((b"\xc2\xa3 rates", "UTF-8'en-GB'%C2%A3%20rates")),
+    ),
+    (
+        "x'' '%*()~!aï",
+        Some((b" '%*()~!a\xc3\xaf", "X''%20%27%25%2A%28%29~!a%C3%AF")),
+    ),
+    ("x''%00%ff", Some((b"\x00\xff", "X''%00%FF"))),
 ];
 
-fn assert_extended(rt: &impl Abort, alloc: Global, row: &(&str, Option<&str>)) {
+fn assert_extended(rt: &impl Abort, alloc: Global, row: &Extended) {
     let (text, expected) = *row;
-    let Ok(value) = parse_extended_value(alloc, text) else {
-        assert_same(rt, None, expected);
-        return;
-    };
-    let printed = format!(in alloc; "{value}").expect(rt, "memory");
-    assert_same(rt, Some(printed.as_str()), expected);
-    assert_holds(
-        rt,
-        text,
-        value.duplicate(alloc).expect(rt, "memory") == value,
-    );
+    match (parse_extended_value(alloc, text), expected) {
+        (Ok(value), Some((bytes, printed))) => {
+            assert_same(rt, value.value.as_slice(), bytes);
+            assert_text(rt, alloc, &value, printed);
+        }
+        (Err(error), None) => assert_same(rt, error, Fail::Of(ParseError::Header)),
+        _ => assert_holds(rt, text, false),
+    }
 }
 
 #[test]
 fn extended_values_are_read_and_printed(rt: HostRuntime) {
     for row in EXTENDED {
         assert_extended(&rt, rt.alloc(), row);
+    }
+}
+
+/// A text, and the printed text of what it is read as, or `None` where it is refused.
+type TextRow = (&'static str, Option<&'static str>);
+
+const LANGUAGE_TAGS: &[TextRow] = &[
+    ("en", Some("en")),
+    ("a", Some("a")),
+    ("abcdefgh", Some("abcdefgh")),
+    ("en-1", Some("en-1")),
+    ("abcdefghi", None),
+    ("", None),
+    ("-", None),
+    ("1", None),
+    ("e1", None),
+    ("en_US", None),
+    ("*", None),
+];
+
+const CHARSETS: &[TextRow] = &[("utf-8", Some("UTF-8")), ("", Some(""))];
+
+const ENCODINGS: &[TextRow] = &[
+    ("identity", Some("identity")),
+    ("BR", Some("br")),
+    ("zstd", Some("zstd")),
+    (" gzip", Some(" gzip")),
+    ("compress", Some("compress")),
+];
+
+const DIRECTIVES: &[TextRow] = &[
+    ("no-cache", Some("no-cache")),
+    ("No-Cache", Some("No-Cache")),
+    ("private=\"x\"", Some("private=x")),
+    ("a=\"\"", Some("a=")),
+    ("", None),
+];
+
+const CODINGS: &[TextRow] = &[
+    ("GZip ; q=0.5", Some("gzip; q=0.5")),
+    ("*;q=0", Some("*; q=0")),
+    ("gzip;a=b;q=0.5", Some("gzip;a=b; q=0.5")),
+    ("gzip;q=0.5;a=b", Some("gzip;q=0.5;a=b")),
+    ("", Some("")),
+    ("gzip;q=1.001", None),
+    ("gzip;q=0.1234", None),
+    ("gzip;q=", None),
+    ("gzip;q", None),
+    ("gzip;x", None),
+    ("x;q=.5", None),
+    ("x;q=2", None),
+];
+
+fn assert_texts<T: ReadText + Display + Duplicate + PartialEq>(
+    rt: &impl Abort,
+    alloc: Global,
+    rows: &[TextRow],
+) {
+    for (text, expected) in rows {
+        match (T::parse(alloc, text), expected) {
+            (Ok(value), Some(printed)) => assert_text(rt, alloc, &value, printed),
+            (Err(error), None) => assert_same(rt, error, Fail::Of(ParseError::Header)),
+            _ => assert_holds(rt, text, false),
+        }
+    }
+}
+
+fn is_tag_fault(alloc: Global, text: &str) -> bool {
+    match LanguageTag::parse(alloc, text) {
+        Err(Fail::Of(TagFault)) => true,
+        _ => false,
+    }
+}
+
+#[test]
+fn items_of_lists_are_read_and_printed(rt: HostRuntime) {
+    let alloc = rt.alloc();
+    assert_texts::<LanguageTag>(&rt, alloc, LANGUAGE_TAGS);
+    assert_texts::<Charset>(&rt, alloc, CHARSETS);
+    assert_texts::<Encoding>(&rt, alloc, ENCODINGS);
+    assert_texts::<CacheDirective>(&rt, alloc, DIRECTIVES);
+    assert_texts::<QualityItem<Preference<Encoding>>>(&rt, alloc, CODINGS);
+    for (text, expected) in LANGUAGE_TAGS {
+        assert_same(&rt, is_tag_fault(alloc, text), expected.is_none());
     }
 }
 

@@ -19,6 +19,9 @@ const READ: &[(&str, &str, &str, Option<&str>, &str)] = &[
     (r#"a/b;c="""#, "a", "b", None, r#"a/b; c="""#),
     (r#"a/b;c="grün""#, "a", "b", None, r#"a/b; c="grün""#),
     ("a/b;C=D;c=e", "a", "b", None, "a/b; c=D; c=e"),
+    ("a/b;", "a", "b", None, "a/b"),
+    (r#"a/b;c="d e""#, "a", "b", None, r#"a/b; c="d e""#),
+    ("TEXT/Html", "text", "html", None, "text/html"),
     (
         "TEXT/Plain; Charset=\"UTF-8\"",
         "text",
@@ -139,6 +142,8 @@ const PARAMETERS: &[(&str, &str, Option<&str>, Option<&str>)] = &[
         None,
     ),
     ("a/b;c=d", "", None, None),
+    ("a/b;c=\"\t \"", "c", Some("\t "), None),
+    ("text/html;a=\"b,c\"", "a", Some("b,c"), None),
 ];
 
 fn assert_parameters(

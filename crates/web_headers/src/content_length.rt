@@ -43,12 +43,19 @@ impl From<ContentLength> for usize {
 
 impl ReadText for ContentLength {
     ghost use Rattle.std.specs.Option.{option_map};
+    ghost use Rattle.web_texts.specs.TextReaders.{Reads};
+    ghost use Rattle.web_headers.specs.TypedHeaders.{NeverNoMemory};
     ghost use Rattle.web_headers.specs.ValueHeaders.{length_of};
 
     ghost reads = { λ text. option_map (λ n. record { 0 = n }) (length_of text) };
 
-    /// Reads a number in decimal digits of at most 2^64 - 1, with blanks around it.
-    fn parse(_alloc: Global, text: &str) -> Result<ContentLength, Fail<ParseError>> {
+    /// Reads a number in decimal digits of at most 2^64 - 1, with blanks around it. `NoMemory` never
+    /// comes.
+    fn parse(_alloc: Global, text: &str) -> Result<ContentLength, Fail<ParseError>>
+        ensures value { Reads result
+            (option_map (λ n. record { 0 = n }) (length_of text.now)) }
+        ensures memory { NeverNoMemory result }
+    {
         match read_digits(trim(text), 18_446_744_073_709_551_615) {
             Some(length) => Ok(ContentLength(length as usize)),
             None => Err(Fail::Of(ParseError::Header)),
@@ -59,6 +66,9 @@ impl ReadText for ContentLength {
 impl Header for ContentLength {
     ghost use Rattle.std.specs.Prelude.{◌≡◌, codes};
     ghost use Rattle.std.specs.Option.{option_map};
+    ghost use Rattle.http_header.specs.HeaderMap.{get_all};
+    ghost use Rattle.web_headers.specs.HeaderReaders.{value_bytes};
+    ghost use Rattle.web_headers.specs.TypedHeaders.{ReadsAs, NeverNoMemory};
     ghost use Rattle.web_headers.specs.ValueHeaders.{content_length_of};
 
     ghost says = { λ values said.
@@ -70,7 +80,13 @@ impl Header for ContentLength {
         CONTENT_LENGTH
     }
 
-    fn parse(alloc: Global, headers: &HeaderMap<HeaderValue>) -> Result<Self, Fail<ParseError>> {
+    fn parse(alloc: Global, headers: &HeaderMap<HeaderValue>) -> Result<Self, Fail<ParseError>>
+        ensures says { ReadsAs
+            (λ said. option_map (λ header. header.0) said
+            ≡ content_length_of (value_bytes (get_all headers.now (codes "content-length"))))
+            result }
+        ensures memory { NeverNoMemory result }
+    {
         match first_text(headers, &CONTENT_LENGTH) {
             Some(text) => <ContentLength as ReadText>::parse(alloc, text),
             None => Err(Fail::Of(ParseError::Header)),
@@ -100,7 +116,11 @@ impl TryIntoHeaderValue for ContentLength {
 }
 
 impl Duplicate for ContentLength {
-    fn duplicate(&self, _alloc: Global) -> Result<ContentLength, NoMemory> {
+    ghost use Rattle.std.specs.Prelude.{◌≡◌, Ok};
+
+    fn duplicate(&self, _alloc: Global) -> Result<ContentLength, NoMemory>
+        ensures { result ≡ Ok self.now }
+    {
         Ok(*self)
     }
 }

@@ -27,7 +27,10 @@ impl Date {
 
 impl Header for Date {
     ghost use Rattle.std.specs.Prelude.{codes};
+    ghost use Rattle.http_header.specs.HeaderMap.{get_all};
     ghost use Rattle.web_headers.specs.DateHeaders.{ValuesSayDate};
+    ghost use Rattle.web_headers.specs.HeaderReaders.{value_bytes};
+    ghost use Rattle.web_headers.specs.TypedHeaders.{ReadsAs, NeverNoMemory};
 
     ghost says = { ValuesSayDate (λ header. header.0) };
 
@@ -37,7 +40,11 @@ impl Header for Date {
         DATE
     }
 
-    fn parse(_alloc: Global, headers: &HeaderMap<HeaderValue>) -> Result<Self, Fail<ParseError>> {
+    fn parse(_alloc: Global, headers: &HeaderMap<HeaderValue>) -> Result<Self, Fail<ParseError>>
+        ensures says { ReadsAs (ValuesSayDate (λ header. header.0)
+            (value_bytes (get_all headers.now (codes "date")))) result }
+        ensures memory { NeverNoMemory result }
+    {
         match from_one_date(headers, &DATE) {
             Ok(date) => Ok(Date(date)),
             Err(refused) => Err(refused),
@@ -68,7 +75,11 @@ impl TryIntoHeaderValue for Date {
 }
 
 impl Duplicate for Date {
-    fn duplicate(&self, _alloc: Global) -> Result<Date, NoMemory> {
+    ghost use Rattle.std.specs.Prelude.{◌≡◌, Ok};
+
+    fn duplicate(&self, _alloc: Global) -> Result<Date, NoMemory>
+        ensures { result ≡ Ok self.now }
+    {
         Ok(*self)
     }
 }

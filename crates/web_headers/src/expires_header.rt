@@ -16,7 +16,10 @@ pub struct Expires(pub HttpDate);
 
 impl Header for Expires {
     ghost use Rattle.std.specs.Prelude.{codes};
+    ghost use Rattle.http_header.specs.HeaderMap.{get_all};
     ghost use Rattle.web_headers.specs.DateHeaders.{ValuesSayDate};
+    ghost use Rattle.web_headers.specs.HeaderReaders.{value_bytes};
+    ghost use Rattle.web_headers.specs.TypedHeaders.{ReadsAs, NeverNoMemory};
 
     ghost says = { ValuesSayDate (λ header. header.0) };
 
@@ -26,7 +29,11 @@ impl Header for Expires {
         EXPIRES
     }
 
-    fn parse(_alloc: Global, headers: &HeaderMap<HeaderValue>) -> Result<Self, Fail<ParseError>> {
+    fn parse(_alloc: Global, headers: &HeaderMap<HeaderValue>) -> Result<Self, Fail<ParseError>>
+        ensures says { ReadsAs (ValuesSayDate (λ header. header.0)
+            (value_bytes (get_all headers.now (codes "expires")))) result }
+        ensures memory { NeverNoMemory result }
+    {
         match from_one_date(headers, &EXPIRES) {
             Ok(date) => Ok(Expires(date)),
             Err(refused) => Err(refused),
@@ -57,7 +64,11 @@ impl TryIntoHeaderValue for Expires {
 }
 
 impl Duplicate for Expires {
-    fn duplicate(&self, _alloc: Global) -> Result<Expires, NoMemory> {
+    ghost use Rattle.std.specs.Prelude.{◌≡◌, Ok};
+
+    fn duplicate(&self, _alloc: Global) -> Result<Expires, NoMemory>
+        ensures { result ≡ Ok self.now }
+    {
         Ok(*self)
     }
 }

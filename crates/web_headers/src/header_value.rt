@@ -45,9 +45,13 @@ pub fn printed_value<T: fmt::Display>(
 }
 
 impl TryIntoHeaderValue for HeaderValue {
+    ghost use Rattle.std.specs.Prelude.{◌≡◌, Ok};
+
     ghost value = { λ v. v };
 
-    fn try_into_value(self, _alloc: Global) -> Result<HeaderValue, Fail<InvalidHeaderValue>> {
+    fn try_into_value(self, _alloc: Global) -> Result<HeaderValue, Fail<InvalidHeaderValue>>
+        ensures { result ≡ Ok self }
+    {
         Ok(self)
     }
 }
@@ -92,10 +96,14 @@ impl TryIntoHeaderValue for Vec<u8> {
 
 impl TryIntoHeaderValue for Bytes {
     ghost use Rattle.http_header.specs.FieldValue.{plain_value};
+    ghost use Rattle.web_headers.specs.TypedHeaders.{GivesValue, NeverNoMemory};
 
     ghost value = { λ bytes. plain_value bytes };
 
-    fn try_into_value(self, _alloc: Global) -> Result<HeaderValue, Fail<InvalidHeaderValue>> {
+    fn try_into_value(self, _alloc: Global) -> Result<HeaderValue, Fail<InvalidHeaderValue>>
+        ensures value { GivesValue (plain_value self) result }
+        ensures memory { NeverNoMemory result }
+    {
         match HeaderValue::from_shared(self) {
             Ok(value) => Ok(value),
             Err(_) => Err(Fail::Of(InvalidHeaderValue)),

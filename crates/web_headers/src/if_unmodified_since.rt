@@ -16,7 +16,10 @@ pub struct IfUnmodifiedSince(pub HttpDate);
 
 impl Header for IfUnmodifiedSince {
     ghost use Rattle.std.specs.Prelude.{codes};
+    ghost use Rattle.http_header.specs.HeaderMap.{get_all};
     ghost use Rattle.web_headers.specs.DateHeaders.{ValuesSayDate};
+    ghost use Rattle.web_headers.specs.HeaderReaders.{value_bytes};
+    ghost use Rattle.web_headers.specs.TypedHeaders.{ReadsAs, NeverNoMemory};
 
     ghost says = { ValuesSayDate (λ header. header.0) };
 
@@ -26,7 +29,11 @@ impl Header for IfUnmodifiedSince {
         IF_UNMODIFIED_SINCE
     }
 
-    fn parse(_alloc: Global, headers: &HeaderMap<HeaderValue>) -> Result<Self, Fail<ParseError>> {
+    fn parse(_alloc: Global, headers: &HeaderMap<HeaderValue>) -> Result<Self, Fail<ParseError>>
+        ensures says { ReadsAs (ValuesSayDate (λ header. header.0)
+            (value_bytes (get_all headers.now (codes "if-unmodified-since")))) result }
+        ensures memory { NeverNoMemory result }
+    {
         match from_one_date(headers, &IF_UNMODIFIED_SINCE) {
             Ok(date) => Ok(IfUnmodifiedSince(date)),
             Err(refused) => Err(refused),
@@ -57,7 +64,11 @@ impl TryIntoHeaderValue for IfUnmodifiedSince {
 }
 
 impl Duplicate for IfUnmodifiedSince {
-    fn duplicate(&self, _alloc: Global) -> Result<IfUnmodifiedSince, NoMemory> {
+    ghost use Rattle.std.specs.Prelude.{◌≡◌, Ok};
+
+    fn duplicate(&self, _alloc: Global) -> Result<IfUnmodifiedSince, NoMemory>
+        ensures { result ≡ Ok self.now }
+    {
         Ok(*self)
     }
 }
