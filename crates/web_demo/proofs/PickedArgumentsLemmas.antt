@@ -90,7 +90,7 @@ raw_value (Err e) = refl
 
 raw_seen : SeenAlone raw_view same_fault MeansRaw (λ m. []) payload_result
 raw_seen m left n y h =
-    let once = only_payload (λ feed. feed) (payload.Stream (marks_feed m)) m refl left n y h in
+    let once = only_payload (λ feed. feed) (payload.Stream (record (marks_feed m) { marks = Some m })) m refl left n y h in
     (once.0, once.1, raw_value y ∙ once.2)
 
 late_seen : (q : DemoRequest) → SeenAlone (λ v. v) same_fault (MeansLate q.params) (λ m. m) (λ m. delayed_late q.params)
@@ -239,6 +239,21 @@ choice_only choice.Other q m rest =
     converted_only (λ v. picked.Other) never_fault (MeansUnit m rest) _ _ (λ k y g. (g.1, g.2))
 choice_only (choice.Decoded c) q m rest = decoded_only c q m rest
 choice_only (choice.Immediate c) q m rest = immediate_only c q m rest
+
+-- the future of a choice's arguments, where this choice was made
+pub extracts_decoded : (q : DemoRequest) (made : DecodedChoice) (c : DecodedChoice)
+    (gives : ℕ → Result Picked Fault → Type 0) (old new : Option (List Mark))
+    → made ≡ c
+    → Extracts (λ m rest n x. MeansDecoded c q m rest n x) gives old new
+    → Extracts (λ m rest n x. MeansDecoded made q m rest n x) gives old new
+extracts_decoded q made c gives old new e h = rw e h
+
+pub extracts_immediate : (q : DemoRequest) (made : ImmediateChoice) (c : ImmediateChoice)
+    (gives : ℕ → Result Picked Fault → Type 0) (old new : Option (List Mark))
+    → made ≡ c
+    → Extracts (λ m rest n x. MeansImmediate c q m rest n x) gives old new
+    → Extracts (λ m rest n x. MeansImmediate made q m rest n x) gives old new
+extracts_immediate q made c gives old new e h = rw e h
 
 -- the future of a choice's arguments, for a request that makes this choice
 pub extracts_choice : (q : DemoRequest) (c : Choice)

@@ -1,5 +1,5 @@
 -- The replies of the program's handler.
-use Rattle.std.specs.Prelude.{◌≡◌, ℕ, ⊤, List, Option, codes, length}
+use Rattle.std.specs.Prelude.{◌≡◌, ℕ, ⊤, List, Option, None, Some, codes, length}
 use Rattle.serde_json.specs.Written.{compact_text}
 use Rattle.web_request.specs.declared.source.Mark.{Mark}
 use Rattle.web_values.specs.FormPairs.{pairs_text}
@@ -15,23 +15,35 @@ use Rattle.web_demo.specs.declared.answer.Answer.TheVariants as answer
 use Rattle.web_demo.specs.declared.picked.Picked.{Picked}
 use Rattle.web_demo.specs.declared.picked.Picked.TheVariants as picked
 
+-- the text that is printed of these arguments, where one is
+abbrev pub printed_text : Picked → Option (List ℕ)
+printed_text (picked.Either either) = Some (either_text either)
+printed_text (picked.Option item left) = Some (option_text item (length left))
+printed_text (picked.Result read) = Some (result_text read)
+printed_text (picked.Path path) = Some (item_text path)
+printed_text (picked.Query query) = Some (item_text query.0)
+printed_text (picked.Header header) = Some (accept_text header)
+printed_text (picked.Data arguments) = Some (data_text arguments)
+printed_text _ = None
+
+-- the output for arguments of which nothing is printed
+abbrev pub unprinted_answer : Picked → Answer
+unprinted_answer (picked.Bytes bytes) = answer.Bytes bytes
+unprinted_answer (picked.Text text) = answer.Text text
+unprinted_answer (picked.Json json) = answer.Json json.0
+unprinted_answer (picked.Form form) = answer.Form form.0
+unprinted_answer (picked.Raw body) = answer.Raw body
+unprinted_answer (picked.Both text late) = answer.Text text
+unprinted_answer (picked.Wait wait) = answer.Done
+unprinted_answer _ = answer.None
+
+abbrev pub text_or : Option (List ℕ) → Answer → Answer
+text_or (Some text) other = answer.Text text
+text_or None other = other
+
 -- the handler's output for these arguments
 abbrev pub answer_of : Picked → Answer
-answer_of (picked.Bytes bytes) = answer.Bytes bytes
-answer_of (picked.Text text) = answer.Text text
-answer_of (picked.Json json) = answer.Json json.0
-answer_of (picked.Form form) = answer.Form form.0
-answer_of (picked.Either either) = answer.Text (either_text either)
-answer_of (picked.Option item left) = answer.Text (option_text item (length left))
-answer_of (picked.Result read) = answer.Text (result_text read)
-answer_of (picked.Path path) = answer.Text (item_text path)
-answer_of (picked.Query query) = answer.Text (item_text query.0)
-answer_of (picked.Header header) = answer.Text (accept_text header)
-answer_of (picked.Data arguments) = answer.Text (data_text arguments)
-answer_of (picked.Raw body) = answer.Raw body
-answer_of (picked.Both text late) = answer.Text text
-answer_of (picked.Wait wait) = answer.Done
-answer_of picked.Other = answer.None
+answer_of p = text_or (printed_text p) (unprinted_answer p)
 
 -- how many polls of the handler return Pending
 abbrev pub wait_of : Picked → ℕ
@@ -40,14 +52,7 @@ wait_of _ = 0
 
 -- nothing is printed of them
 abbrev pub AnswersWithoutMemory : Picked → Type 0
-AnswersWithoutMemory (picked.Either either) = ⊥
-AnswersWithoutMemory (picked.Option item left) = ⊥
-AnswersWithoutMemory (picked.Result read) = ⊥
-AnswersWithoutMemory (picked.Path path) = ⊥
-AnswersWithoutMemory (picked.Query query) = ⊥
-AnswersWithoutMemory (picked.Header header) = ⊥
-AnswersWithoutMemory (picked.Data arguments) = ⊥
-AnswersWithoutMemory _ = ⊤
+AnswersWithoutMemory p = printed_text p ≡ None
 
 -- this output alone, after this number of polls alone
 abbrev pub HandlerAnswers : Picked → ℕ → Answer → Type 0

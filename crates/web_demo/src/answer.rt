@@ -3,7 +3,7 @@ ghost use Rattle.std.specs.Prelude.{◌≡◌, ◌∷◌, [], IfOk, OnOk, codes}
 ghost use Rattle.http_header.specs.FieldValue.{plain_value};
 ghost use Rattle.web_reply.specs.Replies.{plain_reply};
 ghost use Rattle.web_reply.specs.ResponseBodies.{box_plain};
-ghost use Rattle.web_demo.specs.DemoReplies.{raw_reply};
+ghost use Rattle.web_demo.specs.DemoReplies.{form_reply, json_reply, raw_reply};
 
 use crate::demo_arguments::RawBody;
 use bytes::Bytes;
@@ -65,6 +65,34 @@ fn raw_response(alloc: Global, body: RawBody) -> Result<HttpResponse<BoxBody<Mar
     }
 }
 
+/// A 200 with this item as JSON.
+fn json_response(
+    alloc: Global,
+    item: Item,
+    req: &HttpRequest<Demo>,
+) -> Result<HttpResponse<BoxBody<Marks>>, NoMemory>
+    ensures { IfOk result (λ reply.
+        plain_reply (λ b. box_plain (λ feed. feed) b) reply ≡ json_reply item) }
+{
+    Json(item)
+        .respond_to(alloc, req)?
+        .map_into_boxed_body(alloc)
+}
+
+/// A 200 with this item as a form.
+fn form_response(
+    alloc: Global,
+    item: Item,
+    req: &HttpRequest<Demo>,
+) -> Result<HttpResponse<BoxBody<Marks>>, NoMemory>
+    ensures { IfOk result (λ reply.
+        plain_reply (λ b. box_plain (λ feed. feed) b) reply ≡ form_reply item) }
+{
+    Form(item)
+        .respond_to(alloc, req)?
+        .map_into_boxed_body(alloc)
+}
+
 impl Responder<Demo> for Answer {
     ghost use Rattle.web_demo.specs.DemoReplies.{AnswerNeedsNoMemory, answer_reply};
 
@@ -82,12 +110,8 @@ impl Responder<Demo> for Answer {
         match self {
             Answer::Bytes(bytes) => bytes.respond_to(alloc, req)?.map_into_boxed_body(alloc),
             Answer::Text(text) => text.respond_to(alloc, req)?.map_into_boxed_body(alloc),
-            Answer::Json(item) => Json(item)
-                .respond_to(alloc, req)?
-                .map_into_boxed_body(alloc),
-            Answer::Form(item) => Form(item)
-                .respond_to(alloc, req)?
-                .map_into_boxed_body(alloc),
+            Answer::Json(item) => json_response(alloc, item, req),
+            Answer::Form(item) => form_response(alloc, item, req),
             Answer::Raw(body) => raw_response(alloc, body),
             Answer::Done => {
                 let done: Done<Error> = Done(Ok(()));

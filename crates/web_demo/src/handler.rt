@@ -1,6 +1,7 @@
 //! The handler of the program.
 ghost use Rattle.std.specs.Prelude.{◌≡◌, IfOk, IsOk};
-ghost use Rattle.web_demo.specs.DemoReplies.{AnswersWithoutMemory, answer_of, wait_of};
+ghost use Rattle.web_demo.specs.DemoReplies.{AnswersWithoutMemory, answer_of, printed_text};
+ghost use Rattle.web_demo.specs.DemoReplies.{unprinted_answer, wait_of};
 
 use crate::answer::Answer;
 use crate::answering::Answering;
@@ -8,6 +9,7 @@ use crate::picked::Picked;
 use crate::texts::{accept_text, data_text, either_text, item_text, option_text, result_text};
 use std::alloc::Global;
 use web_request::NoMemory;
+use web_texts::Text;
 use web_worker::Handler;
 
 /// The handler of the program. What it replies to the arguments of each segment stands in the
@@ -26,29 +28,49 @@ fn wait_of(picked: &Picked) -> u64
     }
 }
 
-/// The output for these arguments. Those that were printed, or whose body was taken, are dropped.
+/// The text that is printed of these arguments, where one is.
+fn printed_text(alloc: Global, picked: &Picked) -> Result<Option<Text>, NoMemory>
+    ensures value { IfOk result (λ text. text ≡ printed_text picked.now) }
+    ensures memory { AnswersWithoutMemory picked.now → IsOk result }
+{
+    let text = match picked {
+        Picked::Either(either) => either_text(alloc, either)?,
+        Picked::Option(item, left) => option_text(alloc, item, left.len())?,
+        Picked::Result(read) => result_text(alloc, read)?,
+        Picked::Path(path) => item_text(alloc, path.as_ref())?,
+        Picked::Query(query) => item_text(alloc, &query.0)?,
+        Picked::Header(header) => accept_text(alloc, header)?,
+        Picked::Data(arguments) => data_text(alloc, arguments)?,
+        _ => return Ok(None),
+    };
+    Ok(Some(text))
+}
+
+/// The output for arguments of which nothing is printed.
+fn unprinted_answer(picked: Picked) -> Answer
+    ensures { result ≡ unprinted_answer picked }
+{
+    match picked {
+        Picked::Bytes(bytes) => Answer::Bytes(bytes),
+        Picked::Text(text) => Answer::Text(text),
+        Picked::Json(json) => Answer::Json(json.into_inner()),
+        Picked::Form(form) => Answer::Form(form.into_inner()),
+        Picked::Raw(body) => Answer::Raw(body),
+        Picked::Both(text, _) => Answer::Text(text),
+        Picked::Wait(_) => Answer::Done,
+        _ => Answer::None,
+    }
+}
+
+/// The output for these arguments. Those that were printed are dropped.
 fn answer_of(alloc: Global, picked: Picked) -> Result<Answer, NoMemory>
     ensures value { IfOk result (λ answer. answer ≡ answer_of picked) }
     ensures memory { AnswersWithoutMemory picked → IsOk result }
 {
-    let text = match picked {
-        Picked::Bytes(bytes) => return Ok(Answer::Bytes(bytes)),
-        Picked::Text(text) => return Ok(Answer::Text(text)),
-        Picked::Json(json) => return Ok(Answer::Json(json.into_inner())),
-        Picked::Form(form) => return Ok(Answer::Form(form.into_inner())),
-        Picked::Raw(body) => return Ok(Answer::Raw(body)),
-        Picked::Both(text, _) => return Ok(Answer::Text(text)),
-        Picked::Wait(_) => return Ok(Answer::Done),
-        Picked::Other => return Ok(Answer::None),
-        Picked::Either(either) => either_text(alloc, &either),
-        Picked::Option(item, left) => option_text(alloc, &item, left.len()),
-        Picked::Result(read) => result_text(alloc, &read),
-        Picked::Path(path) => item_text(alloc, path.as_ref()),
-        Picked::Query(query) => item_text(alloc, &query.0),
-        Picked::Header(header) => accept_text(alloc, &header),
-        Picked::Data(arguments) => data_text(alloc, &arguments),
-    };
-    text.map(|text| Answer::Text(text))
+    match printed_text(alloc, &picked)? {
+        Some(text) => Ok(Answer::Text(text)),
+        None => Ok(unprinted_answer(picked)),
+    }
 }
 
 impl Handler<Picked> for DemoHandler {

@@ -6,8 +6,9 @@ ghost use Rattle.web_demo.specs.DemoExchanges.{DemoRequest};
 ghost use Rattle.web_demo.specs.PickedArguments.{MeansPicked, picked_delay, picked_result};
 
 use crate::choice::{Choice, choice_of};
+use crate::decoded::{DecodedFuture, decoded_future};
 use crate::demo_arguments::{DataArguments, RawBody};
-use crate::further_futures::{FurtherFuture, FutureOf, decoded_future, immediate_future};
+use crate::immediate::{ImmediateFuture, immediate_future};
 use crate::late::Late;
 use crate::wait::Wait;
 use bytes::Bytes;
@@ -16,7 +17,7 @@ use web_arguments::{Header, Path, Query};
 use web_body::{Marks, Payload};
 use web_demo_layers::{Demo, Item};
 use web_extract::EitherFuture::{Left, Right};
-use web_extract::{EitherFuture, FromRequest, from_request_into};
+use web_extract::{EitherFuture, FromRequest, MapInto, from_request_into};
 use web_headers::Accept;
 use web_reply::Error;
 use web_request::{HttpRequest, NoMemory};
@@ -58,13 +59,16 @@ pub enum Picked {
     Other,
 }
 
+/// The future of one choice.
+pub(crate) type FutureOf<T> = MapInto<<T as FromRequest<Demo>>::Future, Picked, Error>;
+
 /// The future of the arguments that were chosen.
 pub type PickedFuture = EitherFuture<
     EitherFuture<
         EitherFuture<FutureOf<(Bytes,)>, FutureOf<(String,)>>,
         EitherFuture<FutureOf<(String, Late)>, EitherFuture<FutureOf<Wait>, FutureOf<()>>>,
     >,
-    FurtherFuture,
+    EitherFuture<DecodedFuture, ImmediateFuture>,
 >;
 
 /// The arguments that the first segment of the path asks for, and no others.
@@ -113,8 +117,12 @@ impl FromRequest<Demo> for Picked {
                 let future = from_request_into::<Demo, Wait, Picked, Error>(alloc, req, payload)?;
                 Ok(Left(Right(Right(Left(future)))))
             }
-            Choice::Decoded(choice) => Ok(Right(decoded_future(alloc, req, payload, choice)?)),
-            Choice::Immediate(choice) => Ok(Right(immediate_future(alloc, req, payload, choice)?)),
+            Choice::Decoded(choice) => Ok(Right(Left(decoded_future(
+                alloc, req, payload, choice,
+            )?))),
+            Choice::Immediate(choice) => Ok(Right(Right(immediate_future(
+                alloc, req, payload, choice,
+            )?))),
             Choice::Other => {
                 let future = from_request_into::<Demo, (), Picked, Error>(alloc, req, payload)?;
                 Ok(Left(Right(Right(Right(future)))))

@@ -1,0 +1,4 @@
+use Rattle.web_demo.proofs.immediate.ReadFuturePoll.poll.Goals as goal
+
+pub returns-clause-shift : goal.returns-clause-shift
+returns-clause-shift c = c.poll.ensures.shift
