@@ -105,6 +105,16 @@ fn header_argument(line: &[u8]) -> Option<&[u8]>
     }
 }
 
+/// What follows `piece` and a space.
+fn piece_argument(line: &[u8]) -> Option<&[u8]>
+    ensures { IfSome result (λ digits. line.now ≡ codes "piece " ++ digits.now) }
+{
+    match line {
+        [b'p', b'i', b'e', b'c', b'e', b' ', digits @ ..] => Some(digits),
+        _ => None,
+    }
+}
+
 /// What follows `layer` and a space.
 fn layer_argument(line: &[u8]) -> Option<&[u8]>
     ensures { IfSome result (λ settings. line.now ≡ codes "layer " ++ settings.now) }
@@ -136,6 +146,12 @@ pub fn split_line(line: &[u8]) -> (Word, &[u8])
     }
     if let Some(settings) = layer_argument(line) {
         return (Word::Layer, settings);
+    }
+    if let Some(digits) = piece_argument(line) {
+        return (Word::Piece, digits);
+    }
+    if bytes_equal(line, b"stall") {
+        return (Word::Stall, &[]);
     }
     // The other words are rare enough to look at each of the line's bytes up to the space.
     match split_once_at(line, b' ') {
