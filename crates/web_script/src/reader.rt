@@ -1,5 +1,5 @@
 //! Reads a script line by line, with the exchange that the lines belong to.
-ghost use Rattle.std.specs.Prelude.{◌≡◌, ◌≢◌, ◌≤◌, ◌<◌, ◌^◌, ◌∷◌, [], Some, None, true, false};
+ghost use Rattle.std.specs.Prelude.{◌≡◌, ◌≢◌, ◌⊎◌, ◌≤◌, ◌<◌, ◌^◌, ◌∷◌, [], Some, None, true, false};
 ghost use Rattle.std.specs.Prelude.{nat_le, is_some, length, take, OnOk, IfOk, IfSome};
 ghost use Rattle.std.specs.Option.{ForSome, option_map};
 ghost use Rattle.std.specs.Result.{is_ok, result_unwrap_or};
@@ -293,6 +293,30 @@ impl Reader {
         Ok(())
     }
 
+    /// Reads a line of one of the words whose argument is kept as a part of the script.
+    fn add_part<S: ExchangeSink>(
+        &mut self,
+        alloc: Global,
+        word: Word,
+        argument: Bytes,
+        sink: &mut S,
+    ) -> Result<(), Fail<Reason>>
+        requires word { (word ≡ Exchange) ⊎ ((word ≡ Header) ⊎ (word ≡ Text)) }
+        requires body { ForSome self.old.open_exchange (λ e. is_body e.marks ≡ true) }
+        requires small { ForSome self.old.open_exchange
+            (λ e. length (piece_bytes e.marks) < 2 ^ 63) }
+        ensures reader { Accepts result (argument_fault word argument)
+            (λ _. self.new ≡ after_line self.old word argument) }
+        ensures added { OnOk result
+            (Adds S.holds sink.old sink.new (completed_by self.old word)) }
+    {
+        match word {
+            Word::Exchange => self.begin_exchange(alloc, argument, sink),
+            Word::Header => self.add_header(alloc, argument),
+            _ => Ok(self.add_piece(argument)?),
+        }
+    }
+
     /// Reads the line of the first `size` bytes. After a faulty line, what the reader and the sink
     /// hold is not specified.
     pub fn read_line<S: ExchangeSink>(
@@ -318,11 +342,9 @@ impl Reader {
             return Err(Fail::Of(reason));
         }
         match word {
-            Word::Exchange => {
-                self.begin_exchange(alloc, part_of(script, line, argument)?, sink)
+            Word::Exchange | Word::Header | Word::Text => {
+                self.add_part(alloc, word, part_of(script, line, argument)?, sink)
             }
-            Word::Header => self.add_header(alloc, part_of(script, line, argument)?),
-            Word::Text => Ok(self.add_piece(part_of(script, line, argument)?)?),
             word => self.add(alloc, word, argument),
         }
     }
