@@ -90,7 +90,18 @@ fn exchange_argument(line: &[u8]) -> Option<&[u8]>
     ensures { IfSome result (λ head. line.now ≡ codes "exchange " ++ head.now) }
 {
     match line {
-        [b'e', b'x', b'c', b'h', b'a', b'n', b'g', b'e', b' ', head @ ..] => Some(head),
+        [
+            b'e',
+            b'x',
+            b'c',
+            b'h',
+            b'a',
+            b'n',
+            b'g',
+            b'e',
+            b' ',
+            head @ ..,
+        ] => Some(head),
         _ => None,
     }
 }

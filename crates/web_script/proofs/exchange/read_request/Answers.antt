@@ -5,7 +5,7 @@ use Rattle.web_script.specs.LineFaults.{unless}
 use Rattle.web_script.specs.Targets.{parts_of, target_of}
 use Rattle.web_script.specs.declared.reason.Reason.TheVariants.{BadExchange}
 use Rattle.web_script.proofs.AcceptanceLemmas.{passed_on}
-use Rattle.web_script.proofs.LineArgumentsLemmas.{unspaced_request, spaced_target, no_method, no_target, asked_for, cut_end, cut_short}
+use Rattle.web_script.proofs.LineArgumentsLemmas.{unspaced_request, spaced_target, no_method, no_target, asked_for, cut_end}
 use Rattle.web_script.proofs.exchange.read_request.Goals as goal
 
 pub returns-in_default : goal.returns-in_default
