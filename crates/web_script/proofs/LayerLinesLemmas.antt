@@ -14,7 +14,6 @@ use Rattle.web_script.specs.LayerLines.{is_equals, is_layer, mime_of, plain_sett
 use Rattle.web_script.specs.LineFaults.{unless}
 use Rattle.web_script.specs.declared.layer.LayerSettings.{LayerSettings}
 use Rattle.web_script.specs.declared.layer.Setting.{Setting}
-use Rattle.web_script.specs.declared.layer.Setting.TheVariants as setting
 use Rattle.web_script.specs.declared.reason.Reason.{Reason}
 use Rattle.web_script.specs.declared.reason.Reason.TheVariants as reason
 

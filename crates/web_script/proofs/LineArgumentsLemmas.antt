@@ -17,10 +17,9 @@ use Rattle.http_uri.specs.Uri.{Spells, SpellsNone, uri_scheme, uri_authority, ur
 use Rattle.web_texts.specs.Cut.{IsCut}
 use Rattle.web_texts.proofs.SplitLemmas.{cut_parts, no_cut}
 use Rattle.web_script.specs.Line.{is_space}
-use Rattle.web_script.specs.ScriptedView.{ScriptedExchangeView}
 use Rattle.web_script.specs.LineArguments.{before_space, after_space, has_space, is_method, is_request, request_fault, target_fault, is_field_name, is_field_value, is_param, param_of}
 use Rattle.web_script.specs.LineFaults.{unless}
-use Rattle.web_script.specs.Reader.{new_exchange}
+use Rattle.web_script.specs.Reader.{bare_exchange, new_exchange}
 use Rattle.web_script.specs.Targets.{Target, IsReading, parts_of, target_of}
 use Rattle.web_script.specs.declared.reason.Reason.{Reason}
 use Rattle.web_script.specs.declared.reason.Reason.TheVariants as reason
@@ -163,13 +162,12 @@ module _ (text method target : List ℕ) (cut : IsCut 32 text method target) whe
   pub no_target : (r : Reason) → has_space target ≡ false → unless (is_method method) reason.BadExchange ≡ None → target_fault (target_of target) ≡ Some r → request_fault text ≡ Some r
   no_target r plain is none = target_tested plain is ∙ none
 
-  pub asked_for : (t : Target) (m : List ℕ) (made : ScriptedExchangeView) → has_space target ≡ false → unless (is_method method) reason.BadExchange ≡ None → m ≡ method
-      → target_fault (target_of target) ≡ None → target_of target ≡ Some t
-      → made ≡ record { method = m; target = t; headers = []; params = []; layers = []; marks = []; local = None; conn = None } → (request_fault text ≡ None) × (made ≡ new_exchange text)
-  asked_for t m made plain is same none reads made_is =
+  pub asked_for : (t : Target) (m : List ℕ) → has_space target ≡ false → unless (is_method method) reason.BadExchange ≡ None → m ≡ method
+      → target_fault (target_of target) ≡ None → target_of target ≡ Some t → (request_fault text ≡ None) × (bare_exchange m t ≡ new_exchange text)
+  asked_for t m plain is same none reads =
       let here : target_of (after_space text) ≡ Some t = ap target_of (sym cut.after_is) ∙ reads in
       let named_count : m ≡ before_space text = same ∙ cut.before_is in
-      (target_tested plain is ∙ none, made_is ∙ rw (here, named_count) refl)
+      (target_tested plain is ∙ none, rw (here, named_count) refl)
 
 module _ (text name value : List ℕ) (cut : IsCut 32 text name value) where
   param_is : is_param text ≡ (not (length name == 0) && (is_utf8 name && is_utf8 value))

@@ -11,6 +11,7 @@ use Rattle.web_script.specs.Acceptance.{Accepts}
 use Rattle.web_script.specs.ExchangeSinks.{open_exchanges}
 use Rattle.web_script.specs.Line.{Line}
 use Rattle.web_script.specs.ScriptedView.{ScriptedExchangeView}
+use Rattle.web_script.specs.Targets.{Target}
 use Rattle.web_script.specs.LineFaults.{argument_fault, max_headers}
 use Rattle.web_script.specs.Numbers.{line_number}
 use Rattle.web_script.specs.ScriptExchanges.{line_headers, line_layers, line_marks, line_params}
@@ -81,6 +82,19 @@ reader_fault s w =
 -- why the reader refuses a line
 abbrev pub refusal : ReaderView → Line → Option Reason
 refusal s line = option_or (reader_fault s line.word) (argument_fault line.word line.argument)
+
+-- an exchange without headers, parameters, layers, body and data
+abbrev pub bare_exchange : List ℕ → Target → ScriptedExchangeView
+bare_exchange method target = record {
+  method = method;
+  target = target;
+  headers = [];
+  params = [];
+  layers = [];
+  marks = [];
+  local = None;
+  conn = None;
+}
 
 -- an exchange of which no further line was read
 abbrev pub new_exchange : List ℕ → ScriptedExchangeView

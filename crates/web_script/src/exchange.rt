@@ -4,12 +4,11 @@ ghost use Rattle.web_script.specs.Acceptance.{Accepts};
 ghost use Rattle.web_script.specs.LineArguments.{has_space, is_built, is_method, is_unbuilt};
 ghost use Rattle.web_script.specs.LineArguments.{request_fault, target_fault};
 ghost use Rattle.web_script.specs.LineFaults.{unless};
-ghost use Rattle.web_script.specs.Reader.{new_exchange};
+ghost use Rattle.web_script.specs.Reader.{bare_exchange, new_exchange};
 ghost use Rattle.web_script.specs.Targets.{parts_of, target_of};
 ghost use Rattle.web_script.specs.declared.reason.Reason.TheVariants.{BadExchange};
 
 use crate::layer::LayerSettings;
-use crate::part::part_of;
 use crate::reason::Reason;
 use crate::segment::first_segment;
 use bytes::Bytes;
@@ -118,12 +117,18 @@ fn read_built_target(text: Bytes) -> Result<Uri, Fail<Reason>>
     Ok(uri)
 }
 
-/// The exchange that the argument of an `exchange` line asks for, of which no further line was
-/// read: a method, one space and a target. The target is a part of the argument, which is not
-/// copied.
-pub fn read_request(alloc: Global, text: &Bytes) -> Result<ScriptedExchange, Fail<Reason>>
-    ensures { Accepts result (request_fault text.now)
-        (λ exchange. exchange ≡ new_exchange text.now) }
+/// What an `exchange` line asks for.
+#[derive(Drop)]
+pub struct RequestLine {
+    pub method: Method,
+    pub uri: Uri,
+}
+
+/// The method and the target of the argument of an `exchange` line, with one space between. The
+/// target is what is left of the argument, which is not copied.
+pub fn read_request(alloc: Global, text: Bytes) -> Result<RequestLine, Fail<Reason>>
+    ensures { Accepts result (request_fault text)
+        (λ line. bare_exchange line.method (parts_of line.uri) ≡ new_exchange text) }
 {
     let Some((method, target)) = split_once_at(text.as_slice(), b' ') else {
         return Err(Fail::Of(Reason::BadExchange));
@@ -131,28 +136,23 @@ pub fn read_request(alloc: Global, text: &Bytes) -> Result<ScriptedExchange, Fai
     if has_space(target) {
         return Err(Fail::Of(Reason::BadExchange));
     }
+    let start = text.len() - target.len();
     let method = read_method(alloc, method)?;
-    let uri = read_built_target(part_of(text, text.as_slice(), target)?)?;
-    Ok(ScriptedExchange::new(alloc, method, uri))
+    let mut target = text;
+    target.advance(start);
+    let uri = read_built_target(target)?;
+    Ok(RequestLine { method, uri })
 }
 
 impl ScriptedExchange {
-    ghost use Rattle.std.specs.Prelude.{◌≡◌, ◌∷◌, [], None, OnOk};
+    ghost use Rattle.std.specs.Prelude.{◌≡◌, ◌∷◌, [], OnOk};
+    ghost use Rattle.web_script.specs.Reader.{bare_exchange};
     ghost use Rattle.web_script.specs.Reader.{with_headers, with_layers, with_marks, with_params};
     ghost use Rattle.web_script.specs.Targets.{parts_of};
 
     /// An exchange without headers, parameters, layers, body and data.
     pub fn new(alloc: Global, method: Method, uri: Uri) -> Self
-        ensures { result ≡ record {
-          method = method;
-          target = parts_of uri;
-          headers = [];
-          params = [];
-          layers = [];
-          marks = [];
-          local = None;
-          conn = None;
-        } }
+        ensures { result ≡ bare_exchange method (parts_of uri) }
     {
         ScriptedExchange {
             method,
@@ -174,10 +174,30 @@ impl ScriptedExchange {
         Ok(())
     }
 
-    /// Adds a header after the others of its name.
-    pub fn add_header(&mut self, header: (HeaderName, HeaderValue)) -> Result<(), NoMemory>
+    /// Makes room for the headers, where there are none yet.
+    fn expect_headers(&mut self, names: usize) -> Result<(), NoMemory>
+        ensures { self.new ≡ self.old }
+    {
+        if !self.headers.is_empty() {
+            return Ok(());
+        }
+        // So few names never exceed the greatest size of a map.
+        match self.headers.reserve(names) {
+            Ok(()) => Ok(()),
+            Err(_) => Err(NoMemory),
+        }
+    }
+
+    /// Adds a header after the others of its name. Before the first one there is made room for as
+    /// many names as are expected.
+    pub fn add_header(
+        &mut self,
+        header: (HeaderName, HeaderValue),
+        expected_names: usize,
+    ) -> Result<(), NoMemory>
         ensures { OnOk result (self.new ≡ with_headers (header ∷ []) self.old) }
     {
+        self.expect_headers(expected_names)?;
         let (name, value) = header;
         // So few headers never reach the greatest size of a map.
         match self.headers.append(name, value) {

@@ -8,7 +8,6 @@ ghost use Rattle.web_script.specs.LineArguments.{is_header};
 ghost use Rattle.web_script.specs.LineFaults.{unless};
 ghost use Rattle.web_script.specs.declared.reason.Reason.TheVariants.{BadHeader};
 
-use crate::part::part_of;
 use crate::reason::Reason;
 use bytes::Bytes;
 use http_header::{HeaderName, HeaderNameError, HeaderValue};
@@ -39,13 +38,16 @@ fn read_value(text: Bytes) -> Result<HeaderValue, Fail<Reason>>
 }
 
 /// The header of the argument of a `header` line: a name, and after one space a value. The value
-/// is a part of the argument, which is not copied.
-pub fn read_header(alloc: Global, text: &Bytes) -> Result<(HeaderName, HeaderValue), Fail<Reason>>
-    ensures { Accepts result (unless (is_header text.now) BadHeader)
-        (λ header. header ≡ header_of text.now) }
+/// is what is left of the argument, which is not copied.
+pub fn read_header(alloc: Global, text: Bytes) -> Result<(HeaderName, HeaderValue), Fail<Reason>>
+    ensures { Accepts result (unless (is_header text) BadHeader)
+        (λ header. header ≡ header_of text) }
 {
     let (name, value) = cut_first(text.as_slice(), b' ');
-    let value = read_value(part_of(text, text.as_slice(), value)?)?;
+    let start = text.len() - value.len();
     let name = read_name(alloc, name)?;
+    let mut value = text;
+    value.advance(start);
+    let value = read_value(value)?;
     Ok((name, value))
 }

@@ -1,5 +1,5 @@
 //! A line's word, and where its argument begins.
-ghost use Rattle.std.specs.Prelude.{◌≡◌, ◌≤◌, ◌-◌, length, take, drop};
+ghost use Rattle.std.specs.Prelude.{◌≡◌, ◌≤◌, ◌-◌, ◌++◌, length, take, drop, codes, IfSome};
 ghost use Rattle.std.specs.Str.Lines.{strip_carriage_return};
 ghost use Rattle.web_script.specs.Line.{is_unbuilt, line_of, word_of};
 
@@ -75,6 +75,67 @@ pub fn without_return(line: &[u8]) -> &[u8]
     }
 }
 
+/// What follows `text` and a space.
+fn text_argument(line: &[u8]) -> Option<&[u8]>
+    ensures { IfSome result (λ text. line.now ≡ codes "text " ++ text.now) }
+{
+    match line {
+        [b't', b'e', b'x', b't', b' ', text @ ..] => Some(text),
+        _ => None,
+    }
+}
+
+/// What follows `exchange` and a space.
+fn exchange_argument(line: &[u8]) -> Option<&[u8]>
+    ensures { IfSome result (λ head. line.now ≡ codes "exchange " ++ head.now) }
+{
+    match line {
+        [
+            b'e',
+            b'x',
+            b'c',
+            b'h',
+            b'a',
+            b'n',
+            b'g',
+            b'e',
+            b' ',
+            head @ ..,
+        ] => Some(head),
+        _ => None,
+    }
+}
+
+/// What follows `header` and a space.
+fn header_argument(line: &[u8]) -> Option<&[u8]>
+    ensures { IfSome result (λ header. line.now ≡ codes "header " ++ header.now) }
+{
+    match line {
+        [b'h', b'e', b'a', b'd', b'e', b'r', b' ', header @ ..] => Some(header),
+        _ => None,
+    }
+}
+
+/// What follows `piece` and a space.
+fn piece_argument(line: &[u8]) -> Option<&[u8]>
+    ensures { IfSome result (λ digits. line.now ≡ codes "piece " ++ digits.now) }
+{
+    match line {
+        [b'p', b'i', b'e', b'c', b'e', b' ', digits @ ..] => Some(digits),
+        _ => None,
+    }
+}
+
+/// What follows `layer` and a space.
+fn layer_argument(line: &[u8]) -> Option<&[u8]>
+    ensures { IfSome result (λ settings. line.now ≡ codes "layer " ++ settings.now) }
+{
+    match line {
+        [b'l', b'a', b'y', b'e', b'r', b' ', settings @ ..] => Some(settings),
+        _ => None,
+    }
+}
+
 /// The line's word, and its argument.
 pub fn split_line(line: &[u8]) -> (Word, &[u8])
     ensures word { result.0 ≡ (line_of line.now).word }
@@ -85,6 +146,25 @@ pub fn split_line(line: &[u8]) -> (Word, &[u8])
     if line.is_empty() || line[0] == b'#' {
         return (Word::Skipped, &[]);
     }
+    if let Some(text) = text_argument(line) {
+        return (Word::Text, text);
+    }
+    if let Some(head) = exchange_argument(line) {
+        return (Word::Exchange, head);
+    }
+    if let Some(header) = header_argument(line) {
+        return (Word::Header, header);
+    }
+    if let Some(settings) = layer_argument(line) {
+        return (Word::Layer, settings);
+    }
+    if let Some(digits) = piece_argument(line) {
+        return (Word::Piece, digits);
+    }
+    if bytes_equal(line, b"stall") {
+        return (Word::Stall, &[]);
+    }
+    // The other words are rare enough to look at each of the line's bytes up to the space.
     match split_once_at(line, b' ') {
         Some((name, argument)) => (word_named(name), argument),
         None => (word_named(line), &[]),

@@ -1,6 +1,6 @@
 //! Reads a script line by line, with the exchange that the lines belong to.
-ghost use Rattle.std.specs.Prelude.{◌≡◌, ◌≢◌, ◌≤◌, ◌<◌, ◌^◌, ◌∷◌, [], Some, None, true, false};
-ghost use Rattle.std.specs.Prelude.{nat_le, is_some, length, take, OnOk, IfOk};
+ghost use Rattle.std.specs.Prelude.{◌≡◌, ◌≢◌, ◌⊎◌, ◌≤◌, ◌<◌, ◌^◌, ◌∷◌, [], Some, None, true, false};
+ghost use Rattle.std.specs.Prelude.{nat_le, is_some, length, take, OnOk, IfOk, IfSome};
 ghost use Rattle.std.specs.Option.{ForSome, option_map};
 ghost use Rattle.std.specs.Result.{is_ok, result_unwrap_or};
 ghost use Rattle.std.specs.Str.Lines.{strip_carriage_return};
@@ -11,7 +11,7 @@ ghost use Rattle.web_script.specs.declared.reason.Reason.TheVariants.{BadLayer, 
 ghost use Rattle.web_script.specs.declared.reason.Reason.TheVariants.{BadPiece};
 
 use crate::entries::read_entries;
-use crate::exchange::{ScriptedExchange, read_request};
+use crate::exchange::{RequestLine, ScriptedExchange, read_request};
 use crate::header::read_header;
 use crate::layer::read_layer;
 use crate::line::{Word, split_line, without_return};
@@ -38,6 +38,8 @@ pub struct Reader {
     has_fault: bool,
     has_plan: bool,
     plan: Vec<u32>,
+    /// How many names of headers the exchange before the open one has. As many are expected again.
+    expected_names: usize,
 }
 
 impl Model for Reader {
@@ -76,6 +78,17 @@ impl Reader {
             has_fault: false,
             has_plan: false,
             plan: Vec::new(alloc),
+            expected_names: 0,
+        }
+    }
+
+    /// How many names the headers of the open exchange have.
+    fn name_count(&self) -> usize
+        ensures { IfSome self.now.open_exchange (λ e. result ≡ length e.headers) }
+    {
+        match &self.open_exchange {
+            Some(exchange) => exchange.headers.keys_len(),
+            None => 0,
         }
     }
 
@@ -146,17 +159,17 @@ impl Reader {
         }
     }
 
-    fn add_header(&mut self, alloc: Global, text: &Bytes) -> Result<(), Fail<Reason>>
-        ensures { Accepts result (unless (is_header text.now) BadHeader)
+    fn add_header(&mut self, alloc: Global, text: Bytes) -> Result<(), Fail<Reason>>
+        ensures { Accepts result (unless (is_header text) BadHeader)
             (λ _. self.new ≡ record self.old {
               open_exchange = option_map
-                  (with_headers (header_of text.now ∷ []))
+                  (with_headers (header_of text ∷ []))
                   self.old.open_exchange;
             }) }
     {
         let header = read_header(alloc, text)?;
         if let Some(exchange) = &mut self.open_exchange {
-            exchange.add_header(header)?;
+            exchange.add_header(header, self.expected_names)?;
         }
         Ok(())
     }
@@ -225,20 +238,22 @@ impl Reader {
     fn begin_exchange<S: ExchangeSink>(
         &mut self,
         alloc: Global,
-        head: &Bytes,
+        head: Bytes,
         sink: &mut S,
     ) -> Result<(), Fail<Reason>>
         requires body { ForSome self.old.open_exchange (λ e. is_body e.marks ≡ true) }
         requires small { ForSome self.old.open_exchange
             (λ e. length (piece_bytes e.marks) < 2 ^ 63) }
-        ensures reader { Accepts result (request_fault head.now) (λ _. self.new ≡ record self.old {
-          open_exchange = Some (new_exchange head.now);
+        ensures reader { Accepts result (request_fault head) (λ _. self.new ≡ record self.old {
+          open_exchange = Some (new_exchange head);
           has_fault = false;
         }) }
         ensures added { OnOk result
             (Adds S.holds sink.old sink.new (open_exchanges self.old.open_exchange)) }
     {
-        let exchange = read_request(alloc, head)?;
+        let RequestLine { method, uri } = read_request(alloc, head)?;
+        self.expected_names = self.name_count();
+        let exchange = ScriptedExchange::new(alloc, method, uri);
         let before = self.open_exchange.replace(exchange);
         self.has_fault = false;
         Ok(add_open(alloc, sink, before)?)
@@ -278,6 +293,30 @@ impl Reader {
         Ok(())
     }
 
+    /// Reads a line of one of the words whose argument is kept as a part of the script.
+    fn add_part<S: ExchangeSink>(
+        &mut self,
+        alloc: Global,
+        word: Word,
+        argument: Bytes,
+        sink: &mut S,
+    ) -> Result<(), Fail<Reason>>
+        requires word { (word ≡ Exchange) ⊎ ((word ≡ Header) ⊎ (word ≡ Text)) }
+        requires body { ForSome self.old.open_exchange (λ e. is_body e.marks ≡ true) }
+        requires small { ForSome self.old.open_exchange
+            (λ e. length (piece_bytes e.marks) < 2 ^ 63) }
+        ensures reader { Accepts result (argument_fault word argument)
+            (λ _. self.new ≡ after_line self.old word argument) }
+        ensures added { OnOk result
+            (Adds S.holds sink.old sink.new (completed_by self.old word)) }
+    {
+        match word {
+            Word::Exchange => self.begin_exchange(alloc, argument, sink),
+            Word::Header => self.add_header(alloc, argument),
+            _ => Ok(self.add_piece(argument)?),
+        }
+    }
+
     /// Reads the line of the first `size` bytes. After a faulty line, what the reader and the sink
     /// hold is not specified.
     pub fn read_line<S: ExchangeSink>(
@@ -303,11 +342,9 @@ impl Reader {
             return Err(Fail::Of(reason));
         }
         match word {
-            Word::Exchange => {
-                self.begin_exchange(alloc, &part_of(script, line, argument)?, sink)
+            Word::Exchange | Word::Header | Word::Text => {
+                self.add_part(alloc, word, part_of(script, line, argument)?, sink)
             }
-            Word::Header => self.add_header(alloc, &part_of(script, line, argument)?),
-            Word::Text => Ok(self.add_piece(part_of(script, line, argument)?)?),
             word => self.add(alloc, word, argument),
         }
     }
@@ -326,6 +363,7 @@ impl Reader {
             has_fault: _,
             has_plan: _,
             plan,
+            expected_names: _,
         } = self;
         add_open(alloc, sink, open_exchange)?;
         Ok(plan)
