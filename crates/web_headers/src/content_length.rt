@@ -49,8 +49,8 @@ impl ReadText for ContentLength {
 
     ghost reads = { λ text. option_map (λ n. record { 0 = n }) (length_of text) };
 
-    /// Reads a number in decimal digits of at most 2^64 - 1, with blanks around it. `NoMemory` never
-    /// comes.
+    /// Reads a number in decimal digits of at most 2^64 - 1, with blanks around it. `NoMemory`
+    /// never comes.
     fn parse(_alloc: Global, text: &str) -> Result<ContentLength, Fail<ParseError>>
         ensures value { Reads result
             (option_map (λ n. record { 0 = n }) (length_of text.now)) }
