@@ -6,18 +6,26 @@
 //! serve exchanges by the handlers (`serving`).
 #![tactic(auto)]
 
+mod booking;
+mod booking_handlers;
+mod booking_layer;
 mod echo;
 mod flight_rounds;
 mod hello;
+mod relay;
 mod request_path;
 mod second_poll;
 mod serving;
 #[cfg(test)]
 mod tests;
 
+pub use booking::Booking;
+pub use booking_handlers::{serve_form_bookings, serve_json_bookings};
+pub use booking_layer::{BookingLayer, Bookings, PlainText, Unprocessable};
 pub use echo::Echo;
 pub use flight_rounds::poll_rounds;
 pub use hello::{Site, serve_hello};
+pub use relay::{Relay, serve_relay};
 pub use request_path::RequestPath;
 pub use second_poll::{Greeter, SecondPoll};
 pub use serving::{Outcomes, serve_by_closure, serve_echo, serve_greeting};
