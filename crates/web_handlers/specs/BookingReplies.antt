@@ -14,8 +14,10 @@ use Rattle.web_types.specs.JsonArgument.{json_result}
 use Rattle.web_types.specs.declared.form_value.Form.{Form}
 use Rattle.web_types.specs.declared.json_value.Json.{Json}
 use Rattle.web_worker.specs.Exchanges.{ExchangeView, request_of}
-use Rattle.web_handlers.specs.BookingLayers.{configurations_of, form_refusal, is_plain_text, json_refusal}
-use Rattle.web_handlers.specs.Bookings.{booking_of_json, booking_of_pairs, json_of_booking, pairs_of_booking}
+use Rattle.web_handlers.specs.BookingLayers.{configurations_of, form_refusal}
+use Rattle.web_handlers.specs.BookingLayers.{is_plain_text, json_refusal}
+use Rattle.web_handlers.specs.Bookings.{booking_of_json, booking_of_pairs}
+use Rattle.web_handlers.specs.Bookings.{json_of_booking, pairs_of_booking}
 use Rattle.web_handlers.specs.Examples.{marks_or_none}
 use Rattle.web_handlers.specs.declared.booking.Booking.{Booking}
 use Rattle.web_handlers.specs.declared.booking_layer.BookingLayer.{BookingLayer}

@@ -2,8 +2,10 @@
 //!
 //! Each file is an example by itself: one request from end to end (`hello`), a handler that keeps
 //! its calls (`echo`), a future of one's own (`second_poll`), an argument of one's own
-//! (`request_path`), a loop of one's own over flights (`flight_rounds`), and the functions that
-//! serve exchanges by the handlers (`serving`).
+//! (`request_path`), a loop of one's own over flights (`flight_rounds`), the functions that serve
+//! exchanges by the handlers (`serving`), a type that is read from JSON and forms (`booking`), a
+//! layer that configures how (`booking_layer`), its handlers (`booking_handlers`), and the handler
+//! of a proxy (`relay`).
 #![tactic(auto)]
 
 mod booking;
