@@ -58,10 +58,9 @@ module _ {S L D C U W : Type 0} (feed : S → Feed)
   came : (q : Request L D C) (m : List Mark) (body : Payload S) → (payload_feed feed body).marks ≡ Some m
       → (rest : List Mark) (n : ℕ) (x : Result (Record L D C × Payload S) Fault) → Arguments q m rest n x
       → (n ≡ 0) × Came q m x
-  came q m body has rest n (Ok v) (left, n1, n2, (all, first, is), (none, second, is_unread), at) = (
+  came q m body has rest n (Ok v) (left, (n1, n2, (all, first, is), (none, second, is_unread), at)) = (
     omega (arith, first, second, at),
-    is,
-    unread feed left body (has ∙ ap Some (sym all)) (Ok v.1) is_unread ∙ ap Some all,
+    (is, unread feed left body (has ∙ ap Some (sym all)) (Ok v.1) is_unread ∙ ap Some all),
   )
   came q m body has rest n (Err f) (left, inl ((e, (all, first, is), turns), need)) = absurd is
   came q m body has rest n (Err f) (left, inr ((e, (none, second, is_unread), turns), need)) =
