@@ -1,6 +1,6 @@
 -- Handlers that respond at once with their argument, which allows exactly one result.
 use Rattle.std.proofs.Common.{◌≡◌, ℕ, ◌<◌, List, arith, ap, ◌∙◌}
-use Rattle.std.specs.Prelude.{Result, Ok, Err}
+use Rattle.std.specs.Prelude.{Option, None, Some, Result, Ok, Err}
 use Rattle.web_request.specs.declared.source.Mark.{Mark}
 use Rattle.web_request.specs.Feed.{Feed}
 use Rattle.web_request.specs.Pool.{Pool}
@@ -10,6 +10,7 @@ use Rattle.web_reply.specs.ResponseBodies.{Plain}
 use Rattle.web_reply.specs.Replies.{Fault, Reply}
 use Rattle.web_extract.specs.ListMeanings.{Meaning}
 use Rattle.web_extract.specs.ListResults.{DelayedResult, Exactly}
+use Rattle.web_extract.specs.ReadyFuture.{GivesHeld}
 use Rattle.web_worker.specs.ExchangeRules.{Replies, RepliesBefore}
 use Rattle.web_worker.specs.Exchanges.{ExchangeView, request_of}
 use Rattle.web_worker.specs.OutcomeFunctions.{AnswersOnce}
@@ -17,6 +18,12 @@ use Rattle.web_worker.specs.Setting.{Setting, setting_of}
 use Rattle.web_handlers.specs.BookingReplies.{reply_or_error}
 use Rattle.web_handlers.specs.Examples.{IsTold, marks_or_none}
 use Rattle.web_handlers.proofs.ToldBodiesLemmas.{comes_before, is_told, once_told}
+
+-- a future that holds a value gives it at once, and nothing else
+pub holds_only : {V : Type 0} (f : Option V) (v : V) (n : ℕ) (y : V) → f ≡ Some v → GivesHeld f n y
+    → (n ≡ 0) × (y ≡ v)
+holds_only None v n y e gives = absurd cc
+holds_only (Some w) v n y e gives = (gives.0, cc)
 
 module _ {S L D C V U W : Type 0} (means : Request L D C → Meaning V)
     (answers : V → ℕ → V → Type 0)
