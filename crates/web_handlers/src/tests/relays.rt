@@ -11,17 +11,18 @@ use std::alloc::Global;
 use std::process::Abort;
 use std::rc::Rc;
 use web_body::{Marks, Payload};
-use web_reply::BoxBody;
-use web_request::{NoData, Turn};
+use web_reply::{BoxBody, HttpResponse};
+use web_request::{App, NoData, Turn};
 use web_worker::{Exchange, Outcome, Worker};
 
-/// The values of Content-Type and of Content-Encoding of a request, and the values that the reply
-/// has of both.
+/// The values of Content-Type and of Content-Encoding of a request, the values that the reply has
+/// of both, and how many headers it has.
 type Row = (
     &'static [&'static str],
     &'static [&'static str],
     Option<&'static [u8]>,
     Option<&'static [u8]>,
+    usize,
 );
 
 const ROWS: &[Row] = &[
@@ -30,10 +31,11 @@ const ROWS: &[Row] = &[
         &["gzip"],
         Some(b"text/csv"),
         Some(b"gzip"),
+        2,
     ),
-    (&[], &["br", "gzip"], None, Some(b"br")),
-    (&["text/csv"], &[], Some(b"text/csv"), None),
-    (&[], &[], None, None),
+    (&[], &["br", "gzip"], None, Some(b"br"), 1),
+    (&["text/csv"], &[], Some(b"text/csv"), None, 1),
+    (&[], &[], None, None, 0),
 ];
 
 fn append_values(
@@ -118,16 +120,22 @@ fn assert_body(rt: &impl Abort, body: BoxBody<Marks>) {
     }
 }
 
-fn assert_row(rt: &impl Abort, alloc: Global, row: &Row) {
-    let mut outcomes = served(rt, alloc, row).ok().expect(rt, "memory");
+/// The reply of the last outcome.
+fn last_reply<A: App>(
+    rt: &impl Abort,
+    mut outcomes: Vec<Outcome<A>>,
+) -> HttpResponse<BoxBody<A::Source>> {
     match outcomes.pop() {
-        Some(Outcome::Reply(reply)) => {
-            let count = usize::from(row.2.is_some()) + usize::from(row.3.is_some());
-            assert_same(rt, shown(reply.headers()), (row.2, row.3, count));
-            assert_body(rt, reply.into_body());
-        }
+        Some(Outcome::Reply(reply)) => reply,
         _ => panic!(rt; "a reply"),
     }
+}
+
+fn assert_row(rt: &impl Abort, alloc: Global, row: &Row) {
+    let outcomes = served(rt, alloc, row).ok().expect(rt, "memory");
+    let reply = last_reply(rt, outcomes);
+    assert_same(rt, shown(reply.headers()), (row.2, row.3, row.4));
+    assert_body(rt, reply.into_body());
 }
 
 #[test]
