@@ -1,9 +1,6 @@
 -- What bookings are answered with.
-use Rattle.std.proofs.Common.{◌≡◌, ap, refl, ◌∙◌}
-use Rattle.std.specs.Prelude.{List, Result, Ok}
-use Rattle.serde_json.specs.Data.{Data}
-use Rattle.web_texts.specs.declared.text.Pair.{Pair}
-use Rattle.web_values.specs.declared.faults.WriteFault.{WriteFault}
+use Rattle.std.proofs.Common.{◌≡◌, ap, ◌∙◌}
+use Rattle.std.specs.Prelude.{Ok}
 use Rattle.web_values.specs.PrintedValues.{printed_form, printed_json}
 use Rattle.web_reply.specs.ResponseBodies.{Plain}
 use Rattle.web_reply.specs.Replies.{Reply}
