@@ -1,8 +1,11 @@
 -- Lemmas of the handlers.
+mod BookingLemmas
 mod EchoLemmas
+mod ExactLemmas
 mod FlightLemmas
 mod GreeterLemmas
 mod HelloLemmas
 mod ListingLemmas
+mod RelayLemmas
 mod ToldBodiesLemmas
 mod UntoldArgumentsLemmas

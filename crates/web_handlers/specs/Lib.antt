@@ -1,3 +1,7 @@
 -- The definitions of the examples.
+pub mod BookingLayers
+pub mod BookingReplies
+pub mod Bookings
 pub mod Examples
+pub mod Relays
 pub mod SecondPoll

@@ -2,7 +2,9 @@
 mod arguments;
 mod bodies;
 mod body_layers;
+mod bookings;
 mod compare;
 mod poll_order;
+mod relays;
 mod requests;
 mod workers;
