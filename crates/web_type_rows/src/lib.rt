@@ -1,7 +1,7 @@
 //! Tests of `web_types`: JSON values, forms and one of two values as arguments and as responses.
 //! Beside them, what readers make of texts of JSON and of forms.
 //!
-//! Values stand in tables beside what is expected of them, which is written by hand.
+//! Values stand in tables beside what is expected of them, which is never taken from the program.
 #![tactic(auto)]
 
 #[cfg(test)]
