@@ -10,6 +10,7 @@ use std::alloc::Global;
 use std::process::Abort;
 use web_body::{JsonPayloadError, UrlencodedError};
 use web_decoders::{ByFn, FormConfig, JsonConfig};
+use web_extract::Configs;
 use web_reply::{Cause, Error};
 use web_request::{NoMemory, RequestHead};
 use web_texts::{Mime, Text};
@@ -67,51 +68,18 @@ fn form_config<G: Fn(UrlencodedError, &RequestHead) -> Result<Error, NoMemory> +
     }
 }
 
-/// Compares what comes of requests under a layer of these closures.
-fn assert_configured<
-    F: Fn(JsonPayloadError, &RequestHead) -> Result<Error, NoMemory> + Drop,
-    G: Fn(UrlencodedError, &RequestHead) -> Result<Error, NoMemory> + Drop,
-    P: Fn(&Mime) -> bool + Drop,
->(rt: &impl Abort, alloc: Global, on_json: F, on_form: G, json_type: P, row: &Row)
-    requires json { F.IsAlwaysCallable on_json }
-    requires form { G.IsAlwaysCallable on_form }
-    requires json_type { P.IsAlwaysCallable json_type }
+/// Compares what comes of a row's request under a layer.
+fn assert_layer<L: Configs>(rt: &impl Abort, alloc: Global, layer: L, row: &Row)
+    requires { L.ready layer }
 {
-    let layer = ClosureLayer {
-        json: json_config(row, on_json, json_type),
-        form: form_config(row, on_form),
-    };
     let request = request_of(rt, alloc, layer, [row.content_type, row.content_length]);
-    assert_first::<Site<ClosureLayer<F, G, P>>, Json<Item>>(
-        rt, alloc, &request, row.body, row.json,
-    );
-    assert_first::<Site<ClosureLayer<F, G, P>>, Form<Item>>(
-        rt, alloc, &request, row.body, row.form,
-    );
+    assert_first::<Site<L>, Json<Item>>(rt, alloc, &request, row.body, row.json);
+    assert_first::<Site<L>, Form<Item>>(rt, alloc, &request, row.body, row.form);
 }
 
 /// The error of a status with a text.
 fn custom(status: StatusCode, text: Text) -> Error {
     Error::from(Cause::Custom { status, text })
-}
-
-/// The same, where the handlers answer the text of the refusal with the status 418 and 409, and the
-/// media type `text/x-json` is read.
-fn assert_handled(rt: &impl Abort, alloc: Global, row: &Row) {
-    assert_configured(
-        rt,
-        alloc,
-        |fault: JsonPayloadError, _head: &RequestHead| {
-            let text = Text::from(fault.to_string(alloc)?);
-            Ok(custom(StatusCode::IM_A_TEAPOT, text))
-        },
-        |fault: UrlencodedError, _head: &RequestHead| {
-            let text = Text::from(fault.to_string(alloc)?);
-            Ok(custom(StatusCode::CONFLICT, text))
-        },
-        |media_type: &Mime| media_type.essence() == "text/x-json",
-        row,
-    );
 }
 
 const ITEM: &[u8] = b"{\"name\":\"ab\",\"n\":7}";
@@ -203,10 +171,44 @@ const ROWS: &[Row] = &[
     },
 ];
 
+/// Compares what comes of rows' requests under a layer of these closures.
+fn assert_closures<
+    F: Fn(JsonPayloadError, &RequestHead) -> Result<Error, NoMemory> + Drop,
+    G: Fn(UrlencodedError, &RequestHead) -> Result<Error, NoMemory> + Drop,
+    P: Fn(&Mime) -> bool + Drop,
+>(rt: &impl Abort, alloc: Global, on_json: F, on_form: G, json_type: P, row: &Row)
+    requires json { F.IsAlwaysCallable on_json }
+    requires form { G.IsAlwaysCallable on_form }
+    requires json_type { P.IsAlwaysCallable json_type }
+{
+    let json = json_config(row, on_json, json_type);
+    let form = form_config(row, on_form);
+    assert_layer(rt, alloc, ClosureLayer { json, form }, row);
+}
+
+/// The closures answer the text of the refusal with the statuses 418 and 409, and read the media type
+/// `text/x-json`.
+fn assert_row(rt: &impl Abort, alloc: Global, row: &Row) {
+    assert_closures(
+        rt,
+        alloc,
+        move |fault: JsonPayloadError, _head: &RequestHead| {
+            let text = Text::from(fault.to_string(alloc)?);
+            Ok(custom(StatusCode::IM_A_TEAPOT, text))
+        },
+        move |fault: UrlencodedError, _head: &RequestHead| {
+            let text = Text::from(fault.to_string(alloc)?);
+            Ok(custom(StatusCode::CONFLICT, text))
+        },
+        |media_type: &Mime| media_type.essence() == "text/x-json",
+        row,
+    );
+}
+
 #[test]
 fn closures_answer_refusals_and_allow_types(rt: HostRuntime) {
     let alloc = rt.alloc();
     for row in ROWS {
-        assert_handled(&rt, alloc, row);
+        assert_row(&rt, alloc, row);
     }
 }
