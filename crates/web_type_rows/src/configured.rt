@@ -186,8 +186,8 @@ fn assert_closures<
     assert_layer(rt, alloc, ClosureLayer { json, form }, row);
 }
 
-/// The closures answer the text of the refusal with the statuses 418 and 409, and read the media type
-/// `text/x-json`.
+/// The closures answer the text of the refusal with the statuses 418 and 409, and read the media
+/// type `text/x-json`.
 fn assert_row(rt: &impl Abort, alloc: Global, row: &Row) {
     assert_closures(
         rt,

@@ -149,10 +149,6 @@ const JSON_ROWS: &[Row] = &[
         Err("float"),
     ),
     (
-        b"{ \"name\":799,\"n\":-0,\"\\ud800\\udc00\":{\t\"\":  true,\"\\u0001\\u001f\\u000b\":null,\"\\udbff\\udfff\": null}}",
-        Err("float"),
-    ),
-    (
         b"{\"n\":7,\"name\":\"\xc3\xaf\"}\n",
         Ok(("ï", 7, "{\"n\":7,\"name\":\"ï\"}")),
     ),
