@@ -1,9 +1,10 @@
 //! Data, the parts of the head, the request and its payload as arguments.
 use crate::compare::{assert_holds, assert_same};
-use crate::header_arguments::{first_of, new_payload};
+use crate::header_arguments::first_of;
 use crate::layered_requests::{
     Layer, Layered, Parts, Visits, assert_refusal, layered_request, targeted,
 };
+use bytes::Bytes;
 use http::Method;
 use http_uri::Uri;
 use std::alloc::Global;
@@ -11,7 +12,7 @@ use std::process::Abort;
 use web_body::{Marks, Payload};
 use web_extract::FromRequest;
 use web_reply::Error;
-use web_request::{Data, HttpRequest, ReqData, Turn};
+use web_request::{Data, HttpRequest, Mark, ReqData, Turn};
 
 /// A layer with this number.
 fn numbered(rt: &impl Abort, alloc: Global, number: Option<u64>) -> Layer {
@@ -121,12 +122,26 @@ fn the_head_and_the_request_are_arguments(rt: HostRuntime) {
     assert_same(&rt, (copy.query_string(), copy.serial()), ("b=c", 0));
 }
 
+/// `ab`, then a stall.
+fn unread(rt: &impl Abort, alloc: Global) -> Payload<Marks> {
+    let marks = vec![in alloc; Mark::Piece(Bytes::from_static(b"ab")), Mark::Stall];
+    Payload::Stream(Marks::new(marks.expect(rt, "memory")))
+}
+
+fn assert_piece(rt: &impl Abort, turn: &Turn, expected: &[u8]) {
+    let agrees = match turn {
+        Turn::Piece(bytes) => bytes.as_slice() == expected,
+        Turn::Stall | Turn::Fault | Turn::End | Turn::NoMemory => false,
+    };
+    assert_holds(rt, "the piece", agrees);
+}
+
 #[test]
 fn a_payload_comes_unread(rt: HostRuntime) {
     let alloc = rt.alloc();
     let parts = targeted("/raw");
     let request = layered_request(&rt, alloc, &parts, Layer::new(), Layer::new());
-    let mut payload = new_payload(&rt, alloc);
+    let mut payload = unread(&rt, alloc);
     let future = <Payload<Marks> as FromRequest<Layered>>::from_request(
         alloc,
         &request,
@@ -135,6 +150,7 @@ fn a_payload_comes_unread(rt: HostRuntime) {
     assert_holds(&rt, "it is taken", matches!(payload, Payload::None));
     let raw = first_of(&rt, alloc, future.expect(&rt, "memory"));
     let mut raw = raw.ok().expect(&rt, "a payload");
+    assert_piece(&rt, &raw.poll_next(), b"ab");
     assert_holds(&rt, "a stall", matches!(raw.poll_next(), Turn::Stall));
     assert_holds(&rt, "the end", matches!(raw.poll_next(), Turn::End));
 }

@@ -27,7 +27,7 @@ fn head_with<T: web_headers::Header>(
 }
 
 /// A body that stalls.
-pub(crate) fn new_payload(rt: &impl Abort, alloc: Global) -> Payload<Marks> {
+fn new_payload(rt: &impl Abort, alloc: Global) -> Payload<Marks> {
     let marks = vec![in alloc; Mark::Stall].expect(rt, "memory");
     Payload::Stream(Marks::new(marks))
 }

@@ -8,6 +8,7 @@ use std::alloc::Global;
 use std::process::Abort;
 use web_body::{Marks, Payload};
 use web_decoders::UrlEncoded;
+use web_request::Mark;
 
 /// A head over the body `ab`: its Content-Type, Content-Length and Content-Encoding, two limits,
 /// the error that is expected, or `read`, and whether the payload is left.
@@ -154,5 +155,43 @@ fn a_head_is_tested_before_its_form(rt: HostRuntime) {
     let alloc = rt.alloc();
     for row in HEADS {
         assert_head(&rt, alloc, row);
+    }
+}
+
+/// `a=`, `123`, a stall, `45`.
+fn in_pieces(rt: &impl Abort, alloc: Global) -> Payload<Marks> {
+    let marks = vec![in alloc;
+        Mark::Piece(Bytes::from_static(b"a=")),
+        Mark::Piece(Bytes::from_static(b"123")),
+        Mark::Stall,
+        Mark::Piece(Bytes::from_static(b"45")),
+    ];
+    Payload::Stream(Marks::new(marks.expect(rt, "memory")))
+}
+
+/// Collects that form under a limit, and compares what the first poll gives.
+fn assert_pieces(rt: &impl Abort, alloc: Global, limit: usize, expected: &str) {
+    let request = request_of(rt, alloc, &[FORM, None, None]);
+    let mut payload = in_pieces(rt, alloc);
+    let body = UrlEncoded::new(alloc, &request, &mut payload).expect(rt, "memory");
+    let text = first_text(rt, alloc, limited(body, Some(limit)));
+    assert_text(rt, text.as_str(), &payload, (expected, false));
+}
+
+#[test]
+fn a_form_is_as_large_as_the_pieces_that_pass_its_limit(rt: HostRuntime) {
+    let alloc = rt.alloc();
+    for (limit, expected) in [
+        (
+            1,
+            "URL encoded payload is larger (2 bytes) than allowed (limit: 1 bytes).",
+        ),
+        (
+            4,
+            "URL encoded payload is larger (5 bytes) than allowed (limit: 4 bytes).",
+        ),
+        (5, "pending"),
+    ] {
+        assert_pieces(&rt, alloc, limit, expected);
     }
 }
