@@ -12,8 +12,9 @@ mod writing;
 pub use serving::{run, run_program};
 pub use status::Status;
 pub use web_demo::{
-    Answer, Answering, Delayed, Demo, DemoConn, DemoFlights, DemoHandler, DemoLayer, DemoLocal,
-    Late, LateFuture, Picked, PickedFuture, Wait, demo_law, picked_law,
+    Answer, Answering, DataArguments, Delayed, Demo, DemoConn, DemoFlights, DemoHandler, DemoLayer,
+    DemoLocal, DemoOutput, Item, Late, LateFuture, Picked, PickedFuture, RawBody, Wait, demo_law,
+    picked_law,
 };
 pub use web_io::{
     Input, MemInput, MemOutput, Output, PlainInput, PlainOutput, ReadAnswer, ReadWhole,

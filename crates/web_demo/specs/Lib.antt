@@ -1,5 +1,6 @@
 pub mod ArgumentMeanings
 pub mod BodyArguments
+pub mod BoxedFutures
 pub mod Choices
 pub mod DelayedValue
 pub mod DemoArguments

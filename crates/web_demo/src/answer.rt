@@ -1,4 +1,4 @@
-//! The output of the handler.
+//! What the handler responds with.
 ghost use Rattle.std.specs.Prelude.{◌≡◌, ◌∷◌, [], IfOk, OnOk, codes};
 ghost use Rattle.http_header.specs.FieldValue.{plain_value};
 ghost use Rattle.web_reply.specs.Replies.{plain_reply};
@@ -11,13 +11,13 @@ use http::StatusCode;
 use http_header::{CONTENT_TYPE, HeaderMap, HeaderValue};
 use std::alloc::Global;
 use web_body::Marks;
-use web_demo_layers::{Demo, Item};
+use web_demo_layers::Item;
 use web_reply::{BoxBody, Done, Error, HttpResponse, Responder};
-use web_request::{HttpRequest, NoMemory};
+use web_request::{App, HttpRequest, NoMemory};
 use web_texts::Text;
-use web_types::{Form, Json};
+use web_types::{Either, Form, Json};
 
-/// The output of the handler.
+/// A value that the handler responds with.
 #[derive(Drop)]
 pub enum Answer {
     /// A 200 with these bytes.
@@ -28,13 +28,14 @@ pub enum Answer {
     Json(Item),
     /// A 200 with this item as a form.
     Form(Item),
-    /// A 200 with what is left of this body, as a stream of bytes.
-    Raw(RawBody),
     /// An empty 204, as `Done(Ok(()))` responds.
     Done,
     /// An empty 404, as `None` responds.
     None,
 }
+
+/// The output of the handler: an answer, or a response that was made.
+pub type DemoOutput = Either<Answer, HttpResponse<BoxBody<Marks>>>;
 
 /// Puts the content type of bytes into an empty map.
 fn put_octet_stream(headers: &mut HeaderMap<HeaderValue>) -> Result<(), NoMemory>
@@ -52,7 +53,10 @@ fn put_octet_stream(headers: &mut HeaderMap<HeaderValue>) -> Result<(), NoMemory
 }
 
 /// A 200 with what is left of this body, as a stream of bytes.
-fn raw_response(alloc: Global, body: RawBody) -> Result<HttpResponse<BoxBody<Marks>>, NoMemory>
+pub(crate) fn raw_response(
+    alloc: Global,
+    body: RawBody,
+) -> Result<HttpResponse<BoxBody<Marks>>, NoMemory>
     ensures { IfOk result (λ reply.
         plain_reply (λ b. box_plain (λ feed. feed) b) reply ≡ raw_reply body) }
 {
@@ -66,13 +70,13 @@ fn raw_response(alloc: Global, body: RawBody) -> Result<HttpResponse<BoxBody<Mar
 }
 
 /// A 200 with this item as JSON.
-fn json_response(
+fn json_response<A: App>(
     alloc: Global,
     item: Item,
-    req: &HttpRequest<Demo>,
-) -> Result<HttpResponse<BoxBody<Marks>>, NoMemory>
+    req: &HttpRequest<A>,
+) -> Result<HttpResponse<BoxBody<A::Source>>, NoMemory>
     ensures { IfOk result (λ reply.
-        plain_reply (λ b. box_plain (λ feed. feed) b) reply ≡ json_reply item) }
+        plain_reply (λ b. box_plain A.Source.feed b) reply ≡ json_reply item) }
 {
     Json(item)
         .respond_to(alloc, req)?
@@ -80,23 +84,23 @@ fn json_response(
 }
 
 /// A 200 with this item as a form.
-fn form_response(
+fn form_response<A: App>(
     alloc: Global,
     item: Item,
-    req: &HttpRequest<Demo>,
-) -> Result<HttpResponse<BoxBody<Marks>>, NoMemory>
+    req: &HttpRequest<A>,
+) -> Result<HttpResponse<BoxBody<A::Source>>, NoMemory>
     ensures { IfOk result (λ reply.
-        plain_reply (λ b. box_plain (λ feed. feed) b) reply ≡ form_reply item) }
+        plain_reply (λ b. box_plain A.Source.feed b) reply ≡ form_reply item) }
 {
     Form(item)
         .respond_to(alloc, req)?
         .map_into_boxed_body(alloc)
 }
 
-impl Responder<Demo> for Answer {
+impl<A: App> Responder<A> for Answer {
     ghost use Rattle.web_demo.specs.DemoReplies.{AnswerNeedsNoMemory, answer_reply};
 
-    type Body = BoxBody<Marks>;
+    type Body = BoxBody<A::Source>;
 
     ghost responds = { λ answer q r. r ≡ answer_reply answer };
 
@@ -105,14 +109,13 @@ impl Responder<Demo> for Answer {
     fn respond_to(
         self,
         alloc: Global,
-        req: &HttpRequest<Demo>,
-    ) -> Result<HttpResponse<BoxBody<Marks>>, NoMemory> {
+        req: &HttpRequest<A>,
+    ) -> Result<HttpResponse<BoxBody<A::Source>>, NoMemory> {
         match self {
             Answer::Bytes(bytes) => bytes.respond_to(alloc, req)?.map_into_boxed_body(alloc),
             Answer::Text(text) => text.respond_to(alloc, req)?.map_into_boxed_body(alloc),
             Answer::Json(item) => json_response(alloc, item, req),
             Answer::Form(item) => form_response(alloc, item, req),
-            Answer::Raw(body) => raw_response(alloc, body),
             Answer::Done => {
                 let done: Done<Error> = Done(Ok(()));
                 done.respond_to(alloc, req)?.map_into_boxed_body(alloc)

@@ -1,7 +1,7 @@
 //! The future of the handler.
 ghost use Rattle.std.specs.Prelude.{◌≡◌, Some};
 
-use crate::answer::Answer;
+use crate::answer::DemoOutput;
 use crate::delayed::Delayed;
 use std::alloc::Global;
 use std::marker::Model;
@@ -10,25 +10,25 @@ use web_body::{Poll, Step};
 /// The output of the handler, after as many polls as it waits.
 #[derive(Drop)]
 pub struct Answering {
-    delayed: Delayed<Answer>,
+    delayed: Delayed<DemoOutput>,
 }
 
 impl Model for Answering {
     ghost use Rattle.web_demo.specs.DelayedValue.{DelayedView};
-    ghost use Rattle.web_demo.specs.declared.answer.Answer.{Answer};
+    ghost use Rattle.web_demo.specs.DemoReplies.{Output};
 
-    ghost Value = { DelayedView Answer };
+    ghost Value = { DelayedView Output };
 
     ghost view = { λ f. f.delayed };
 }
 
 impl Answering {
     /// The output after `wait` polls that return `Pending`.
-    pub fn new(wait: u64, answer: Answer) -> Answering
-        ensures { result ≡ record { left = wait; value = Some answer } }
+    pub fn new(wait: u64, output: DemoOutput) -> Answering
+        ensures { result ≡ record { left = wait; value = Some output } }
     {
         Answering {
-            delayed: Delayed::new(wait, answer),
+            delayed: Delayed::new(wait, output),
         }
     }
 }
@@ -39,7 +39,7 @@ impl Poll for Answering {
     ghost use Rattle.web_body.specs.PollSteps.{Ends, IfReady, Shifts};
     ghost use Rattle.web_demo.specs.DelayedValue.{CountsDown, GivesDelayed, delayed_some};
 
-    type Output = Answer;
+    type Output = DemoOutput;
 
     ghost is_finished = { λ f. is_none f.value };
 
@@ -51,7 +51,7 @@ impl Poll for Answering {
         self.delayed.finished()
     }
 
-    fn poll(&mut self, alloc: Global) -> Step<Answer>
+    fn poll(&mut self, alloc: Global) -> Step<DemoOutput>
         requires unfinished { is_none self.old.value ≡ false }
         ensures ends { Ends result (is_none self.new.value) }
         ensures value { IfReady result (λ x. GivesDelayed self.old 0 x) }

@@ -2,8 +2,10 @@
 ghost use Rattle.std.specs.Prelude.{◌≡◌, ◌⊎◌, IfOk, false};
 ghost use Rattle.web_body.specs.Payload.{payload_feed};
 ghost use Rattle.web_extract.specs.Extracts.{Extracts};
+ghost use Rattle.web_demo.specs.BoxedFutures.{GivesOrAll, GivesWithin};
 ghost use Rattle.web_demo.specs.PickedArguments.{MeansDecoded};
 
+use crate::boxed_future::BoxedFuture;
 use crate::choice::DecodedChoice;
 use crate::picked::{FutureOf, Picked};
 use bytes::Bytes;
@@ -21,29 +23,39 @@ type JsonOrForm = EitherFuture<FutureOf<(Json<Item>,)>, FutureOf<(Form<Item>,)>>
 /// The future of an item of the body, in memory of its own.
 #[derive(Drop)]
 pub struct ItemFuture {
-    future: Box<JsonOrForm>,
+    future: BoxedFuture<JsonOrForm>,
 }
 
 impl ItemFuture {
     fn new(alloc: Global, future: JsonOrForm) -> Result<ItemFuture, NoMemory>
-        ensures { IfOk result (λ boxed. boxed.future.value ≡ future) }
+        requires unfinished { ⟦<JsonOrForm as Poll>⟧.is_finished future ≡ false }
+        ensures fresh { IfOk result (λ made. ⟦<ItemFuture as Poll>⟧.is_finished made ≡ false) }
+        ensures gives { IfOk result (λ made. GivesWithin
+            (λ n x. ⟦<ItemFuture as Poll>⟧.gives made n x)
+            (λ n x. ⟦<JsonOrForm as Poll>⟧.gives future n x)) }
     {
         Ok(ItemFuture {
-            future: Box::new(alloc, future)?,
+            future: BoxedFuture::new(alloc, future)?,
         })
     }
 }
 
 impl Poll for ItemFuture {
+    ghost use Rattle.std.specs.Prelude.{Ok};
+    ghost use Rattle.web_demo.specs.BoxedFutures.{gives_or_all_some};
+    ghost use Rattle.web_demo.specs.declared.picked.Picked.TheVariants as picked;
+
     type Output = Result<Picked, Error>;
 
-    ghost is_finished = { λ f. ⟦<JsonOrForm as Poll>⟧.is_finished f.future.value };
+    ghost is_finished = { λ f. ⟦<JsonOrForm as Poll>⟧.is_finished f.future.future.value };
 
-    ghost gives = { λ f n x. ⟦<JsonOrForm as Poll>⟧.gives f.future.value n x };
+    ghost gives = { λ f n x. GivesOrAll
+        (λ k y. ⟦<JsonOrForm as Poll>⟧.gives f.future.future.value k y) n x };
 
-    ghost needs_no_memory = { λ f. ⟦<JsonOrForm as Poll>⟧.needs_no_memory f.future.value };
+    ghost needs_no_memory = { λ f. ⟦<JsonOrForm as Poll>⟧.needs_no_memory f.future.future.value };
 
-    ghost some = { λ f h. ⟦<JsonOrForm as Poll>⟧.some f.future.value h };
+    ghost some = { λ f h. gives_or_all_some
+        (λ k y. ⟦<JsonOrForm as Poll>⟧.gives f.future.future.value k y) (Ok picked.Other) };
 
     fn finished(&self) -> bool {
         self.future.finished()
@@ -59,29 +71,39 @@ type JsonElseForm = FutureOf<(Either<Json<Item>, Form<Item>>,)>;
 /// The future of an item of the body as JSON, and where that is refused as a form, in memory of its own.
 #[derive(Drop)]
 pub struct EitherItemFuture {
-    future: Box<JsonElseForm>,
+    future: BoxedFuture<JsonElseForm>,
 }
 
 impl EitherItemFuture {
     fn new(alloc: Global, future: JsonElseForm) -> Result<EitherItemFuture, NoMemory>
-        ensures { IfOk result (λ boxed. boxed.future.value ≡ future) }
+        requires unfinished { ⟦<JsonElseForm as Poll>⟧.is_finished future ≡ false }
+        ensures fresh { IfOk result (λ made. ⟦<EitherItemFuture as Poll>⟧.is_finished made ≡ false) }
+        ensures gives { IfOk result (λ made. GivesWithin
+            (λ n x. ⟦<EitherItemFuture as Poll>⟧.gives made n x)
+            (λ n x. ⟦<JsonElseForm as Poll>⟧.gives future n x)) }
     {
         Ok(EitherItemFuture {
-            future: Box::new(alloc, future)?,
+            future: BoxedFuture::new(alloc, future)?,
         })
     }
 }
 
 impl Poll for EitherItemFuture {
+    ghost use Rattle.std.specs.Prelude.{Ok};
+    ghost use Rattle.web_demo.specs.BoxedFutures.{gives_or_all_some};
+    ghost use Rattle.web_demo.specs.declared.picked.Picked.TheVariants as picked;
+
     type Output = Result<Picked, Error>;
 
-    ghost is_finished = { λ f. ⟦<JsonElseForm as Poll>⟧.is_finished f.future.value };
+    ghost is_finished = { λ f. ⟦<JsonElseForm as Poll>⟧.is_finished f.future.future.value };
 
-    ghost gives = { λ f n x. ⟦<JsonElseForm as Poll>⟧.gives f.future.value n x };
+    ghost gives = { λ f n x. GivesOrAll
+        (λ k y. ⟦<JsonElseForm as Poll>⟧.gives f.future.future.value k y) n x };
 
-    ghost needs_no_memory = { λ f. ⟦<JsonElseForm as Poll>⟧.needs_no_memory f.future.value };
+    ghost needs_no_memory = { λ f. ⟦<JsonElseForm as Poll>⟧.needs_no_memory f.future.future.value };
 
-    ghost some = { λ f h. ⟦<JsonElseForm as Poll>⟧.some f.future.value h };
+    ghost some = { λ f h. gives_or_all_some
+        (λ k y. ⟦<JsonElseForm as Poll>⟧.gives f.future.future.value k y) (Ok picked.Other) };
 
     fn finished(&self) -> bool {
         self.future.finished()
@@ -100,29 +122,39 @@ type OptionOrResult = EitherFuture<
 /// The future of an item that may be refused, in memory of its own.
 #[derive(Drop)]
 pub struct OptionalFuture {
-    future: Box<OptionOrResult>,
+    future: BoxedFuture<OptionOrResult>,
 }
 
 impl OptionalFuture {
     fn new(alloc: Global, future: OptionOrResult) -> Result<OptionalFuture, NoMemory>
-        ensures { IfOk result (λ boxed. boxed.future.value ≡ future) }
+        requires unfinished { ⟦<OptionOrResult as Poll>⟧.is_finished future ≡ false }
+        ensures fresh { IfOk result (λ made. ⟦<OptionalFuture as Poll>⟧.is_finished made ≡ false) }
+        ensures gives { IfOk result (λ made. GivesWithin
+            (λ n x. ⟦<OptionalFuture as Poll>⟧.gives made n x)
+            (λ n x. ⟦<OptionOrResult as Poll>⟧.gives future n x)) }
     {
         Ok(OptionalFuture {
-            future: Box::new(alloc, future)?,
+            future: BoxedFuture::new(alloc, future)?,
         })
     }
 }
 
 impl Poll for OptionalFuture {
+    ghost use Rattle.std.specs.Prelude.{Ok};
+    ghost use Rattle.web_demo.specs.BoxedFutures.{gives_or_all_some};
+    ghost use Rattle.web_demo.specs.declared.picked.Picked.TheVariants as picked;
+
     type Output = Result<Picked, Error>;
 
-    ghost is_finished = { λ f. ⟦<OptionOrResult as Poll>⟧.is_finished f.future.value };
+    ghost is_finished = { λ f. ⟦<OptionOrResult as Poll>⟧.is_finished f.future.future.value };
 
-    ghost gives = { λ f n x. ⟦<OptionOrResult as Poll>⟧.gives f.future.value n x };
+    ghost gives = { λ f n x. GivesOrAll
+        (λ k y. ⟦<OptionOrResult as Poll>⟧.gives f.future.future.value k y) n x };
 
-    ghost needs_no_memory = { λ f. ⟦<OptionOrResult as Poll>⟧.needs_no_memory f.future.value };
+    ghost needs_no_memory = { λ f. ⟦<OptionOrResult as Poll>⟧.needs_no_memory f.future.future.value };
 
-    ghost some = { λ f h. ⟦<OptionOrResult as Poll>⟧.some f.future.value h };
+    ghost some = { λ f h. gives_or_all_some
+        (λ k y. ⟦<OptionOrResult as Poll>⟧.gives f.future.future.value k y) (Ok picked.Other) };
 
     fn finished(&self) -> bool {
         self.future.finished()

@@ -1,21 +1,23 @@
 //! The handler of the program.
 ghost use Rattle.std.specs.Prelude.{◌≡◌, IfOk, IsOk};
-ghost use Rattle.web_demo.specs.DemoReplies.{AnswersWithoutMemory, answer_of, printed_text};
-ghost use Rattle.web_demo.specs.DemoReplies.{unprinted_answer, wait_of};
+ghost use Rattle.web_demo.specs.DemoReplies.{AnswersWithoutMemory, demo_reply, output_reply};
+ghost use Rattle.web_demo.specs.DemoReplies.{printed_text, unprinted_reply, wait_of};
 
-use crate::answer::Answer;
+use crate::answer::{Answer, DemoOutput, raw_response};
 use crate::answering::Answering;
 use crate::picked::Picked;
 use crate::texts::{accept_text, data_text, either_text, item_text, option_text, result_text};
 use std::alloc::Global;
 use web_request::NoMemory;
 use web_texts::Text;
+use web_types::Either;
 use web_worker::Handler;
 
 /// The handler of the program. What it replies to the arguments of each segment stands in the
 /// command's page.
 ///
-/// `call` needs memory for the texts that it prints. A poll of its future needs none.
+/// `call` needs memory for the texts that it prints and for the response to `/raw`. A poll of its
+/// future needs none.
 #[derive(Debug, Drop)]
 pub struct DemoHandler;
 
@@ -47,29 +49,30 @@ fn printed_text(alloc: Global, picked: &Picked) -> Result<Option<Text>, NoMemory
 }
 
 /// The output for arguments of which nothing is printed.
-fn unprinted_answer(picked: Picked) -> Answer
-    ensures { result ≡ unprinted_answer picked }
+fn unprinted_output(alloc: Global, picked: Picked) -> Result<DemoOutput, NoMemory>
+    ensures value { IfOk result (λ output. output_reply output ≡ unprinted_reply picked) }
+    ensures memory { AnswersWithoutMemory picked → IsOk result }
 {
     match picked {
-        Picked::Bytes(bytes) => Answer::Bytes(bytes),
-        Picked::Text(text) => Answer::Text(text),
-        Picked::Json(json) => Answer::Json(json.into_inner()),
-        Picked::Form(form) => Answer::Form(form.into_inner()),
-        Picked::Raw(body) => Answer::Raw(body),
-        Picked::Both(text, _) => Answer::Text(text),
-        Picked::Wait(_) => Answer::Done,
-        _ => Answer::None,
+        Picked::Bytes(bytes) => Ok(Either::Left(Answer::Bytes(bytes))),
+        Picked::Text(text) => Ok(Either::Left(Answer::Text(text))),
+        Picked::Json(json) => Ok(Either::Left(Answer::Json(json.into_inner()))),
+        Picked::Form(form) => Ok(Either::Left(Answer::Form(form.into_inner()))),
+        Picked::Raw(body) => Ok(Either::Right(raw_response(alloc, body)?)),
+        Picked::Both(text, _) => Ok(Either::Left(Answer::Text(text))),
+        Picked::Wait(_) => Ok(Either::Left(Answer::Done)),
+        _ => Ok(Either::Left(Answer::None)),
     }
 }
 
 /// The output for these arguments. Those that were printed are dropped.
-fn answer_of(alloc: Global, picked: Picked) -> Result<Answer, NoMemory>
-    ensures value { IfOk result (λ answer. answer ≡ answer_of picked) }
+fn output_of(alloc: Global, picked: Picked) -> Result<DemoOutput, NoMemory>
+    ensures value { IfOk result (λ output. output_reply output ≡ demo_reply picked) }
     ensures memory { AnswersWithoutMemory picked → IsOk result }
 {
     match printed_text(alloc, &picked)? {
-        Some(text) => Ok(Answer::Text(text)),
-        None => Ok(unprinted_answer(picked)),
+        Some(text) => Ok(Either::Left(Answer::Text(text))),
+        None => Ok(unprinted_output(alloc, picked)?),
     }
 }
 
@@ -79,11 +82,11 @@ impl Handler<Picked> for DemoHandler {
     ghost use Rattle.web_demo.specs.DelayedValue.{GivesDelayed};
     ghost use Rattle.web_demo.specs.DemoReplies.{HandlerAnswers};
 
-    type Output = Answer;
+    type Output = DemoOutput;
 
     type Future = Answering;
 
-    ghost answers = { λ h picked n answer. HandlerAnswers picked n answer };
+    ghost answers = { λ h picked n output. HandlerAnswers picked n output };
 
     ghost calls = { λ h. None };
 
@@ -94,6 +97,6 @@ impl Handler<Picked> for DemoHandler {
         ensures memory { AnswersWithoutMemory picked → IsOk result }
     {
         let wait = wait_of(&picked);
-        Ok(Answering::new(wait, answer_of(alloc, picked)?))
+        Ok(Answering::new(wait, output_of(alloc, picked)?))
     }
 }

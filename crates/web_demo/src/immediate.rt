@@ -2,8 +2,10 @@
 ghost use Rattle.std.specs.Prelude.{◌≡◌, ◌⊎◌, IfOk, false};
 ghost use Rattle.web_body.specs.Payload.{payload_feed};
 ghost use Rattle.web_extract.specs.Extracts.{Extracts};
+ghost use Rattle.web_demo.specs.BoxedFutures.{GivesOrAll, GivesWithin};
 ghost use Rattle.web_demo.specs.PickedArguments.{MeansImmediate};
 
+use crate::boxed_future::BoxedFuture;
 use crate::choice::ImmediateChoice;
 use crate::picked::{FutureOf, Picked};
 use std::alloc::Global;
@@ -21,29 +23,39 @@ type PathOrQuery = EitherFuture<FutureOf<(Path<Item>,)>, FutureOf<(Query<Item>,)
 /// The future of an item of the parameters or of the query, in memory of its own.
 #[derive(Drop)]
 pub struct ReadFuture {
-    future: Box<PathOrQuery>,
+    future: BoxedFuture<PathOrQuery>,
 }
 
 impl ReadFuture {
     fn new(alloc: Global, future: PathOrQuery) -> Result<ReadFuture, NoMemory>
-        ensures { IfOk result (λ boxed. boxed.future.value ≡ future) }
+        requires unfinished { ⟦<PathOrQuery as Poll>⟧.is_finished future ≡ false }
+        ensures fresh { IfOk result (λ made. ⟦<ReadFuture as Poll>⟧.is_finished made ≡ false) }
+        ensures gives { IfOk result (λ made. GivesWithin
+            (λ n x. ⟦<ReadFuture as Poll>⟧.gives made n x)
+            (λ n x. ⟦<PathOrQuery as Poll>⟧.gives future n x)) }
     {
         Ok(ReadFuture {
-            future: Box::new(alloc, future)?,
+            future: BoxedFuture::new(alloc, future)?,
         })
     }
 }
 
 impl Poll for ReadFuture {
+    ghost use Rattle.std.specs.Prelude.{Ok};
+    ghost use Rattle.web_demo.specs.BoxedFutures.{gives_or_all_some};
+    ghost use Rattle.web_demo.specs.declared.picked.Picked.TheVariants as picked;
+
     type Output = Result<Picked, Error>;
 
-    ghost is_finished = { λ f. ⟦<PathOrQuery as Poll>⟧.is_finished f.future.value };
+    ghost is_finished = { λ f. ⟦<PathOrQuery as Poll>⟧.is_finished f.future.future.value };
 
-    ghost gives = { λ f n x. ⟦<PathOrQuery as Poll>⟧.gives f.future.value n x };
+    ghost gives = { λ f n x. GivesOrAll
+        (λ k y. ⟦<PathOrQuery as Poll>⟧.gives f.future.future.value k y) n x };
 
-    ghost needs_no_memory = { λ f. ⟦<PathOrQuery as Poll>⟧.needs_no_memory f.future.value };
+    ghost needs_no_memory = { λ f. ⟦<PathOrQuery as Poll>⟧.needs_no_memory f.future.future.value };
 
-    ghost some = { λ f h. ⟦<PathOrQuery as Poll>⟧.some f.future.value h };
+    ghost some = { λ f h. gives_or_all_some
+        (λ k y. ⟦<PathOrQuery as Poll>⟧.gives f.future.future.value k y) (Ok picked.Other) };
 
     fn finished(&self) -> bool {
         self.future.finished()
@@ -59,29 +71,39 @@ type HeaderOrRaw = EitherFuture<FutureOf<(Header<Accept>,)>, FutureOf<(Payload<M
 /// The future of the header Accept, or of the body unread, in memory of its own.
 #[derive(Drop)]
 pub struct HeaderFuture {
-    future: Box<HeaderOrRaw>,
+    future: BoxedFuture<HeaderOrRaw>,
 }
 
 impl HeaderFuture {
     fn new(alloc: Global, future: HeaderOrRaw) -> Result<HeaderFuture, NoMemory>
-        ensures { IfOk result (λ boxed. boxed.future.value ≡ future) }
+        requires unfinished { ⟦<HeaderOrRaw as Poll>⟧.is_finished future ≡ false }
+        ensures fresh { IfOk result (λ made. ⟦<HeaderFuture as Poll>⟧.is_finished made ≡ false) }
+        ensures gives { IfOk result (λ made. GivesWithin
+            (λ n x. ⟦<HeaderFuture as Poll>⟧.gives made n x)
+            (λ n x. ⟦<HeaderOrRaw as Poll>⟧.gives future n x)) }
     {
         Ok(HeaderFuture {
-            future: Box::new(alloc, future)?,
+            future: BoxedFuture::new(alloc, future)?,
         })
     }
 }
 
 impl Poll for HeaderFuture {
+    ghost use Rattle.std.specs.Prelude.{Ok};
+    ghost use Rattle.web_demo.specs.BoxedFutures.{gives_or_all_some};
+    ghost use Rattle.web_demo.specs.declared.picked.Picked.TheVariants as picked;
+
     type Output = Result<Picked, Error>;
 
-    ghost is_finished = { λ f. ⟦<HeaderOrRaw as Poll>⟧.is_finished f.future.value };
+    ghost is_finished = { λ f. ⟦<HeaderOrRaw as Poll>⟧.is_finished f.future.future.value };
 
-    ghost gives = { λ f n x. ⟦<HeaderOrRaw as Poll>⟧.gives f.future.value n x };
+    ghost gives = { λ f n x. GivesOrAll
+        (λ k y. ⟦<HeaderOrRaw as Poll>⟧.gives f.future.future.value k y) n x };
 
-    ghost needs_no_memory = { λ f. ⟦<HeaderOrRaw as Poll>⟧.needs_no_memory f.future.value };
+    ghost needs_no_memory = { λ f. ⟦<HeaderOrRaw as Poll>⟧.needs_no_memory f.future.future.value };
 
-    ghost some = { λ f h. ⟦<HeaderOrRaw as Poll>⟧.some f.future.value h };
+    ghost some = { λ f h. gives_or_all_some
+        (λ k y. ⟦<HeaderOrRaw as Poll>⟧.gives f.future.future.value k y) (Ok picked.Other) };
 
     fn finished(&self) -> bool {
         self.future.finished()
@@ -97,29 +119,39 @@ type DataList = FutureOf<(Data<u64>, ReqData<DemoLocal>, HttpRequest<Demo>)>;
 /// The future of the data of the layers and of the request, and of the request, in memory of its own.
 #[derive(Drop)]
 pub struct DataFuture {
-    future: Box<DataList>,
+    future: BoxedFuture<DataList>,
 }
 
 impl DataFuture {
     fn new(alloc: Global, future: DataList) -> Result<DataFuture, NoMemory>
-        ensures { IfOk result (λ boxed. boxed.future.value ≡ future) }
+        requires unfinished { ⟦<DataList as Poll>⟧.is_finished future ≡ false }
+        ensures fresh { IfOk result (λ made. ⟦<DataFuture as Poll>⟧.is_finished made ≡ false) }
+        ensures gives { IfOk result (λ made. GivesWithin
+            (λ n x. ⟦<DataFuture as Poll>⟧.gives made n x)
+            (λ n x. ⟦<DataList as Poll>⟧.gives future n x)) }
     {
         Ok(DataFuture {
-            future: Box::new(alloc, future)?,
+            future: BoxedFuture::new(alloc, future)?,
         })
     }
 }
 
 impl Poll for DataFuture {
+    ghost use Rattle.std.specs.Prelude.{Ok};
+    ghost use Rattle.web_demo.specs.BoxedFutures.{gives_or_all_some};
+    ghost use Rattle.web_demo.specs.declared.picked.Picked.TheVariants as picked;
+
     type Output = Result<Picked, Error>;
 
-    ghost is_finished = { λ f. ⟦<DataList as Poll>⟧.is_finished f.future.value };
+    ghost is_finished = { λ f. ⟦<DataList as Poll>⟧.is_finished f.future.future.value };
 
-    ghost gives = { λ f n x. ⟦<DataList as Poll>⟧.gives f.future.value n x };
+    ghost gives = { λ f n x. GivesOrAll
+        (λ k y. ⟦<DataList as Poll>⟧.gives f.future.future.value k y) n x };
 
-    ghost needs_no_memory = { λ f. ⟦<DataList as Poll>⟧.needs_no_memory f.future.value };
+    ghost needs_no_memory = { λ f. ⟦<DataList as Poll>⟧.needs_no_memory f.future.future.value };
 
-    ghost some = { λ f h. ⟦<DataList as Poll>⟧.some f.future.value h };
+    ghost some = { λ f h. gives_or_all_some
+        (λ k y. ⟦<DataList as Poll>⟧.gives f.future.future.value k y) (Ok picked.Other) };
 
     fn finished(&self) -> bool {
         self.future.finished()

@@ -2,7 +2,7 @@
 ghost use Rattle.web_demo.specs.DemoFunctions.{demo_handler, picked_arguments};
 ghost use Rattle.web_demo.specs.ServiceFunctions.{ArgumentsMeet, HandlerMeets};
 
-use crate::answer::Answer;
+use crate::answer::DemoOutput;
 use crate::handler::DemoHandler;
 use crate::picked::Picked;
 use web_demo_layers::Demo;
@@ -17,5 +17,5 @@ pub fn demo_law()
         ⟦<Error as Into<Error>>⟧.converts picked_arguments }
     ensures handler { (h : DemoHandler)
         → HandlerMeets (⟦<DemoHandler as Handler<Picked>>⟧.answers h)
-        ⟦<Answer as Responder<Demo>>⟧.responds demo_handler }
+        ⟦<DemoOutput as Responder<Demo>>⟧.responds demo_handler }
 {}

@@ -5,6 +5,7 @@
 mod answer;
 mod answering;
 mod app;
+mod boxed_future;
 mod choice;
 mod decoded;
 mod delayed;
@@ -20,9 +21,10 @@ mod picked_from;
 mod texts;
 mod wait;
 
-pub use answer::Answer;
+pub use answer::{Answer, DemoOutput};
 pub use answering::Answering;
 pub use app::worker;
+pub use boxed_future::BoxedFuture;
 pub use decoded::{DecodedFuture, EitherItemFuture, ItemFuture, OptionalFuture};
 pub use delayed::Delayed;
 pub use demo_arguments::{DataArguments, RawBody};

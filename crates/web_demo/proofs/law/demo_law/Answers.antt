@@ -1,10 +1,13 @@
-use Rattle.std.proofs.Common.{ap, ◌∙◌}
-use Rattle.web_demo.specs.DemoReplies.{answer_reply}
+use Rattle.std.proofs.Common.{◌∙◌}
 use Rattle.web_demo.proofs.PickedArgumentsLemmas.{picked_meets}
+use Rattle.web_demo.proofs.RepliesLemmas.{reply_only}
 use Rattle.web_demo.proofs.law.demo_law.Goals as goal
 
 pub returns-clause-arguments : goal.returns-clause-arguments
 returns-clause-arguments c = picked_meets
 
 pub returns-clause-handler : goal.returns-clause-handler
-returns-clause-handler c = λ h v n y answers. (answers.0, λ q r responds. responds ∙ ap answer_reply answers.1)
+returns-clause-handler c = λ h v n y answers. (
+  answers.0,
+  λ q r responds. reply_only q y r responds ∙ answers.1,
+)

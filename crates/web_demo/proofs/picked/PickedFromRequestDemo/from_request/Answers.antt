@@ -31,3 +31,17 @@ returns-in_ok-future-in-Other-clause-extracts c =
     extracts_choice c.args.req.now.request choice.Other _ _ _
     (rw (← c.path.ensures, ← c.choice_of.ensures) c.in-Other.is)
     c.in_ok-future-in-Other.ensures.extracts
+
+pub returns-in_ok-decoded_future-in-Decoded-clause-extracts :
+    goal.returns-in_ok-decoded_future-in-Decoded-clause-extracts
+returns-in_ok-decoded_future-in-Decoded-clause-extracts c =
+    extracts_choice c.args.req.now.request (choice.Decoded c.in-Decoded.choice) _ _ _
+    (rw (← c.path.ensures, ← c.choice_of.ensures) c.in-Decoded.is)
+    c.in_ok-decoded_future-in-Decoded.ensures.extracts
+
+pub returns-in_ok-immediate_future-in-Immediate-clause-extracts :
+    goal.returns-in_ok-immediate_future-in-Immediate-clause-extracts
+returns-in_ok-immediate_future-in-Immediate-clause-extracts c =
+    extracts_choice c.args.req.now.request (choice.Immediate c.in-Immediate.choice) _ _ _
+    (rw (← c.path.ensures, ← c.choice_of.ensures) c.in-Immediate.is)
+    c.in_ok-immediate_future-in-Immediate.ensures.extracts
