@@ -19,7 +19,8 @@ impl<F: Poll> BoxedFuture<F> {
         requires unfinished { F.is_finished future ≡ false }
         ensures fresh { IfOk result (λ boxed. F.is_finished boxed.future.value ≡ false) }
         ensures gives { IfOk result (λ boxed.
-            GivesWithin (GivesOrAll (λ n x. F.gives boxed.future.value n x)) (λ n x. F.gives future n x)) }
+            GivesWithin (GivesOrAll (λ n x. F.gives boxed.future.value n x))
+            (λ n x. F.gives future n x)) }
     {
         Ok(BoxedFuture {
             future: Box::new(alloc, future)?,

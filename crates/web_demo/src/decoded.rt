@@ -68,7 +68,8 @@ impl Poll for ItemFuture {
 
 type JsonElseForm = FutureOf<(Either<Json<Item>, Form<Item>>,)>;
 
-/// The future of an item of the body as JSON, and where that is refused as a form, in memory of its own.
+/// The future of an item of the body as JSON, and where that is refused as a form, in memory of its
+/// own.
 #[derive(Drop)]
 pub struct EitherItemFuture {
     future: BoxedFuture<JsonElseForm>,
@@ -77,7 +78,8 @@ pub struct EitherItemFuture {
 impl EitherItemFuture {
     fn new(alloc: Global, future: JsonElseForm) -> Result<EitherItemFuture, NoMemory>
         requires unfinished { ⟦<JsonElseForm as Poll>⟧.is_finished future ≡ false }
-        ensures fresh { IfOk result (λ made. ⟦<EitherItemFuture as Poll>⟧.is_finished made ≡ false) }
+        ensures fresh { IfOk result (λ made.
+            ⟦<EitherItemFuture as Poll>⟧.is_finished made ≡ false) }
         ensures gives { IfOk result (λ made. GivesWithin
             (λ n x. ⟦<EitherItemFuture as Poll>⟧.gives made n x)
             (λ n x. ⟦<JsonElseForm as Poll>⟧.gives future n x)) }
@@ -151,7 +153,8 @@ impl Poll for OptionalFuture {
     ghost gives = { λ f n x. GivesOrAll
         (λ k y. ⟦<OptionOrResult as Poll>⟧.gives f.future.future.value k y) n x };
 
-    ghost needs_no_memory = { λ f. ⟦<OptionOrResult as Poll>⟧.needs_no_memory f.future.future.value };
+    ghost needs_no_memory = { λ f.
+        ⟦<OptionOrResult as Poll>⟧.needs_no_memory f.future.future.value };
 
     ghost some = { λ f h. gives_or_all_some
         (λ k y. ⟦<OptionOrResult as Poll>⟧.gives f.future.future.value k y) (Ok picked.Other) };

@@ -116,7 +116,8 @@ impl Poll for HeaderFuture {
 
 type DataList = FutureOf<(Data<u64>, ReqData<DemoLocal>, HttpRequest<Demo>)>;
 
-/// The future of the data of the layers and of the request, and of the request, in memory of its own.
+/// The future of the data of the layers and of the request, and of the request, in memory of its
+/// own.
 #[derive(Drop)]
 pub struct DataFuture {
     future: BoxedFuture<DataList>,

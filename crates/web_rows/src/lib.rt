@@ -1,6 +1,6 @@
 //! Tests of the command: scripts with the texts of their replies, bodies under headers and layers,
-//! the arguments of each segment, refused scripts, inputs and outputs that fail at each call in turn, arguments that are no
-//! command, and the order in which the futures of a handler are polled.
+//! the arguments of each segment, refused scripts, inputs and outputs that fail at each call in
+//! turn, arguments that are no command, and the order in which the futures of a handler are polled.
 //!
 //! The expected texts are written by hand from what the program promises.
 #![tactic(auto)]
