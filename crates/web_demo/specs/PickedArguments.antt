@@ -138,7 +138,8 @@ abbrev pub immediate_result : ImmediateChoice → DemoRequest → List Mark → 
 immediate_result immediate.Path q m = with_value (λ v. picked.Path v.0) (list1 (path_item_result q))
 immediate_result immediate.Query q m = with_value (λ v. picked.Query v.0)
     (list1 (query_item_result q))
-immediate_result immediate.Header q m = with_value (λ v. picked.Header v.0) (list1 (accept_result q))
+immediate_result immediate.Header q m =
+    with_value (λ v. picked.Header v.0) (list1 (accept_result q))
 immediate_result immediate.Data q m = with_value (λ v. picked.Data (seen_data v))
     (numbers_result q)
 immediate_result immediate.Raw q m = with_value (λ v. picked.Raw v.0) (list1 (payload_result m))
