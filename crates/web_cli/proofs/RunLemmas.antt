@@ -3,7 +3,12 @@ use Rattle.std.proofs.Common.{◌≡◌, ℕ, true, List, inl, inr, ◌⊎◌, �
 use Rattle.web_io.specs.IoState.{InputState, OutputState}
 use Rattle.web_io.specs.WholeReading.{IsAll}
 use Rattle.web_demo.specs.DemoFunctions.{demo_handler}
-use Rattle.web_demo.specs.DemoReplies.{HandlerAnswers, answer_reply}
+use Rattle.web_reply.specs.ResponseBodies.{Plain, box_plain}
+use Rattle.web_reply.specs.Replies.{Reply, plain_reply}
+use Rattle.web_types.specs.EitherReplies.{RespondsEither}
+use Rattle.web_demo.specs.DemoExchanges.{DemoRequest}
+use Rattle.web_demo.specs.DemoReplies.{HandlerAnswers, Output, answer_reply}
+use Rattle.web_demo.proofs.RepliesLemmas.{reply_only}
 use Rattle.web_demo.specs.ServiceFunctions.{HandlerMeets}
 use Rattle.web_cli.specs.ScriptAnswers.{is_valid_script}
 use Rattle.web_cli.specs.Run.{HasNoMemory, Headline, IsRefused, ServeResult, WritesReplies}
@@ -86,6 +91,12 @@ module _ (r s : List ℕ → List ℕ → Type 0) (c d : List ℕ → Type 0)
   headline_as a i j o p h script left fits valid read written =
       writes_as a script j o p (h script left fits valid read written)
 
+-- what an output responds with
+abbrev pub OutputResponds : Output → DemoRequest → Reply Plain → Type 0
+OutputResponds =
+    RespondsEither (λ answer p x. x ≡ answer_reply answer)
+    (λ v p x. x ≡ plain_reply (λ b. box_plain (λ feed. feed) b) v)
+
 -- the program's handler meets its functions
-pub demo_meets : HandlerMeets (λ p n y. HandlerAnswers p n y) (λ y q r. r ≡ answer_reply y) demo_handler
-demo_meets v n y answers = (answers.0, λ q r responds. responds ∙ ap answer_reply answers.1)
+pub demo_meets : HandlerMeets (λ p n y. HandlerAnswers p n y) (λ y q r. OutputResponds y q r) demo_handler
+demo_meets v n y answers = (answers.0, λ q r responds. reply_only q y r responds ∙ answers.1)

@@ -42,7 +42,7 @@ const RUNS: &[(&[&str], &str, Status, &str)] = &[
     (SERVE, SCRIPT, Status::Done, REPLIES),
     (
         SERVE,
-        "exchange POST /json\n",
+        "exchange POST /lines\n",
         Status::Script,
         "line 1: not built\n",
     ),

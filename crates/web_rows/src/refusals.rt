@@ -47,7 +47,7 @@ const REFUSALS: &[(&str, &str, u64, &str)] = &[
     ),
     (
         "a segment that is not built",
-        "exchange POST /json\nplan 0\n",
+        "exchange POST /lines\nplan 0\n",
         1,
         "not built",
     ),
@@ -76,7 +76,7 @@ const REFUSALS: &[(&str, &str, u64, &str)] = &[
         "bad layer",
     ),
     (
-        "a setting with a sign, beside one that is not built",
+        "a setting with a sign, beside another",
         "exchange POST /a\nlayer json-any payload=+1\n",
         2,
         "bad layer",
@@ -88,10 +88,10 @@ const REFUSALS: &[(&str, &str, u64, &str)] = &[
         "bad layer",
     ),
     (
-        "a setting that is not built",
-        "exchange POST /a\nlayer payload=1 json=2\n",
+        "a number of a request with a sign",
+        "exchange POST /a\nlocal +1\n",
         2,
-        "not built",
+        "bad number",
     ),
     (
         "a letter that is no digit",

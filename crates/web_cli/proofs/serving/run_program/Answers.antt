@@ -1,16 +1,16 @@
 use Rattle.std.proofs.Common.{◌≡◌}
 use Rattle.std.specs.Prelude.{None, ⊤}
 use Rattle.web_demo.specs.DemoFunctions.{demo_handler}
-use Rattle.web_demo.specs.DemoReplies.{HandlerAnswers, answer_reply}
+use Rattle.web_demo.specs.DemoReplies.{HandlerAnswers}
 use Rattle.web_cli.specs.DemoScripts.{AppendsPickedCalls, ArePickedReplies, IsDemoText}
-use Rattle.web_cli.proofs.RunLemmas.{demo_meets, headline_as, result_as}
+use Rattle.web_cli.proofs.RunLemmas.{OutputResponds, demo_meets, headline_as, result_as}
 use Rattle.web_cli.proofs.serving.run_program.Goals as goal
 
 pub returns-clause-serves : goal.returns-clause-serves
 returns-clause-serves g c = λ words.
     let h = c.run.ensures.serves words in (
       h.0,
-      result_as (ArePickedReplies (λ p n y. HandlerAnswers p n y) (λ y q r. r ≡ answer_reply y))
+      result_as (ArePickedReplies (λ p n y. HandlerAnswers p n y) (λ y q r. OutputResponds y q r))
           IsDemoText (AppendsPickedCalls None None) (λ came. ⊤)
           (λ came text replies. replies demo_handler demo_meets) (λ came calls. tt)
           _ ⊤ (λ same. tt) c.run.result h.0 _ _ _ _ h.1,
@@ -18,7 +18,7 @@ returns-clause-serves g c = λ words.
 
 pub returns-clause-headline : goal.returns-clause-headline
 returns-clause-headline g c = λ words.
-    headline_as (ArePickedReplies (λ p n y. HandlerAnswers p n y) (λ y q r. r ≡ answer_reply y))
+    headline_as (ArePickedReplies (λ p n y. HandlerAnswers p n y) (λ y q r. OutputResponds y q r))
     IsDemoText (AppendsPickedCalls None None) (λ came. ⊤)
     (λ came text replies. replies demo_handler demo_meets) (λ came calls. tt)
     c.run.result (g.I.Input.state c.args.input.now) (g.I.Input.state c.run.new.input)
