@@ -3,12 +3,14 @@ ghost use Rattle.std.specs.Prelude.{◌≡◌, ◌<◌, ◌^◌, [], IfOk, true,
 ghost use Rattle.web_request.specs.Shared.{value_of, values};
 ghost use Rattle.web_demo_layers.specs.DemoLayers.{demo_layer};
 ghost use Rattle.web_request.specs.Body.{is_body, piece_bytes};
-ghost use Rattle.web_demo.specs.DemoExchanges.{conn_of, demo_exchange};
+ghost use Rattle.web_body.specs.MemoryBodies.{marks_feed};
+ghost use Rattle.web_body.specs.declared.payload.Payload.TheVariants as payload;
+ghost use Rattle.web_demo.specs.DemoExchanges.{conn_of};
 
 use http::Version;
 use std::alloc::Global;
 use std::rc::Rc;
-use web_body::{Marks, Payload};
+use web_body::{Mark, Marks, Payload};
 use web_demo_layers::{Demo, DemoConn, DemoLayer, DemoLocal, demo_layers};
 use web_extract::FromRequest;
 use web_request::RequestHead;
@@ -48,38 +50,13 @@ fn shared_of(
     })
 }
 
-/// The exchange that a script describes, with its body as a stream. Only its layers and the data of
-/// its connection need memory.
-fn exchange_of(alloc: Global, scripted: ScriptedExchange) -> Result<Exchange<Demo>, NoMemory>
-    requires body { is_body scripted.marks ≡ true }
-    requires small { length (piece_bytes scripted.marks) < 2 ^ 63 }
-    ensures { IfOk result (λ exchange. exchange ≡ demo_exchange scripted) }
+/// A body of these marks, as a stream.
+fn body_of(marks: Vec<Mark>) -> Payload<Marks>
+    requires body { is_body marks.items ≡ true }
+    requires small { length (piece_bytes marks.items) < 2 ^ 63 }
+    ensures { result ≡ payload.Stream (marks_feed marks.items) }
 {
-    let ScriptedExchange {
-        method,
-        uri,
-        headers,
-        params,
-        layers,
-        marks,
-        local,
-        conn,
-    } = scripted;
-    let Shared { layers, conn } = shared_of(alloc, layers, conn)?;
-    Ok(Exchange {
-        layers,
-        head: RequestHead {
-            uri,
-            method,
-            version: Version::HTTP_11,
-            headers,
-            peer_addr: None,
-        },
-        params,
-        conn,
-        local: local.map(|number| DemoLocal(number)),
-        body: Payload::Stream(Marks::new(marks)),
-    })
+    Payload::Stream(Marks::new(marks))
 }
 
 /// Collects the exchanges of a script as flights that wait for their first poll.
@@ -109,7 +86,32 @@ impl<Args: FromRequest<Demo>, H: Handler<Args>> ExchangeSink for DemoFlights<Arg
         sink.flights.items ≡ map (λ e. Waiting (demo_exchange e)) exchanges };
 
     fn add(&mut self, alloc: Global, exchange: ScriptedExchange) -> Result<(), NoMemory> {
-        let exchange = exchange_of(alloc, exchange)?;
-        Ok(self.flights.push(Flight::new(exchange))?)
+        let ScriptedExchange {
+            method,
+            uri,
+            headers,
+            params,
+            layers,
+            marks,
+            local,
+            conn,
+        } = exchange;
+        let Shared { layers, conn } = shared_of(alloc, layers, conn)?;
+        Ok(
+            self.flights.push(Flight::new(Exchange {
+                layers,
+                head: RequestHead {
+                    uri,
+                    method,
+                    version: Version::HTTP_11,
+                    headers,
+                    peer_addr: None,
+                },
+                params,
+                conn,
+                local: local.map(|number| DemoLocal(number)),
+                body: body_of(marks),
+            }))?,
+        )
     }
 }

@@ -32,7 +32,7 @@ turn :
 turn c t g n (Ok v) h = (n, Ok v, h)
 turn c t g n (Err e) h = let x = t e in (n, Err x.0, (e, h, x.1))
 
-turned_some :
+pub turned_some :
     {T E : Type 0} (c : E → Fault → Type 0) → Converted c → (g : ℕ → Result T E → Type 0)
     → GivesSome g → GivesSome (ConvertsRefusal c g)
 turned_some c t g some none = some (λ n x h. let j = turn c t g n x h in none j.0 j.1 j.2)

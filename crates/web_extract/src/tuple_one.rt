@@ -1,11 +1,9 @@
 //! Lists of one argument.
 ghost use Rattle.std.specs.Prelude.{◌≡◌};
-ghost use Rattle.web_extract.specs.Place.{PlaceNeedsNoMemory, place_finished, place_comes};
+ghost use Rattle.web_extract.specs.ConvertedFutures.{ConvertsStep};
 
 use crate::from_request::FromRequest;
-use crate::place::Place;
 use std::alloc::Global;
-use std::mem;
 use web_body::{Payload, Poll, Step};
 use web_reply::Error;
 use web_request::{App, HttpRequest, NoMemory};
@@ -13,43 +11,44 @@ use web_request::{App, HttpRequest, NoMemory};
 /// The future of a list of one argument.
 #[derive(Drop)]
 pub struct TupleFromRequest1<P: App, A: FromRequest<P>> {
-    first: Place<A::Future, A>,
+    first: A::Future,
+}
+
+/// The step of the argument's future as the step of a list.
+fn list_step<T, E: Into<Error>>(step: Step<Result<T, E>>) -> Step<Result<(T,), Error>>
+    ensures { ConvertsStep (λ v w. w ≡ record { 0 = v }) E.converts step result }
+{
+    match step {
+        Step::Pending => Step::Pending,
+        Step::Ready(Ok(value)) => Step::Ready(Ok((value,))),
+        Step::Ready(Err(refusal)) => Step::Ready(Err(refusal.into())),
+        Step::NoMemory => Step::NoMemory,
+    }
 }
 
 impl<P: App, A: FromRequest<P>> Poll for TupleFromRequest1<P, A> {
-    ghost use Rattle.web_extract.specs.ArgumentLists.{Joins1};
-    ghost use Rattle.web_extract.specs.SomeAnswer.{joins1_some, place_some};
+    ghost use Rattle.web_extract.specs.ArgumentLists.{Joins1, ConvertsRefusal};
+    ghost use Rattle.web_extract.specs.SomeAnswer.{joins1_some, turned_some};
 
     type Output = Result<(A,), Error>;
 
-    ghost is_finished = { λ f. place_finished A.Future.is_finished f.first };
+    ghost is_finished = { λ f. A.Future.is_finished f.first };
 
     ghost gives = { λ f n x. Joins1
-        (place_comes A.Error.converts A.Future.gives f.first) n x };
+        (ConvertsRefusal A.Error.converts (A.Future.gives f.first)) n x };
 
-    ghost needs_no_memory = { λ f. PlaceNeedsNoMemory A.Future.needs_no_memory f.first };
+    ghost needs_no_memory = { λ f. A.Future.needs_no_memory f.first };
 
-    ghost some = { λ f h. joins1_some
-        (place_comes A.Error.converts A.Future.gives f.first)
-        (place_some A.Error.converts A.converted A.Future.is_finished A.Future.gives
-        A.Future.some f.first h) };
+    ghost some = { λ f h. joins1_some (ConvertsRefusal A.Error.converts (A.Future.gives f.first))
+        (turned_some A.Error.converts A.converted (A.Future.gives f.first)
+        (A.Future.some f.first h)) };
 
     fn finished(&self) -> bool {
         self.first.finished()
     }
 
     fn poll(&mut self, alloc: Global) -> Step<Result<(A,), Error>> {
-        let has_first = match self.first.advance(alloc) {
-            Ok(has) => has,
-            Err(stop) => return stop.into_step(),
-        };
-        if !has_first {
-            return Step::Pending;
-        }
-        match mem::replace(&mut self.first, Place::Taken) {
-            Place::Done(a) => Step::Ready(Ok((a,))),
-            _ => unreachable!(),
-        }
+        list_step(self.first.poll(alloc))
     }
 }
 
@@ -76,9 +75,8 @@ impl<P: App, A: FromRequest<P>> FromRequest<P> for (A,) {
         req: &HttpRequest<P>,
         payload: &mut Payload<P::Source>,
     ) -> Result<TupleFromRequest1<P, A>, NoMemory> {
-        let first = A::from_request(alloc, req, payload)?;
         Ok(TupleFromRequest1 {
-            first: Place::Waiting(first),
+            first: A::from_request(alloc, req, payload)?,
         })
     }
 }
