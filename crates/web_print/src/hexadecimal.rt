@@ -1,36 +1,38 @@
 //! Bytes as hexadecimal digits.
-ghost use Rattle.std.specs.Prelude.{◌≡◌, ◌<◌, ◌++◌, [], ◌∷◌, OnOk, slice_index};
-ghost use Rattle.hex.specs.Hex.{encode_lower, lower_digits};
+ghost use Rattle.std.specs.Prelude.{◌≡◌, ◌≤◌, ◌++◌, OnOk, length};
+ghost use Rattle.hex.specs.Hex.{encode_lower};
 ghost use Rattle.web_print.specs.TextLines.{line_text};
 
 use crate::lines::put;
+use hex::encode_to_slice;
 use web_texts::NoMemory;
 
-const DIGITS: &[u8] = b"0123456789abcdef";
+/// How many bytes are written at once.
+const BLOCK: usize = 64;
 
-fn digit(value: u8) -> u8
-    requires { value < 16 }
-    ensures { result ≡ slice_index lower_digits value }
+/// The digits of one block.
+fn put_block(out: &mut Vec<u8>, block: &[u8]) -> Result<(), NoMemory>
+    requires { length block.now ≤ 64 }
+    ensures { OnOk result (out.new.items ≡ out.old.items ++ encode_lower block.now) }
 {
-    DIGITS[usize::from(value)]
-}
-
-#[tactic(auto, using(crate::proofs::HexadecimalLemmas::encode_one))]
-fn put_byte(out: &mut Vec<u8>, byte: u8) -> Result<(), NoMemory>
-    ensures { OnOk result (out.new.items ≡ out.old.items ++ encode_lower (byte ∷ [])) }
-{
-    let high = digit(byte / 16);
-    let low = digit(byte % 16);
-    put(out, &[high, low])
+    let mut buffer = [0; 2 * BLOCK];
+    let digits = &mut buffer[..2 * block.len()];
+    match encode_to_slice(block, digits) {
+        Ok(()) => put(out, digits),
+        Err(_) => unreachable!(),
+    }
 }
 
 fn put_digits(out: &mut Vec<u8>, bytes: &[u8]) -> Result<(), NoMemory>
     ensures { OnOk result (out.new.items ≡ out.old.items ++ encode_lower bytes.now) }
 {
-    for byte in bytes {
-        put_byte(out, *byte)?;
+    let mut rest = bytes;
+    'chunks: while rest.len() > BLOCK {
+        let (block, more) = rest.split_at(BLOCK);
+        put_block(out, block)?;
+        rest = more;
     }
-    Ok(())
+    put_block(out, rest)
 }
 
 /// A line of a word and the bytes in lower-case digits.
