@@ -22,7 +22,7 @@ use Rattle.web_script.specs.ScriptedView.{ScriptedExchangeView}
 use Rattle.web_demo_layers.specs.declared.layer.DemoLayer.{DemoLayer}
 use Rattle.web_demo_layers.specs.declared.app.DemoLocal.{DemoLocal}
 use Rattle.web_demo_layers.specs.declared.app.DemoConn.{DemoConn}
-use Rattle.web_demo.specs.DemoExchanges.{DemoRequest, demo_exchange, demo_pool, demo_request}
+use Rattle.web_demo_flights.specs.DemoExchanges.{DemoRequest, demo_exchange, demo_pool, demo_request}
 use Rattle.web_demo.specs.ServiceFunctions.{ArgumentFunctions, ArgumentsMeet, ConvertsTo}
 use Rattle.web_demo.specs.ServiceFunctions.{HandlerFunctions, HandlerMeets}
 use Rattle.web_demo.specs.ServiceFunctions.{delay_from, delay_of, reply_from, reply_of}

@@ -25,7 +25,7 @@ use Rattle.web_script.specs.ScriptedView.{ScriptedExchangeView}
 use Rattle.web_demo_layers.specs.declared.layer.DemoLayer.{DemoLayer}
 use Rattle.web_demo_layers.specs.declared.app.DemoLocal.{DemoLocal}
 use Rattle.web_demo_layers.specs.declared.app.DemoConn.{DemoConn}
-use Rattle.web_demo.specs.DemoExchanges.{demo_exchange}
+use Rattle.web_demo_flights.specs.DemoExchanges.{demo_exchange}
 use Rattle.web_demo.specs.ServiceFunctions.{ArgumentFunctions, ArgumentsMeet}
 use Rattle.web_demo.specs.ServiceFunctions.{HandlerFunctions, HandlerMeets, delay_of, reply_of}
 use Rattle.web_cli.specs.ScriptAnswers.{AreRepliesTo, arguments_of, calls_to}

@@ -6,7 +6,7 @@ use Rattle.web_demo.specs.DemoFunctions.{demo_handler}
 use Rattle.web_reply.specs.ResponseBodies.{Plain, box_plain}
 use Rattle.web_reply.specs.Replies.{Reply, plain_reply}
 use Rattle.web_types.specs.EitherReplies.{RespondsEither}
-use Rattle.web_demo.specs.DemoExchanges.{DemoRequest}
+use Rattle.web_demo_flights.specs.DemoExchanges.{DemoRequest}
 use Rattle.web_demo.specs.DemoReplies.{HandlerAnswers, Output, answer_reply}
 use Rattle.web_demo.proofs.RepliesLemmas.{reply_only}
 use Rattle.web_demo.specs.ServiceFunctions.{HandlerMeets}

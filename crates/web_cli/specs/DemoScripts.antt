@@ -4,7 +4,7 @@ use Rattle.std.specs.Option.{option_map}
 use Rattle.web_reply.specs.ResponseBodies.{Plain}
 use Rattle.web_reply.specs.Replies.{Reply}
 use Rattle.web_demo.specs.declared.picked.Picked.{Picked}
-use Rattle.web_demo.specs.DemoExchanges.{DemoRequest}
+use Rattle.web_demo_flights.specs.DemoExchanges.{DemoRequest}
 use Rattle.web_demo.specs.DemoFunctions.{demo_handler, picked_arguments}
 use Rattle.web_demo.specs.ServiceFunctions.{HandlerFunctions, HandlerMeets}
 use Rattle.web_cli.specs.ScriptAnswers.{replies_text, script_calls}

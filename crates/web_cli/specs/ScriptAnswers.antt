@@ -21,7 +21,7 @@ use Rattle.web_print.specs.TextLines.{newline}
 use Rattle.web_demo_layers.specs.declared.layer.DemoLayer.{DemoLayer}
 use Rattle.web_demo_layers.specs.declared.app.DemoLocal.{DemoLocal}
 use Rattle.web_demo_layers.specs.declared.app.DemoConn.{DemoConn}
-use Rattle.web_demo.specs.DemoExchanges.{demo_exchange, demo_request}
+use Rattle.web_demo_flights.specs.DemoExchanges.{demo_exchange, demo_request}
 use Rattle.web_demo.specs.ServiceFunctions.{ArgumentFunctions, ArgumentsMeet}
 use Rattle.web_demo.specs.ServiceFunctions.{HandlerFunctions, HandlerMeets, delay_of, reply_of}
 use Rattle.web_cli.specs.declared.script_answer.ScriptAnswer.{ScriptAnswer}

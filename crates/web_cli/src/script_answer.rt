@@ -4,7 +4,7 @@ ghost use Rattle.std.specs.List.{list_any};
 ghost use Rattle.web_worker.specs.Flights.{flight_outcome};
 ghost use Rattle.web_worker.specs.HandlerPromises.{SamePromises};
 ghost use Rattle.web_worker.specs.PlanOutcomes.{lacks_memory};
-ghost use Rattle.web_demo.specs.DemoExchanges.{demo_pool};
+ghost use Rattle.web_demo_flights.specs.DemoExchanges.{demo_pool};
 ghost use Rattle.web_cli.specs.ScriptAnswers.{AppendsCallsTo, AppendsScriptCalls};
 ghost use Rattle.web_cli.specs.ScriptAnswers.{AreReplies, AreRepliesTo, FlightsOf};
 ghost use Rattle.web_cli.specs.ScriptAnswers.{fault_text, IsValid, OnRefused, OnReplies};

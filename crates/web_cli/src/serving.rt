@@ -1,7 +1,7 @@
 //! The command: its words, its input and its output.
 ghost use Rattle.std.specs.Prelude.{◌≡◌, List, ℕ, map, string_bytes, ⊤};
 ghost use Rattle.web_worker.specs.HandlerPromises.{SamePromises};
-ghost use Rattle.web_demo.specs.DemoExchanges.{demo_pool};
+ghost use Rattle.web_demo_flights.specs.DemoExchanges.{demo_pool};
 ghost use Rattle.web_cli.specs.CommandWords.{IsServe};
 ghost use Rattle.web_cli.specs.DemoScripts.{AppendsPickedCalls, ArePickedReplies, IsDemoText};
 ghost use Rattle.web_cli.specs.Run.{Headline, ReadFaultIsReported, RefusesWords, ServeResult};

@@ -37,7 +37,7 @@ use Rattle.web_demo_layers.specs.declared.app.DemoLocal.{DemoLocal}
 use Rattle.web_demo_layers.specs.declared.layer.DemoLayer.{DemoLayer}
 use Rattle.web_demo.specs.Choices.{choice_of}
 use Rattle.web_demo.specs.DemoArguments.{data_view, raw_view, seen_data}
-use Rattle.web_demo.specs.DemoExchanges.{DemoRequest}
+use Rattle.web_demo_flights.specs.DemoExchanges.{DemoRequest}
 use Rattle.web_demo.specs.DemoFunctions.{picked_arguments}
 use Rattle.web_demo.specs.ServiceFunctions.{ArgumentsMeet, ConvertsTo}
 use Rattle.web_demo.specs.LateAndWait.{MeansLate, MeansWait}

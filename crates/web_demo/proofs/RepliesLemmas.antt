@@ -4,7 +4,7 @@ use Rattle.web_reply.specs.ResponseBodies.{Plain, box_plain}
 use Rattle.web_reply.specs.Replies.{Reply, plain_reply}
 use Rattle.web_types.specs.EitherReplies.{RespondsEither}
 use Rattle.web_types.specs.declared.either.Either.TheVariants.{Left, Right}
-use Rattle.web_demo.specs.DemoExchanges.{DemoRequest}
+use Rattle.web_demo_flights.specs.DemoExchanges.{DemoRequest}
 use Rattle.web_demo.specs.DemoReplies.{Output, answer_reply, output_reply}
 
 pub reply_only : (q : DemoRequest) (y : Output) (r : Reply Plain)

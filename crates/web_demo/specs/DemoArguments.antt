@@ -8,7 +8,7 @@ use Rattle.web_body.specs.Payload.{payload_feed}
 use Rattle.web_demo_layers.specs.declared.app.DemoConn.{DemoConn}
 use Rattle.web_demo_layers.specs.declared.app.DemoLocal.{DemoLocal}
 use Rattle.web_demo_layers.specs.declared.layer.DemoLayer.{DemoLayer}
-use Rattle.web_demo.specs.DemoExchanges.{DemoRequest}
+use Rattle.web_demo_flights.specs.DemoExchanges.{DemoRequest}
 
 pub record DataView : Type 0 where
   -- of the nearest layer that has a number

@@ -4,7 +4,6 @@ pub mod BoxedFutures
 pub mod Choices
 pub mod DelayedValue
 pub mod DemoArguments
-pub mod DemoExchanges
 pub mod DemoFunctions
 pub mod DemoReplies
 pub mod DemoTexts

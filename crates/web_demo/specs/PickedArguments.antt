@@ -28,7 +28,7 @@ use Rattle.web_demo.specs.ItemArguments.{MeansPathItem, path_item_result, path_i
 use Rattle.web_demo.specs.ItemArguments.{MeansQueryItem, query_item_result, query_item_some}
 use Rattle.web_demo.specs.Choices.{choice_of}
 use Rattle.web_demo.specs.DemoArguments.{data_view, raw_view, seen_data}
-use Rattle.web_demo.specs.DemoExchanges.{DemoRequest}
+use Rattle.web_demo_flights.specs.DemoExchanges.{DemoRequest}
 use Rattle.web_demo.specs.LateAndWait.{MeansWait, delay_in, wait_some}
 use Rattle.web_demo.specs.declared.choice.Choice.{Choice}
 use Rattle.web_demo.specs.declared.choice.Choice.TheVariants as choice

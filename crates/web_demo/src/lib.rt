@@ -1,16 +1,13 @@
-//! The demo application: its arguments, chosen by the first segment of a path, its handler, and the
-//! flights of a script's exchanges.
+//! The demo application: its arguments, chosen by the first segment of a path, and its handler.
 #![tactic(auto)]
 
 mod answer;
 mod answering;
-mod app;
 mod boxed_future;
 mod choice;
 mod decoded;
 mod delayed;
 mod demo_arguments;
-mod flights;
 mod handler;
 mod immediate;
 mod late;
@@ -23,16 +20,15 @@ mod wait;
 
 pub use answer::{Answer, DemoOutput};
 pub use answering::Answering;
-pub use app::worker;
 pub use boxed_future::BoxedFuture;
 pub use decoded::{DecodedFuture, EitherItemFuture, ItemFuture, OptionalFuture};
 pub use delayed::Delayed;
 pub use demo_arguments::{DataArguments, RawBody};
-pub use flights::DemoFlights;
 pub use handler::DemoHandler;
 pub use immediate::{DataFuture, HeaderFuture, ImmediateFuture, ReadFuture};
 pub use late::{Late, LateFuture};
 pub use law::demo_law;
 pub use picked::{Picked, PickedFuture, picked_law};
 pub use wait::Wait;
+pub use web_demo_flights::{DemoFlights, worker};
 pub use web_demo_layers::{Demo, DemoConn, DemoLayer, DemoLocal, Item};

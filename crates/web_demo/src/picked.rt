@@ -2,7 +2,7 @@
 ghost use Rattle.std.specs.Prelude.{◌≡◌, ℕ, List, Result};
 ghost use Rattle.web_request.specs.declared.source.Mark.{Mark};
 ghost use Rattle.web_reply.specs.Replies.{Fault};
-ghost use Rattle.web_demo.specs.DemoExchanges.{DemoRequest};
+ghost use Rattle.web_demo_flights.specs.DemoExchanges.{DemoRequest};
 ghost use Rattle.web_demo.specs.PickedArguments.{MeansPicked, picked_delay, picked_result};
 
 use crate::choice::{Choice, choice_of};

@@ -5,7 +5,7 @@ use Rattle.web_request.specs.Pool.{Pool}
 use Rattle.web_worker.specs.Flights.{flight_outcome}
 use Rattle.web_worker.specs.PlanOutcomes.{lacks_memory}
 use Rattle.web_worker.proofs.RecordsMadeLemmas.{named_count_map}
-use Rattle.web_demo.specs.DemoExchanges.{demo_exchange}
+use Rattle.web_demo_flights.specs.DemoExchanges.{demo_exchange}
 use Rattle.web_cli.proofs.RepliesTextLemmas.{any_outcome, calls_are, numbers_same}
 use Rattle.web_cli.proofs.RepliesTextLemmas.{printed_replies, waiting_at_most, waiting_exchanges}
 use Rattle.web_cli.proofs.script_answer.replies.Goals as goal

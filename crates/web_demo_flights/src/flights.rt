@@ -5,7 +5,7 @@ ghost use Rattle.web_demo_layers.specs.DemoLayers.{demo_layer};
 ghost use Rattle.web_request.specs.Body.{is_body, piece_bytes};
 ghost use Rattle.web_body.specs.MemoryBodies.{marks_feed};
 ghost use Rattle.web_body.specs.declared.payload.Payload.TheVariants as payload;
-ghost use Rattle.web_demo.specs.DemoExchanges.{conn_of};
+ghost use Rattle.web_demo_flights.specs.DemoExchanges.{conn_of};
 
 use http::Version;
 use std::alloc::Global;
@@ -80,7 +80,7 @@ impl<Args: FromRequest<Demo>, H: Handler<Args>> DemoFlights<Args, H> {
 impl<Args: FromRequest<Demo>, H: Handler<Args>> ExchangeSink for DemoFlights<Args, H> {
     ghost use Rattle.std.specs.Prelude.{◌≡◌, map};
     ghost use Rattle.web_worker.specs.Exchanges.{FlightView.Waiting};
-    ghost use Rattle.web_demo.specs.DemoExchanges.{demo_exchange};
+    ghost use Rattle.web_demo_flights.specs.DemoExchanges.{demo_exchange};
 
     ghost holds = { λ sink exchanges.
         sink.flights.items ≡ map (λ e. Waiting (demo_exchange e)) exchanges };

@@ -1,6 +1,6 @@
 //! The worker of the application.
 ghost use Rattle.std.specs.Prelude.{◌≡◌, IfOk};
-ghost use Rattle.web_demo.specs.DemoExchanges.{demo_pool};
+ghost use Rattle.web_demo_flights.specs.DemoExchanges.{demo_pool};
 
 use std::alloc::Global;
 use std::rc::Rc;
