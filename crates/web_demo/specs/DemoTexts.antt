@@ -1,7 +1,12 @@
 -- The texts that the handler replies with.
 use Rattle.std.specs.Prelude.{ℕ, List, ◌++◌, length, codes, decimal, map}
-use Rattle.std.specs.Prelude.{Option, None, Some, Result, Ok, Err}
+use Rattle.std.specs.Prelude.{Option, None, Some, Result, Ok, Err, unwrap_or}
+use Rattle.std.specs.Prelude.{◌-◌, take, if◌then◌else◌}
+use Rattle.std.specs.Io.BufRead.{ends_with_byte}
+use Rattle.std.specs.List.{join_by}
+use Rattle.web_cookies.specs.CookieFields.{CookieFields}
 use Rattle.web_texts.specs.MediaTypeTexts.{media_type_text}
+use Rattle.web_request.specs.Connections.{Connection}
 use Rattle.web_headers.specs.PrintedLists.{comma_joined}
 use Rattle.web_headers.specs.declared.accept_header.Accept.{Accept}
 use Rattle.web_negotiate.specs.MediaChoices.{media_rank}
@@ -45,6 +50,32 @@ conn_text (Some conn) = decimal conn.0
 abbrev pub data_text : DataView → List ℕ
 data_text d =
     decimal d.number ++ (space ++ (decimal d.local ++ (space ++ conn_text d.request.conn)))
+
+-- the text, or `-`
+abbrev pub text_or_dash : Option (List ℕ) → List ℕ
+text_or_dash text = unwrap_or text (codes "-")
+
+-- where a request came from and was sent to
+abbrev pub who_text : Connection → List ℕ
+who_text c =
+    codes "host=" ++ (c.host ++ (codes " scheme=" ++ (c.scheme ++ (codes " peer="
+    ++ (text_or_dash c.peer ++ (codes " realip=" ++ text_or_dash c.client))))))
+
+abbrev pub pair_text : CookieFields → List ℕ
+pair_text cookie = cookie.name ++ (codes "=" ++ cookie.value)
+
+-- the names and values of cookies, with spaces between
+abbrev pub cookies_text : List CookieFields → List ℕ
+cookies_text cookies = join_by pair_text space cookies
+
+-- a line without the newline at its end, if it has one
+abbrev pub without_newline : List ℕ → List ℕ
+without_newline line =
+    if ends_with_byte 10 line then take (length line - 1) line else line
+
+-- the lines without their newlines, with vertical bars between
+abbrev pub lines_text : List (List ℕ) → List ℕ
+lines_text lines = join_by without_newline (codes "|") lines
 
 -- the media types that are accepted, the most wanted first
 abbrev pub accept_text : Header Accept → List ℕ

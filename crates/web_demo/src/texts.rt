@@ -1,7 +1,8 @@
 //! The texts that the handler replies with.
-ghost use Rattle.std.specs.Prelude.{◌≡◌, IfOk};
+ghost use Rattle.std.specs.Prelude.{◌≡◌, ◌++◌, IfOk, OnOk, string_bytes};
 ghost use Rattle.web_demo.specs.DemoTexts.{accept_text, data_text, either_text, option_text};
-ghost use Rattle.web_demo.specs.DemoTexts.{result_text};
+ghost use Rattle.web_demo.specs.DemoTexts.{cookies_text, lines_text, pair_text, result_text};
+ghost use Rattle.web_demo.specs.DemoTexts.{who_text, without_newline};
 ghost use Rattle.web_demo_layers.specs.Items.{item_text};
 
 use crate::demo_arguments::DataArguments;
@@ -12,7 +13,8 @@ use web_demo_layers::Item;
 use web_headers::{Accept, fmt_comma_delimited};
 use web_negotiate::prelude::AcceptChoices;
 use web_reply::{Error, ResponseError};
-use web_request::NoMemory;
+use web_request::cookies::Cookie;
+use web_request::{ConnectionInfo, NoMemory};
 use web_texts::{Mime, Text};
 use web_types::{Either, Form, Json};
 
@@ -73,6 +75,67 @@ pub(crate) fn data_text(alloc: Global, arguments: &DataArguments) -> Result<Text
         Some(conn) => Ok(Text::from(format!(in alloc; "{number} {local} {conn}")?)),
         None => Ok(Text::from(format!(in alloc; "{number} {local} -")?)),
     }
+}
+
+/// Where a request came from and was sent to.
+pub(crate) fn who_text(alloc: Global, info: &ConnectionInfo) -> Result<Text, NoMemory>
+    ensures { IfOk result (λ text. text ≡ who_text info.now) }
+{
+    let host = info.host();
+    let scheme = info.scheme();
+    let peer = info.peer_addr().unwrap_or("-");
+    let client = info.realip_remote_addr().unwrap_or("-");
+    Ok(Text::from(format!(in alloc; "host={host} scheme={scheme} peer={peer} realip={client}")?))
+}
+
+fn push_pair(text: &mut String, cookie: &Cookie) -> Result<(), NoMemory>
+    ensures { OnOk result
+        (string_bytes text.new ≡ string_bytes text.old ++ pair_text cookie.now) }
+{
+    text.push_str(cookie.name())?;
+    text.push_str("=")?;
+    Ok(text.push_str(cookie.value())?)
+}
+
+/// The names and values of cookies, with spaces between.
+pub(crate) fn cookies_text(alloc: Global, cookies: &[Cookie]) -> Result<Text, NoMemory>
+    ensures { IfOk result (λ text. text ≡ cookies_text cookies.now) }
+{
+    let mut text = String::new(alloc);
+    if let Some((first, others)) = cookies.split_first() {
+        push_pair(&mut text, first)?;
+        for cookie in others {
+            text.push_str(" ")?;
+            push_pair(&mut text, cookie)?;
+        }
+    }
+    Ok(Text::from(text))
+}
+
+/// The line without the newline at its end, if it has one.
+fn without_newline(line: &Text) -> &str
+    ensures { result.now ≡ without_newline line.now }
+{
+    let text = line.as_str();
+    match text.strip_suffix('\n') {
+        Some(front) => front,
+        None => text,
+    }
+}
+
+/// The lines without their newlines, with vertical bars between.
+pub(crate) fn lines_text(alloc: Global, lines: &[Text]) -> Result<Text, NoMemory>
+    ensures { IfOk result (λ text. text ≡ lines_text lines.now) }
+{
+    let mut text = String::new(alloc);
+    if let Some((first, others)) = lines.split_first() {
+        text.push_str(without_newline(first))?;
+        for line in others {
+            text.push_str("|")?;
+            text.push_str(without_newline(line))?;
+        }
+    }
+    Ok(Text::from(text))
 }
 
 /// Media types in their order.

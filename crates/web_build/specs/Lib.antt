@@ -1,0 +1,4 @@
+pub mod Builders
+pub mod LentBuilders
+pub mod RedirectReplies
+pub mod Customized
