@@ -9,6 +9,7 @@ mod item;
 mod json;
 mod layer;
 mod lines;
+mod load;
 mod media_type;
 mod pairs;
 mod printing;
@@ -19,6 +20,8 @@ mod serving;
 mod target;
 mod text;
 
+use load::Load;
+use script::Fault;
 use std::io::{Read, Write};
 use std::process::ExitCode;
 
@@ -29,9 +32,23 @@ const USAGE: &[u8] = b"usage: serve --pool=N | generate SEED COUNT | replay SEED
 
 fn main() -> ExitCode {
     let words: Vec<String> = std::env::args().skip(1).collect();
-    if words != ["serve", "--pool=0"] {
-        return say(USAGE, 64);
+    let words: Vec<&str> = words.iter().map(String::as_str).collect();
+    match words[..] {
+        ["serve", "--pool=0"] => serve(),
+        ["generate", seed, count] => match Load::read(seed, count) {
+            Some(load) => say(&load.script(), 0),
+            None => say(USAGE, 64),
+        },
+        ["replay", seed, count] => match Load::read(seed, count) {
+            Some(load) => replay(&load),
+            None => say(USAGE, 64),
+        },
+        _ => say(USAGE, 64),
     }
+}
+
+/// Reads a script, serves it and writes the replies.
+fn serve() -> ExitCode {
     let mut bytes = Vec::new();
     if std::io::stdin()
         .lock()
@@ -49,11 +66,26 @@ fn main() -> ExitCode {
             let (mut flights, made) = serving::serve(script);
             say(&printing::printed(&mut flights, made), 0)
         }
-        Err(fault) => {
-            let text = format!("line {}: {}\n", fault.line, fault.reason);
-            say(text.as_bytes(), 2)
-        }
+        Err(fault) => refuse(&fault),
     }
+}
+
+/// Serves the script of a load, and writes the summary.
+fn replay(load: &Load) -> ExitCode {
+    let bytes = load.script();
+    match script::read(&bytes) {
+        Ok(script) => {
+            let (flights, made) = serving::serve(script);
+            say(&load::summary(bytes.len(), &flights, made), 0)
+        }
+        Err(fault) => refuse(&fault),
+    }
+}
+
+/// Writes which line of a script is faulty, and why.
+fn refuse(fault: &Fault) -> ExitCode {
+    let text = format!("line {}: {}\n", fault.line, fault.reason);
+    say(text.as_bytes(), 2)
 }
 
 /// Writes the text, and gives the status, or that writing failed.

@@ -1,7 +1,6 @@
 //! Requests, as a script asks for them. They borrow from its bytes.
 use crate::headers::Headers;
 use crate::layer::Layers;
-use crate::script::{HAS_COOKIES_AND_LINES, NOT_BUILT};
 use crate::target::{self, Target};
 use crate::text::{self, is_token_byte};
 
@@ -52,7 +51,7 @@ pub fn read(argument: &[u8]) -> Result<Request<'_>, &'static str> {
     let (method, target) = read_parts(argument).ok_or(BAD_EXCHANGE)?;
     Ok(Request {
         method,
-        segment: Segment::of(target.path_and_query).ok_or(NOT_BUILT)?,
+        segment: Segment::of(target.path_and_query),
         target,
         headers: Headers::default(),
         params: Vec::new(),
@@ -79,17 +78,17 @@ fn read_parts(argument: &[u8]) -> Option<(&str, Target<'_>)> {
 }
 
 impl Segment {
-    /// What a path with its query asks for, or `None` where no handler knows the segment yet.
-    fn of(path_and_query: &str) -> Option<Segment> {
+    /// What a path with its query asks for.
+    fn of(path_and_query: &str) -> Segment {
         let path = path_and_query.as_bytes();
         let start = match path {
             [b'/', ..] => 1,
-            _ => return Some(Segment::Other),
+            _ => return Segment::Other,
         };
         let end = path[start..]
             .iter()
             .position(|byte| matches!(byte, b'/' | b'?'));
-        let segment = match &path[start..end.map_or(path.len(), |end| start + end)] {
+        match &path[start..end.map_or(path.len(), |end| start + end)] {
             b"bytes" => Segment::Bytes,
             b"text" => Segment::Text,
             b"both" => Segment::Both,
@@ -104,13 +103,11 @@ impl Segment {
             b"data" => Segment::Data,
             b"raw" => Segment::Raw,
             b"wait" => Segment::Wait,
-            b"who" | b"cookies" | b"lines" if !HAS_COOKIES_AND_LINES => return None,
             b"who" => Segment::Who,
             b"cookies" => Segment::Cookies,
             b"lines" => Segment::Lines,
             _ => Segment::Other,
-        };
-        Some(segment)
+        }
     }
 }
 

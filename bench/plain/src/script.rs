@@ -25,12 +25,6 @@ pub struct Script<'a> {
     pub plan: Vec<u32>,
 }
 
-/// The reason of what a later program will know.
-pub const NOT_BUILT: &str = "not built";
-
-/// Whether the word `peer` and the segments `who`, `cookies` and `lines` are known.
-pub const HAS_COOKIES_AND_LINES: bool = false;
-
 /// The most headers that an exchange may have.
 const MOST_HEADERS: usize = 1_024;
 
@@ -85,7 +79,6 @@ impl<'a> Reader<'a> {
                 read_plan(argument, &mut self.script.plan).ok_or("bad plan")
             }
             b"exchange" => self.add_exchange(argument),
-            b"peer" if !HAS_COOKIES_AND_LINES => Err(NOT_BUILT),
             b"header" | b"param" | b"layer" | b"peer" | b"local" | b"conn" => {
                 self.add_part(word, argument)
             }

@@ -8,5 +8,6 @@ pub mod MessageBodyPolls
 pub mod Payload
 pub mod PollSteps
 pub mod ErrorTexts
+pub mod LinesErrorTexts
 pub mod PayloadSettings
 pub mod WholePayloads

@@ -7,6 +7,7 @@ mod form_error;
 mod head_tests;
 mod held;
 mod json_error;
+mod lines_error;
 mod marks;
 mod message_body;
 mod path_error;
@@ -14,6 +15,7 @@ mod payload;
 mod payload_config;
 mod poll;
 mod query_error;
+mod take_payload;
 mod whole_payload;
 
 pub use body_collector::Collector;
@@ -21,6 +23,7 @@ pub use collecting::Unread;
 pub use form_error::UrlencodedError;
 pub use head_tests::{Declared, declared_length, is_coded};
 pub use json_error::JsonPayloadError;
+pub use lines_error::ReadlinesError;
 pub use marks::Marks;
 pub use message_body::{DEFAULT_LIMIT, HttpMessageBody, PayloadError};
 pub use path_error::PathError;
@@ -28,6 +31,7 @@ pub use payload::Payload;
 pub use payload_config::PayloadConfig;
 pub use poll::{Poll, Step, pending_count_law};
 pub use query_error::QueryPayloadError;
+pub use take_payload::TakePayload;
 pub use web_request::Mark;
 pub use web_values::{
     JsonFault, ReadFault, ReadJson, ReadPairs, WriteFault, WriteJson, WritePairs, decode_form,

@@ -1,13 +1,14 @@
 -- From the outcomes and the calls of a plan to the text of the replies and the calls for a script.
 use Rattle.std.proofs.Common.{◌≡◌, ℕ, ◌+◌, ◌≤◌, Bool, true, false, cond, List, [], ◌∷◌, ◌++◌}
-use Rattle.std.proofs.Common.{map, length, refl, inl, inr, arith, ◌∙◌, ap, Global}
-use Rattle.std.specs.Prelude.{Option, Result, Ok, Err, Vec, IfOk}
+use Rattle.std.proofs.Common.{map, length, refl, inl, inr, arith, ◌∙◌, ap, subst, Global}
+use Rattle.std.specs.Prelude.{Option, Result, Ok, Err, Vec, IfOk, OnOk}
 use Rattle.std.specs.List.{AllPass, enumerate_from, list_any}
 use Rattle.std.specs.Option.{option_map}
 use Rattle.std.proofs.lemmas.List.Elements.{All-head, All-tail}
 use Rattle.web_texts.proofs.LastCutLemmas.{or_false}
 use Rattle.web_request.specs.Body.{is_body}
 use Rattle.web_request.specs.Feed.{Feed}
+use Rattle.web_request.specs.Pool.{Pool}
 use Rattle.web_reply.specs.ResponseBodies.{Plain}
 use Rattle.web_reply.specs.Replies.{Fault, Reply}
 use Rattle.web_worker.specs.Exchanges.{ExchangeView, FlightView, FlightView.Waiting}
@@ -18,8 +19,10 @@ use Rattle.web_worker.specs.PlanCalls.{DeterministicCalls}
 use Rattle.web_worker.specs.PlanOutcomes.{EachFrom, lacks_memory, outcome_of, poll_count}
 use Rattle.web_worker.specs.PlanOutcomes.{named_count}
 use Rattle.web_worker.specs.RecordsMade.{is_waiting, waiting_count}
+use Rattle.web_worker.specs.Setting.{Setting}
 use Rattle.web_worker.proofs.CallsFunctionLemmas.{calls_of_map}
 use Rattle.web_print.specs.OutcomeText.{print}
+use Rattle.web_print.specs.SummaryText.{summary}
 use Rattle.web_script.specs.Script.{ScriptView}
 use Rattle.web_script.specs.ScriptedView.{ScriptedExchangeView}
 use Rattle.web_demo_layers.specs.declared.layer.DemoLayer.{DemoLayer}
@@ -28,8 +31,9 @@ use Rattle.web_demo_layers.specs.declared.app.DemoConn.{DemoConn}
 use Rattle.web_demo_flights.specs.DemoExchanges.{demo_exchange}
 use Rattle.web_demo.specs.ServiceFunctions.{ArgumentFunctions, ArgumentsMeet}
 use Rattle.web_demo.specs.ServiceFunctions.{HandlerFunctions, HandlerMeets, delay_of, reply_of}
-use Rattle.web_cli.specs.ScriptAnswers.{AreRepliesTo, arguments_of, calls_to}
+use Rattle.web_cli.specs.ScriptAnswers.{AppendsCallsTo, AreRepliesTo, IsServed, arguments_of, calls_to}
 use Rattle.web_cli.specs.ScriptAnswers.{outcome_in, replies_to, script_outcomes}
+use Rattle.web_cli.specs.LoadTexts.{IsSummaryOf, summary_of}
 use Rattle.web_cli.proofs.DemoSettingLemmas.{DemoRules, all_once, all_same, answers_once}
 use Rattle.web_cli.proofs.DemoSettingLemmas.{demo_setting, worker_arguments}
 
@@ -88,28 +92,53 @@ module _ {V E Y U W : Type 0} (R : DemoRules V E Y)
       (calls_of_map demo_exchange (worker_arguments a) (arguments_of a) s.exchanges s.plan
       (all_same R converted arguments handling a meets s.exchanges bodies))
 
--- the printed outcomes are the text of the replies
-pub printed_replies : {V E Y U W X : Type 0} (R : DemoRules V E Y)
-    (converted : (e : E) → (f : Fault) × R.converts e f)
-    (arguments : U → ℕ → Result V E → Type 0) (handling : W → ℕ → Y → Type 0)
-    (r : Result (Vec ℕ Global) X) (s : ScriptView) (os : List OutcomeView)
-    (serials : List ℕ) (made : ℕ)
-    → DeterministicOutcomes (demo_setting R arguments handling) s.plan
-    (map demo_exchange s.exchanges) os
-    → AllPass (λ e. is_body e.marks) s.exchanges → list_any lacks_memory os ≡ false
-    → serials ≡ [] → made ≡ named_count s.plan s.exchanges
-    → IfOk r (λ text. text.items ≡ print os serials made)
-    → IfOk r (λ text. AreRepliesTo (demo_setting R arguments handling) s text.items)
-unfolding replies_to
-printed_replies R converted arguments handling (Ok text) s os serials made served bodies some none
-    records is = λ a h meets handles.
-    rw (
-      outcomes_are R converted arguments handling a meets h handles s os served bodies some,
-      none,
-      records,
-    ) at is
-printed_replies R converted arguments handling (Err e) s os serials made served bodies some none
-    records is = tt
+pub on_ok : {T E : Type 0} (r : Result T E) (P : Type 0) → P → OnOk r P
+on_ok (Ok x) P p = p
+on_ok (Err e) P p = tt
+
+module _ {V E Y U W X : Type 0} (s : Setting Feed DemoLayer DemoLocal DemoConn V E Y U W)
+    (r : Result (Vec ℕ Global) X) (script : ScriptView) (os : List OutcomeView)
+    (pool : Pool DemoLayer) (served : IsServed s script os pool) where
+  -- the printed outcomes are the text of the replies
+  pub printed_replies : (serials : List ℕ) (made : ℕ) → serials ≡ pool.serials → made ≡ pool.made
+      → IfOk r (λ text. text.items ≡ print os serials made)
+      → IfOk r (λ text. AreRepliesTo s script text.items)
+  unfolding replies_to
+  printed_replies serials made none records is = replies r is
+    where
+      replies : (t : Result (Vec ℕ Global) X) → IfOk t (λ text. text.items ≡ print os serials made)
+          → IfOk t (λ text. AreRepliesTo s script text.items)
+      replies (Ok text) is = λ a h meets handles.
+          rw (served.outcomes a h meets handles, none ∙ served.serials, records ∙ served.made) at is
+      replies (Err e) is = tt
+
+  -- and their summary that of the script
+  pub summarized_script : (script_len made : ℕ) → made ≡ pool.made
+      → IfOk r (λ text. text.items ≡ summary script_len os made)
+      → IfOk r (λ text. IsSummaryOf s script_len script text.items)
+  unfolding summary_of
+  summarized_script script_len made records is = summarized r is
+    where
+      summarized : (t : Result (Vec ℕ Global) X)
+          → IfOk t (λ text. text.items ≡ summary script_len os made)
+          → IfOk t (λ text. IsSummaryOf s script_len script text.items)
+      summarized (Ok text) is = λ a h meets handles.
+          rw (served.outcomes a h meets handles, records ∙ served.made) at is
+      summarized (Err e) is = tt
+
+module _ {V E Y U W X : Type 0} (s : Setting Feed DemoLayer DemoLocal DemoConn V E Y U W)
+    (r : Result (Vec ℕ Global) X) (x y : ScriptView) (same : x ≡ y) where
+  -- the same of one script, seen twice
+  pub summary_same : (n m : ℕ) → n ≡ m → IfOk r (λ text. IsSummaryOf s n x text.items)
+      → IfOk r (λ text. IsSummaryOf s m y text.items)
+  summary_same n m len h =
+      subst (λ (k : ℕ). IfOk r (λ text. IsSummaryOf s k y text.items)) len
+      (subst (λ (v : ScriptView). IfOk r (λ text. IsSummaryOf s n v text.items)) same h)
+
+  pub calls_same : (old new : Option (List V)) → OnOk r (AppendsCallsTo s old new x)
+      → OnOk r (AppendsCallsTo s old new y)
+  calls_same old new h =
+      subst (λ (v : ScriptView). OnOk r (AppendsCallsTo s old new v)) same h
 
 at_most_one : (b : Bool) → cond b 1 0 ≤ 1
 at_most_one true = omega arith

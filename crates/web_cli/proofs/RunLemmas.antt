@@ -1,5 +1,6 @@
 -- What the parts of a run say of its status.
 use Rattle.std.proofs.Common.{◌≡◌, ℕ, true, List, inl, inr, ◌⊎◌, ◌∙◌, ap}
+use Rattle.std.specs.Prelude.{Some}
 use Rattle.web_io.specs.IoState.{InputState, OutputState}
 use Rattle.web_io.specs.WholeReading.{IsAll}
 use Rattle.web_demo.specs.DemoFunctions.{demo_handler}
@@ -11,7 +12,11 @@ use Rattle.web_demo.specs.DemoReplies.{HandlerAnswers, Output, answer_reply}
 use Rattle.web_demo.proofs.RepliesLemmas.{reply_only}
 use Rattle.web_demo.specs.ServiceFunctions.{HandlerMeets}
 use Rattle.web_cli.specs.ScriptAnswers.{is_valid_script}
-use Rattle.web_cli.specs.Run.{HasNoMemory, Headline, IsRefused, ServeResult, WritesReplies}
+use Rattle.web_cli.specs.Run.{HasNoMemory, Headline, IsRefused, ServeResult, WritesAlone, WritesReplies}
+use Rattle.web_cli.specs.CommandWords.{usage}
+use Rattle.web_cli.specs.Run.{WritesText, WritesUsage}
+use Rattle.web_cli.specs.declared.words.Command.TheVariants.{Replay}
+use Rattle.web_generator.specs.declared.load.Load.{Load}
 use Rattle.web_cli.specs.WriteOrFault.{WritesOrFaults}
 use Rattle.web_cli.specs.declared.status.Status.{Status}
 use Rattle.web_cli.specs.declared.status.Status.TheVariants as status
@@ -90,6 +95,33 @@ module _ (r s : List ℕ → List ℕ → Type 0) (c d : List ℕ → Type 0)
       → Headline r c a i j o p → Headline s d a i j o p
   headline_as a i j o p h script left fits valid read written =
       writes_as a script j o p (h script left fits valid read written)
+
+pub usage_written : (a : Status) (o p : OutputState) → WritesOrFaults usage status.Usage a o p → WritesUsage a o p
+usage_written a o p (inl (done, written)) = rw done written
+usage_written a o p (inr (failed, cut)) = rw failed cut
+
+pub replayed_load : (x y : Load) → Some (Replay x) ≡ Some (Replay y) → x ≡ y
+replayed_load x y same = cc
+
+-- what a command wrote that reads nothing
+pub wrote : (P : List ℕ → Type 0) (called : Type 0) (a : Status) (text : List ℕ)
+    (o p : OutputState) → P text → called → WritesOrFaults text status.Done a o p
+    → WritesText P called a o p
+wrote P called a text o p is calls (inl (done, written)) = rw done ((text, is, written), calls)
+wrote P called a text o p is calls (inr (failed, cut)) = rw failed (text, is, cut)
+
+module _ (P Q : List ℕ → Type 0) (c d : Type 0) (f : (text : List ℕ) → P text → Q text) (g : c → d) where
+  text_as : (a : Status) (o p : OutputState) → WritesText P c a o p → WritesText Q d a o p
+  text_as status.Done o p h = ((h.0.0, f h.0.0 h.0.1, h.0.2), g h.1)
+  text_as status.WriteFault o p h = (h.0, f h.0 h.1, h.2)
+  text_as status.NoMemory o p h = h
+  text_as status.Script o p h = absurd h
+  text_as status.ReadFault o p h = absurd h
+  text_as status.Usage o p h = absurd h
+
+  pub alone_as : (a : Status) (i j : InputState) (o p : OutputState)
+      → WritesAlone P c a i j o p → WritesAlone Q d a i j o p
+  alone_as a i j o p h = record { input = h.input; text_written = text_as a o p h.text_written }
 
 -- what an output responds with
 abbrev pub OutputResponds : Output → DemoRequest → Reply Plain → Type 0

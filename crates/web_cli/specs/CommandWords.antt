@@ -1,10 +1,57 @@
 -- The arguments of the command.
-use Rattle.std.specs.Prelude.{◌≡◌, ℕ, List, [], ◌∷◌, ◌++◌, codes}
+use Rattle.std.specs.Prelude.{◌≡◌, ℕ, ◌==◌, ◌&&◌, List, [], ◌∷◌, ◌++◌, Option, None, Some, codes}
+use Rattle.std.specs.Prelude.{bytes_eq, if◌then◌else◌, ⊤}
+use Rattle.std.specs.Option.{option_and_then, option_map}
+use Rattle.web_texts.specs.Digits.{digits_up_to}
 use Rattle.web_print.specs.TextLines.{newline}
+use Rattle.web_generator.specs.declared.load.Load.{Load}
+use Rattle.web_cli.specs.declared.words.Command.{Command}
+use Rattle.web_cli.specs.declared.words.Command.TheVariants.{Serve, Generate, Replay}
 
--- the arguments are `serve` and `--pool=0`
+-- a count of exchanges, in digits: 1 to 50,000
+abbrev pub count_of : List ℕ → Option ℕ
+count_of text =
+    option_and_then (λ n. if n == 0 then None else Some n) (digits_up_to 50000 text)
+
+abbrev pub new_load : ℕ → ℕ → Load
+new_load seed count = record { seed = seed; count = count }
+
+-- a seed of 0 to 2^64 - 1 and a count, both in digits
+abbrev pub load_of : List ℕ → List ℕ → Option Load
+load_of seed count =
+    option_and_then (λ s. option_map (new_load s) (count_of count))
+    (digits_up_to 18446744073709551615 seed)
+
+-- the command of this word, with a load
+abbrev pub load_command : List ℕ → Option Load → Option Command
+load_command word load =
+    if bytes_eq word (codes "generate") then option_map (λ l. Generate l) load
+    else if bytes_eq word (codes "replay") then option_map (λ l. Replay l) load
+    else None
+
+-- the command that the arguments ask for
+abbrev pub command_of : List (List ℕ) → Option Command
+command_of (word ∷ pool ∷ []) =
+    if bytes_eq word (codes "serve") && bytes_eq pool (codes "--pool=0") then Some Serve else None
+command_of (word ∷ seed ∷ count ∷ []) = load_command word (load_of seed count)
+command_of _ = None
+
+-- the arguments ask for `serve`, for `generate` with this load, or for `replay` with this load
 abbrev pub IsServe : List (List ℕ) → Type 0
-IsServe words = words ≡ codes "serve" ∷ codes "--pool=0" ∷ []
+IsServe words = command_of words ≡ Some Serve
+
+abbrev pub IsGenerate : List (List ℕ) → Load → Type 0
+IsGenerate words load = command_of words ≡ Some (Generate load)
+
+abbrev pub IsReplay : List (List ℕ) → Load → Type 0
+IsReplay words load = command_of words ≡ Some (Replay load)
+
+-- P, where there is no command, or one that calls no handler
+abbrev pub IfUncalled : Option Command → Type 0 → Type 0
+IfUncalled None P = P
+IfUncalled (Some Serve) P = ⊤
+IfUncalled (Some (Generate load)) P = P
+IfUncalled (Some (Replay load)) P = ⊤
 
 -- the text that is written where the arguments are no command
 abbrev pub usage : List ℕ

@@ -7,6 +7,7 @@ use Rattle.web_demo.specs.declared.picked.Picked.{Picked}
 use Rattle.web_demo_flights.specs.DemoExchanges.{DemoRequest}
 use Rattle.web_demo.specs.DemoFunctions.{demo_handler, picked_arguments}
 use Rattle.web_demo.specs.ServiceFunctions.{HandlerFunctions, HandlerMeets}
+use Rattle.web_cli.specs.LoadTexts.{summary_text}
 use Rattle.web_cli.specs.ScriptAnswers.{replies_text, script_calls}
 
 -- for all functions that the handler meets, this is the text of the replies to the script
@@ -16,6 +17,13 @@ ArePickedReplies answers responds script text =
     (h : HandlerFunctions Picked) → HandlerMeets answers responds h
     → text ≡ replies_text picked_arguments h script
 
+-- for all functions that the handler meets, this is the summary of the script
+abbrev pub IsPickedSummary : {Y : Type 0} → (Picked → ℕ → Y → Type 0)
+    → (Y → DemoRequest → Reply Plain → Type 0) → List ℕ → List ℕ → Type 0
+IsPickedSummary answers responds script text =
+    (h : HandlerFunctions Picked) → HandlerMeets answers responds h
+    → text ≡ summary_text picked_arguments h script
+
 -- the list of calls, where the handler keeps one, grew by those for the script
 abbrev pub AppendsPickedCalls : Option (List Picked) → Option (List Picked) → List ℕ → Type 0
 AppendsPickedCalls old new script =
@@ -24,3 +32,7 @@ AppendsPickedCalls old new script =
 -- this is the text of the replies to the script by the program's own handler
 abbrev pub IsDemoText : List ℕ → List ℕ → Type 0
 IsDemoText script text = text ≡ replies_text picked_arguments demo_handler script
+
+-- this is the summary of the script by the program's own handler
+abbrev pub IsDemoSummary : List ℕ → List ℕ → Type 0
+IsDemoSummary script text = text ≡ summary_text picked_arguments demo_handler script

@@ -1,5 +1,6 @@
 pub mod CommandWords
 pub mod DemoScripts
+pub mod LoadTexts
 pub mod Run
 pub mod ScriptAnswers
 pub mod StatusCode

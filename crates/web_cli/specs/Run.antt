@@ -104,6 +104,23 @@ pub record RefusesWords (result : Status) (i j : InputState) (o p : OutputState)
   pub input : j ≡ i
   pub usage_written : WritesUsage result o p
 
+-- What a command that reads nothing wrote: a text with P, or a prefix of one where a write failed,
+-- or nothing where an allocation failed. Where all was written, `called` says what was done to the
+-- handler.
+abbrev pub WritesText :
+    (List ℕ → Type 0) → Type 0 → Status → OutputState → OutputState → Type 0
+WritesText P called status.Done o p = ((text : List ℕ) × P text × IsWritten text o p) × called
+WritesText P called status.WriteFault o p =
+    (text : List ℕ) × P text × ((sent : ℕ) × IsCutOff sent text o p)
+WritesText P called status.NoMemory o p = p ≡ o
+WritesText P called _ o p = ⊥
+
+-- the input is as it was, and this is what was written
+pub record WritesAlone (P : List ℕ → Type 0) (called : Type 0) (result : Status)
+    (i j : InputState) (o p : OutputState) : Type 0 where
+  pub input : j ≡ i
+  pub text_written : WritesText P called result o p
+
 -- where a read failed, that is the status, or allocation failed
 abbrev pub ReadFaultIsReported : Status → InputState → InputState → Type 0
 ReadFaultIsReported result i j =

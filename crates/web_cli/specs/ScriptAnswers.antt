@@ -6,6 +6,7 @@ use Rattle.std.specs.Option.{option_map}
 use Rattle.std.specs.Result.{result_ok}
 use Rattle.web_request.specs.Body.{is_body}
 use Rattle.web_request.specs.Feed.{Feed}
+use Rattle.web_request.specs.Pool.{Pool}
 use Rattle.web_worker.specs.Exchanges.{FlightView, FlightView.Waiting}
 use Rattle.web_worker.specs.Outcomes.{OutcomeView}
 use Rattle.web_worker.specs.PlanCalls.{calls_of}
@@ -87,6 +88,16 @@ module _ {V E Y U W : Type 0} (s : Setting Feed DemoLayer DemoLocal DemoConn V E
 
   abbrev pub AreReplies : List ℕ → List ℕ → Type 0
   AreReplies bytes text = AreRepliesTo (script_view (script_lines bytes)) text
+
+  -- The script was served with these outcomes. No record is kept, and one was made for each
+  -- exchange that the plan names.
+  pub record IsServed (script : ScriptView) (os : List OutcomeView) (pool : Pool DemoLayer)
+      : Type 0 where
+    pub outcomes : (a : ArgumentFunctions V) (h : HandlerFunctions V)
+        → ArgumentsMeet s.rules.means s.rules.converts a
+        → HandlerMeets s.rules.answers s.rules.responds h → os ≡ script_outcomes a h script
+    pub serials : pool.serials ≡ []
+    pub made : pool.made ≡ named_count script.plan script.exchanges
 
   -- for all functions that the arguments meet, the list of calls, where the handler keeps one, grew
   -- by those for the script

@@ -1,8 +1,10 @@
-//! The command of Rothveng: it reads a script, serves its exchanges and writes their replies.
+//! The command of Rothveng: it reads a script, serves its exchanges and writes their replies; and
+//! it writes and serves scripts of its own.
 //!
 //! What it stands on is re-exported here, so that a program needs this crate alone.
 #![tactic(auto)]
 
+mod loads;
 mod script_answer;
 mod serving;
 mod status;
@@ -12,10 +14,11 @@ mod writing;
 pub use serving::{run, run_program};
 pub use status::Status;
 pub use web_demo::{
-    Answer, Answering, DataArguments, Delayed, Demo, DemoConn, DemoFlights, DemoHandler, DemoLayer,
-    DemoLocal, DemoOutput, Item, Late, LateFuture, Picked, PickedFuture, RawBody, Wait, demo_law,
-    picked_law,
+    AllLines, Answer, Answering, CookieArguments, DataArguments, Delayed, Demo, DemoConn,
+    DemoFlights, DemoHandler, DemoLayer, DemoLocal, DemoOutput, Item, Late, LateFuture, Picked,
+    PickedFuture, RawBody, Wait, demo_law, picked_law,
 };
+pub use web_generator::{Load, script_text};
 pub use web_io::{
     Input, MemInput, MemOutput, Output, PlainInput, PlainOutput, ReadAnswer, ReadWhole,
     SCRIPT_LIMIT, StdInput, StdOutput, WriteAnswer, read_whole, write_whole,
@@ -24,4 +27,4 @@ pub use web_script::{
     ExchangeSink, InvalidScript, LayerSettings, Reason, Script, ScriptedExchange, first_fault_law,
     read_script, read_script_into, target_law,
 };
-pub use words::is_serve;
+pub use words::{Command, command_of};

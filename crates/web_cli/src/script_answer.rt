@@ -1,5 +1,5 @@
 //! The text of the replies to a script.
-ghost use Rattle.std.specs.Prelude.{◌≡◌, ◌<◌, ◌^◌, length, IfOk, OnOk};
+ghost use Rattle.std.specs.Prelude.{◌≡◌, ◌<◌, ◌^◌, length, map, IfOk, OnOk};
 ghost use Rattle.std.specs.List.{list_any};
 ghost use Rattle.web_worker.specs.Flights.{flight_outcome};
 ghost use Rattle.web_worker.specs.HandlerPromises.{SamePromises};
@@ -8,6 +8,7 @@ ghost use Rattle.web_demo_flights.specs.DemoExchanges.{demo_pool};
 ghost use Rattle.web_cli.specs.ScriptAnswers.{AppendsCallsTo, AppendsScriptCalls};
 ghost use Rattle.web_cli.specs.ScriptAnswers.{AreReplies, AreRepliesTo, FlightsOf};
 ghost use Rattle.web_cli.specs.ScriptAnswers.{fault_text, IsValid, OnRefused, OnReplies};
+ghost use Rattle.web_cli.specs.ScriptAnswers.{IsServed};
 
 use bytes::Bytes;
 use std::alloc::Global;
@@ -17,7 +18,7 @@ use web_print::printed;
 use web_reply::Responder;
 use web_script::{InvalidScript, read_script_into};
 use web_texts::{Fail, NoMemory};
-use web_worker::{Flight, Handler, Outcome, Serves, serve_flights};
+use web_worker::{Flight, Handler, Outcome, Serves, Worker, serve_flights};
 
 /// The result of serving a script of at most the limit.
 #[derive(Drop)]
@@ -52,6 +53,39 @@ fn any_lacks_memory<Args: FromRequest<Demo>, H: Handler<Args>>(
     flights.iter().any(|flight| lacks_memory(flight))
 }
 
+/// Serves the flights of a script by its plan, and returns the worker that served them.
+///
+/// # Errors
+///
+/// `NoMemory` comes where an allocation failed for one exchange, too.
+pub(crate) fn serve_script<Args: FromRequest<Demo>, H: Handler<Args>>(
+    alloc: Global,
+    flights: &mut [Flight<Demo, Args, H>],
+    plan: &[u32],
+    handler: &mut H,
+) -> Result<Worker<Demo>, NoMemory>
+where
+    H::Output: Responder<Demo>,
+    requires room { length flights.old < 2 ^ 64 }
+    requires ready { H.ready handler.old }
+    ensures ready { H.ready handler.new }
+    ensures same_promises { SamePromises (H.answers handler.old) (H.answers handler.new) }
+    ensures count { length flights.new ≡ length flights.old }
+    ensures serves { FlightsOf flights.old plan.now (λ script. IfOk result (λ worker. IsServed
+        (⟦<H as Serves<Demo, Args>>⟧.setting handler.old demo_pool)
+        script (map (λ f. flight_outcome f) flights.new) worker)) }
+    ensures calls { FlightsOf flights.old plan.now (λ script. OnOk result (AppendsCallsTo
+        (⟦<H as Serves<Demo, Args>>⟧.setting handler.old demo_pool)
+        (H.calls handler.old) (H.calls handler.new) script)) }
+{
+    let mut worker = worker(alloc)?;
+    serve_flights(alloc, &mut worker, flights, plan, handler);
+    if any_lacks_memory(flights) {
+        return Err(NoMemory);
+    }
+    Ok(worker)
+}
+
 /// Serves the flights of a script by its plan, and returns the text of the replies.
 ///
 /// # Errors
@@ -75,11 +109,7 @@ where
         (⟦<H as Serves<Demo, Args>>⟧.setting handler.old demo_pool)
         (H.calls handler.old) (H.calls handler.new) script)) }
 {
-    let mut worker = worker(alloc)?;
-    serve_flights(alloc, &mut worker, flights, plan, handler);
-    if any_lacks_memory(flights) {
-        return Err(NoMemory);
-    }
+    let worker = serve_script(alloc, flights, plan, handler)?;
     let pool = worker.pool();
     printed(alloc, flights, pool.serials(), pool.made())
 }

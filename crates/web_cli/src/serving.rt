@@ -1,16 +1,21 @@
 //! The command: its words, its input and its output.
-ghost use Rattle.std.specs.Prelude.{◌≡◌, List, ℕ, map, string_bytes, ⊤};
+ghost use Rattle.std.specs.Prelude.{◌≡◌, List, ℕ, None, map, string_bytes, ⊤};
+ghost use Rattle.web_generator.specs.declared.load.Load.{Load};
 ghost use Rattle.web_worker.specs.HandlerPromises.{SamePromises};
 ghost use Rattle.web_demo_flights.specs.DemoExchanges.{demo_pool};
-ghost use Rattle.web_cli.specs.CommandWords.{IsServe};
-ghost use Rattle.web_cli.specs.DemoScripts.{AppendsPickedCalls, ArePickedReplies, IsDemoText};
+ghost use Rattle.web_cli.specs.CommandWords.{IfUncalled, IsGenerate, IsReplay, IsServe};
+ghost use Rattle.web_cli.specs.CommandWords.{command_of};
+ghost use Rattle.web_cli.specs.DemoScripts.{AppendsPickedCalls, ArePickedReplies};
+ghost use Rattle.web_cli.specs.DemoScripts.{IsDemoSummary, IsDemoText, IsPickedSummary};
+ghost use Rattle.web_cli.specs.LoadTexts.{IsSummary, load_script};
 ghost use Rattle.web_cli.specs.Run.{Headline, ReadFaultIsReported, RefusesWords, ServeResult};
-ghost use Rattle.web_cli.specs.Run.{TooLongIsReported, WriteFaultIsReported};
+ghost use Rattle.web_cli.specs.Run.{TooLongIsReported, WriteFaultIsReported, WritesAlone};
 ghost use Rattle.web_cli.specs.ScriptAnswers.{AppendsScriptCalls, AreReplies};
 
+use crate::loads::{generate, replay};
 use crate::script_answer::{ScriptAnswer, answer_script};
 use crate::status::Status;
-use crate::words::{USAGE, is_serve};
+use crate::words::{Command, USAGE, command_of};
 use crate::writing::write_or_fault;
 use std::alloc::Global;
 use web_demo::{Demo, DemoHandler, Picked};
@@ -66,9 +71,10 @@ where
     requires ready { H.ready handler.old }
     ensures ready { H.ready handler.new }
     ensures same_promises { SamePromises (H.answers handler.old) (H.answers handler.new) }
-    ensures no_command { ¬ (IsServe (map string_bytes words.now)) → RefusesWords result
+    ensures no_command { command_of (map string_bytes words.now) ≡ None → RefusesWords result
         (I.state input.old) (I.state input.new) (O.state output.old) (O.state output.new) }
-    ensures uncalled { ¬ (IsServe (map string_bytes words.now)) → handler.new ≡ handler.old }
+    ensures uncalled { IfUncalled (command_of (map string_bytes words.now))
+        (handler.new ≡ handler.old) }
     ensures serves { IsServe (map string_bytes words.now) → (came : List ℕ) × ServeResult
         (AreReplies (⟦<H as Serves<Demo, Args>>⟧.setting handler.old demo_pool))
         (AppendsScriptCalls (⟦<H as Serves<Demo, Args>>⟧.setting handler.old demo_pool)
@@ -80,14 +86,23 @@ where
         (AppendsScriptCalls (⟦<H as Serves<Demo, Args>>⟧.setting handler.old demo_pool)
         (H.calls handler.old) (H.calls handler.new)) result
         (I.state input.old) (I.state input.new) (O.state output.old) (O.state output.new) }
+    ensures generates { (load : Load) → IsGenerate (map string_bytes words.now) load → WritesAlone
+        (λ text. text ≡ load_script load) ⊤ result
+        (I.state input.old) (I.state input.new) (O.state output.old) (O.state output.new) }
+    ensures replays { (load : Load) → IsReplay (map string_bytes words.now) load → WritesAlone
+        (IsSummary (⟦<H as Serves<Demo, Args>>⟧.setting handler.old demo_pool) (load_script load))
+        (AppendsScriptCalls (⟦<H as Serves<Demo, Args>>⟧.setting handler.old demo_pool)
+        (H.calls handler.old) (H.calls handler.new) (load_script load)) result
+        (I.state input.old) (I.state input.new) (O.state output.old) (O.state output.new) }
     ensures read_fault { ReadFaultIsReported result (I.state input.old) (I.state input.new) }
     ensures write_fault { WriteFaultIsReported result (O.state output.old) (O.state output.new) }
     ensures too_long { TooLongIsReported result (I.state input.old) (I.state input.new) }
 {
-    if is_serve(words) {
-        serve::<I, O, Args, H>(alloc, input, output, handler)
-    } else {
-        write_or_fault(output, USAGE, Status::Usage)
+    match command_of(words) {
+        Some(Command::Serve) => serve::<I, O, Args, H>(alloc, input, output, handler),
+        Some(Command::Generate(load)) => generate(alloc, output, load),
+        Some(Command::Replay(load)) => replay::<O, Args, H>(alloc, output, handler, load),
+        None => write_or_fault(output, USAGE, Status::Usage),
     }
 }
 
@@ -95,7 +110,14 @@ where
 ///
 /// `serve --pool=0` reads a script of at most 16,777,216 bytes from `input`, serves its exchanges
 /// by `handler`, and writes the replies to `output`. The arguments of each exchange are those that
-/// the first segment of its path asks for. Any other words write the usage.
+/// the first segment of its path asks for.
+///
+/// `generate SEED COUNT` writes the script of a load (see [`web_generator::script_text`]), of a
+/// seed up to 2^64 - 1 and 1 to 50,000 exchanges. `replay SEED COUNT` serves that script by
+/// `handler` and writes a summary: its bytes, its exchanges, how many of them are unfinished, how
+/// many replies have each status, and how many records were made. Both read nothing.
+///
+/// Any other words write the usage.
 ///
 /// A script that is refused writes `line N: reason` of its first faulty line, numbered from 1, or
 /// `line 0: too long` where more bytes came.
@@ -113,9 +135,10 @@ where
     requires ready { H.ready handler.old }
     ensures ready { H.ready handler.new }
     ensures same_promises { SamePromises (H.answers handler.old) (H.answers handler.new) }
-    ensures no_command { ¬ (IsServe (map string_bytes words.now)) → RefusesWords result
+    ensures no_command { command_of (map string_bytes words.now) ≡ None → RefusesWords result
         (I.state input.old) (I.state input.new) (O.state output.old) (O.state output.new) }
-    ensures uncalled { ¬ (IsServe (map string_bytes words.now)) → handler.new ≡ handler.old }
+    ensures uncalled { IfUncalled (command_of (map string_bytes words.now))
+        (handler.new ≡ handler.old) }
     ensures serves { IsServe (map string_bytes words.now) → (came : List ℕ) × ServeResult
         (ArePickedReplies (H.answers handler.old) H.Output.responds)
         (AppendsPickedCalls (H.calls handler.old) (H.calls handler.new))
@@ -124,6 +147,13 @@ where
     ensures headline { IsServe (map string_bytes words.now) → Headline
         (ArePickedReplies (H.answers handler.old) H.Output.responds)
         (AppendsPickedCalls (H.calls handler.old) (H.calls handler.new)) result
+        (I.state input.old) (I.state input.new) (O.state output.old) (O.state output.new) }
+    ensures generates { (load : Load) → IsGenerate (map string_bytes words.now) load → WritesAlone
+        (λ text. text ≡ load_script load) ⊤ result
+        (I.state input.old) (I.state input.new) (O.state output.old) (O.state output.new) }
+    ensures replays { (load : Load) → IsReplay (map string_bytes words.now) load → WritesAlone
+        (IsPickedSummary (H.answers handler.old) H.Output.responds (load_script load))
+        (AppendsPickedCalls (H.calls handler.old) (H.calls handler.new) (load_script load)) result
         (I.state input.old) (I.state input.new) (O.state output.old) (O.state output.new) }
     ensures read_fault { ReadFaultIsReported result (I.state input.old) (I.state input.new) }
     ensures write_fault { WriteFaultIsReported result (O.state output.old) (O.state output.new) }
@@ -139,13 +169,19 @@ pub fn run_program<I: Input, O: Output>(
     input: &mut I,
     output: &mut O,
 ) -> Status
-    ensures no_command { ¬ (IsServe (map string_bytes words.now)) → RefusesWords result
+    ensures no_command { command_of (map string_bytes words.now) ≡ None → RefusesWords result
         (I.state input.old) (I.state input.new) (O.state output.old) (O.state output.new) }
     ensures serves { IsServe (map string_bytes words.now) → (came : List ℕ) × ServeResult
         IsDemoText (λ _. ⊤) ⊤ result came
         (I.state input.old) (I.state input.new) (O.state output.old) (O.state output.new) }
     ensures headline { IsServe (map string_bytes words.now) → Headline
         IsDemoText (λ _. ⊤) result
+        (I.state input.old) (I.state input.new) (O.state output.old) (O.state output.new) }
+    ensures generates { (load : Load) → IsGenerate (map string_bytes words.now) load → WritesAlone
+        (λ text. text ≡ load_script load) ⊤ result
+        (I.state input.old) (I.state input.new) (O.state output.old) (O.state output.new) }
+    ensures replays { (load : Load) → IsReplay (map string_bytes words.now) load → WritesAlone
+        (IsDemoSummary (load_script load)) ⊤ result
         (I.state input.old) (I.state input.new) (O.state output.old) (O.state output.new) }
     ensures read_fault { ReadFaultIsReported result (I.state input.old) (I.state input.new) }
     ensures write_fault { WriteFaultIsReported result (O.state output.old) (O.state output.new) }

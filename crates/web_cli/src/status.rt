@@ -5,7 +5,7 @@ ghost use Rattle.web_cli.specs.StatusCode.{status_code};
 /// How a run of the command ends.
 #[derive(Clone, Copy, Debug, PartialEq, Eq)]
 pub enum Status {
-    /// The script was served, and the replies were written.
+    /// The whole text was written: the replies to a script, the script of a load, or the summary.
     Done,
     /// The script was refused, and `line N: reason` was written: a line is faulty, or it is longer
     /// than `SCRIPT_LIMIT`.

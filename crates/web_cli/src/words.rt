@@ -1,17 +1,63 @@
 //! The arguments of the command.
-ghost use Rattle.std.specs.Prelude.{◌↔◌, IsTrue, map, string_bytes};
-ghost use Rattle.web_cli.specs.CommandWords.{IsServe};
+ghost use Rattle.std.specs.Prelude.{◌≡◌, map, string_bytes};
+ghost use Rattle.web_cli.specs.CommandWords.{command_of, count_of, load_of};
+
+use web_generator::Load;
+use web_texts::read_digits;
 
 /// The text that is written where the arguments are no command.
 pub(crate) const USAGE: &[u8] =
     b"usage: serve --pool=N | generate SEED COUNT | replay SEED COUNT\n";
 
-/// Whether the arguments are `serve --pool=0`.
-pub fn is_serve(words: &[String]) -> bool
-    ensures { IsTrue result ↔ IsServe (map string_bytes words.now) }
+/// The most exchanges of a load.
+const MAX_COUNT: u64 = 50_000;
+
+/// A command, as its arguments ask for it.
+#[derive(Clone, Copy, Debug, PartialEq, Eq)]
+pub enum Command {
+    /// `serve --pool=0`: reads a script and serves it.
+    Serve,
+    /// `generate SEED COUNT`: writes the script of a load.
+    Generate(Load),
+    /// `replay SEED COUNT`: serves that script, and writes a summary.
+    Replay(Load),
+}
+
+/// A count of exchanges, in digits: 1 to 50,000.
+fn count_of(text: &str) -> Option<u32>
+    ensures { result ≡ count_of text.now }
+{
+    match read_digits(text, MAX_COUNT) {
+        None | Some(0) => None,
+        Some(count) => Some(count as u32),
+    }
+}
+
+/// A load of a seed and a count, both in digits.
+fn load_of(seed: &str, count: &str) -> Option<Load>
+    ensures { result ≡ load_of seed.now count.now }
+{
+    let seed = read_digits(seed, u64::MAX)?;
+    let count = count_of(count)?;
+    Some(Load { seed, count })
+}
+
+/// The command that these arguments ask for. `None` where they are none: there are others than the
+/// arguments of one command, the seed is no number up to 2^64 - 1, or the count is none from 1 to
+/// 50,000.
+pub fn command_of(words: &[String]) -> Option<Command>
+    ensures { result ≡ command_of (map string_bytes words.now) }
 {
     match words {
-        [first, second] => first.as_str() == "serve" && second.as_str() == "--pool=0",
-        _ => false,
+        [word, pool] if word.as_str() == "serve" && pool.as_str() == "--pool=0" => {
+            Some(Command::Serve)
+        }
+        [word, seed, count] if word.as_str() == "generate" => {
+            Some(Command::Generate(load_of(seed.as_str(), count.as_str())?))
+        }
+        [word, seed, count] if word.as_str() == "replay" => {
+            Some(Command::Replay(load_of(seed.as_str(), count.as_str())?))
+        }
+        _ => None,
     }
 }

@@ -72,11 +72,18 @@ named_attribute name value =
     then option_map_or Expires (date_of value) Other
     else Other
 
+-- an attribute without `=`
+abbrev pub bare_attribute : List ℕ → Attribute
+bare_attribute name =
+    if str_eq_ignore_ascii_case name (codes "httponly") then HttpOnly
+    else if str_eq_ignore_ascii_case name (codes "secure") then Secure
+    else Other
+
 abbrev pub attribute_in : List ℕ → Option (List ℕ × List ℕ) → Attribute
-attribute_in part None = named_attribute (trimmed part) []
+attribute_in part None = bare_attribute (trimmed part)
 attribute_in part (Some halves) = named_attribute (trimmed halves.0) (trimmed halves.1)
 
--- Name and value stand round the first `=`, trimmed; without one the value is empty.
+-- Name and value stand round the first `=`, trimmed; without one there is no value.
 abbrev pub attribute_of : List ℕ → Attribute
 attribute_of part = attribute_in part (split_once 61 part)
 

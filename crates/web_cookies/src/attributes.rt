@@ -5,9 +5,9 @@ ghost use Rattle.std.specs.List.{list_all};
 ghost use Rattle.std.specs.Str.{str_eq_ignore_ascii_case};
 ghost use Rattle.web_texts.specs.Digits.{are_digits};
 ghost use Rattle.web_cookies.specs.CookieFields.{date_parts};
-ghost use Rattle.web_cookies.specs.Attributes.{age_of, attribute_of, attributes_of, date_of};
-ghost use Rattle.web_cookies.specs.Attributes.{named_attribute, site_of, with_attributes};
-ghost use Rattle.web_cookies.specs.Attributes.{without_dot};
+ghost use Rattle.web_cookies.specs.Attributes.{age_of, attribute_of, attributes_of};
+ghost use Rattle.web_cookies.specs.Attributes.{bare_attribute, date_of, named_attribute, site_of};
+ghost use Rattle.web_cookies.specs.Attributes.{with_attributes, without_dot};
 
 use crate::response_cookie::Cookie;
 use crate::same_site::SameSite;
@@ -39,7 +39,21 @@ fn read_attribute(alloc: Global, cookie: &mut Cookie, part: &str) -> Result<(), 
 {
     match cut_at(part, b'=') {
         Some((name, value)) => set_attribute(alloc, cookie, trim(name), trim(value)),
-        None => set_attribute(alloc, cookie, trim(part), ""),
+        None => {
+            set_flag(cookie, trim(part));
+            Ok(())
+        }
+    }
+}
+
+/// Sets what an attribute without a value says.
+fn set_flag(cookie: &mut Cookie, name: &str)
+    ensures { cookie.new ≡ with_attributes (bare_attribute name.now ∷ []) cookie.old }
+{
+    if is_word(name, "httponly") {
+        cookie.set_http_only(true);
+    } else if is_word(name, "secure") {
+        cookie.set_secure(Some(true));
     }
 }
 

@@ -1,5 +1,7 @@
 //! The cookies of a request.
-ghost use Rattle.std.specs.Prelude.{◌≡◌, ◌++◌, OnOk, codes, true, false};
+ghost use Rattle.std.specs.Prelude.{◌≡◌, ◌++◌, IfOk, OnOk, codes, true, false};
+ghost use Rattle.std.specs.List.{find};
+ghost use Rattle.std.specs.Str.{bytes_eq};
 ghost use Rattle.http_header.specs.HeaderMap.{get_all};
 ghost use Rattle.web_cookies.specs.CookieReaders.{SaysBy};
 ghost use Rattle.web_cookies.specs.HeaderCookies.{cookie_of_part, cookies_in, cookies_said};
@@ -10,7 +12,7 @@ use crate::response_cookie::Cookie;
 use http_header::{COOKIE, HeaderMap, HeaderValue};
 use std::alloc::Global;
 use std::str;
-use web_texts::{Fail, NoMemory, first_part, trim};
+use web_texts::{Duplicate, Fail, NoMemory, first_part, trim};
 
 /// The cookies that a client sends back in the header Cookie (RFC 6265, section 5.4), in their
 /// order, with names and values percent-decoded. Each part between semicolons is trimmed and read
@@ -98,4 +100,22 @@ fn add_cookie(
         Err(Fail::NoMemory) => Err(NoMemory),
         Err(Fail::Of(_)) => Ok(()),
     }
+}
+
+/// A copy of the first of these cookies that has this name. Returns `NoMemory` where allocation
+/// failed.
+pub fn cookie_named(
+    alloc: Global,
+    cookies: &[Cookie],
+    name: &str,
+) -> Result<Option<Cookie>, NoMemory>
+    ensures { IfOk result (λ found.
+        found ≡ find (λ cookie. bytes_eq cookie.name name.now) cookies.now) }
+{
+    for cookie in cookies {
+        if cookie.name() == name {
+            return Ok(Some(cookie.duplicate(alloc)?));
+        }
+    }
+    Ok(None)
 }

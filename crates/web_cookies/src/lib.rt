@@ -10,6 +10,6 @@ mod response_cookie;
 mod same_site;
 
 pub use cookie_parse_error::CookieParseError;
-pub use header_cookies::{decoded_cookies, raw_cookies};
+pub use header_cookies::{cookie_named, decoded_cookies, raw_cookies};
 pub use response_cookie::Cookie;
 pub use same_site::SameSite;

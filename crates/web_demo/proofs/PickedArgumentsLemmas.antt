@@ -11,7 +11,8 @@ use Rattle.web_headers.specs.declared.accept_header.Accept.{Accept}
 use Rattle.web_request.specs.declared.source.Mark.{Mark}
 use Rattle.web_request.specs.Feed.{Feed}
 use Rattle.web_request.specs.Head.{head_path}
-use Rattle.web_request.specs.Request.{Record}
+use Rattle.web_request.specs.KeptValues.{known_cookies}
+use Rattle.web_request.specs.Request.{Record, nothing_kept}
 use Rattle.web_body.specs.MemoryBodies.{marks_feed}
 use Rattle.web_body.specs.declared.payload.Payload.{Payload}
 use Rattle.web_body.specs.declared.payload.Payload.TheVariants as payload
@@ -19,7 +20,7 @@ use Rattle.web_reply.specs.Replies.{Fault}
 use Rattle.web_extract.specs.ArgumentLists.{map_value}
 use Rattle.web_extract.specs.ConvertedFutures.{GivesConvertedBy, converted_result}
 use Rattle.web_extract.specs.Extracts.{Extracts}
-use Rattle.web_extract.specs.HeadArguments.{immediate as at_once, seen_request}
+use Rattle.web_extract.specs.HeadArguments.{IsRequest, immediate as at_once, seen_request}
 use Rattle.web_extract.specs.ListResults.{DelayedResult, list1, list2, list3}
 use Rattle.web_extract.specs.OptionArgument.{GivesOption, as_option}
 use Rattle.web_extract.specs.PayloadArgument.{payload_result, seen_payload}
@@ -66,6 +67,11 @@ use Rattle.web_demo.specs.declared.choice.DecodedChoice.{DecodedChoice}
 use Rattle.web_demo.specs.declared.choice.DecodedChoice.TheVariants as decoded
 use Rattle.web_demo.specs.declared.choice.ImmediateChoice.{ImmediateChoice}
 use Rattle.web_demo.specs.declared.choice.ImmediateChoice.TheVariants as immediate
+use Rattle.web_demo.specs.declared.choice.ServiceChoice.{ServiceChoice}
+use Rattle.web_demo.specs.declared.choice.ServiceChoice.TheVariants as service
+use Rattle.web_demo.specs.LinesArgument.{MeansLines, lines_rest, lines_result}
+use Rattle.web_demo.specs.ServiceArguments.{MeansService, MeansWho, cookies_result, demo_cookies}
+use Rattle.web_demo.specs.ServiceArguments.{service_result, who_result}
 use Rattle.web_demo.specs.declared.late.Late.{Late}
 use Rattle.web_demo.specs.declared.picked.Picked.{Picked}
 use Rattle.web_demo.specs.declared.picked.Picked.TheVariants as picked
@@ -110,6 +116,24 @@ request_seen : (q : DemoRequest) → SeenAlone (λ r. r.request) same_fault (Mea
 request_seen q m left n y h =
     let once = only_request q m left n y h in
     (once.0, once.1, request_value y ∙ once.2)
+
+-- where the request came from, its cookies, and its lines
+
+who_seen : (q : DemoRequest) → SeenAlone (λ v. v) never_fault (MeansWho q) (λ m. m) (λ m. who_result q)
+who_seen q m left n y h = (h.0, h.1, ap (converted_result (λ v. v) never_fault) h.2)
+
+cookies_known : (q : DemoRequest) (r : Record DemoLayer DemoLocal DemoConn) → r.request ≡ q → r.kept ≡ nothing_kept → known_cookies r ≡ demo_cookies q
+cookies_known q r is none = rw (is, none) refl
+
+cookies_value : (q : DemoRequest) (y : Result (Record DemoLayer DemoLocal DemoConn) Fault) → IsRequest q y → converted_result known_cookies same_fault y ≡ Ok (demo_cookies q)
+cookies_value q (Ok r) h = ap Ok (cookies_known q r h.0 h.1)
+cookies_value q (Err e) h = absurd h
+
+cookies_seen : (q : DemoRequest) → SeenAlone known_cookies same_fault (MeansRequest q) (λ m. m) (λ m. cookies_result q)
+cookies_seen q m left n y h = (h.0, h.1, cookies_value q y h.2)
+
+lines_seen : (q : DemoRequest) → SeenAlone (λ v. v) same_fault (MeansLines q) (lines_rest q) (lines_result q)
+lines_seen q m left n y h = (h.0, h.1, converted_same y ∙ h.2)
 
 -- the header Accept
 
@@ -228,6 +252,12 @@ immediate_only immediate.Header q m rest = pick_one (λ v. v) parse_fault (λ v.
 immediate_only immediate.Data q m rest = chosen_only (λ v. (v.0, v.1, v.2.request)) (λ v. picked.Data (seen_data v)) (MeansData q) (λ m. m) (λ m. numbers_result q) (data_seen q) m rest
 immediate_only immediate.Raw q m rest = pick_one raw_view same_fault (λ v. picked.Raw v) MeansRaw (λ m. []) payload_result raw_seen m rest
 
+service_only : (c : ServiceChoice) (q : DemoRequest) (m rest : List Mark)
+    → GivesOnly (λ n x. MeansService c q m rest n x) (service_result c q m).delay (service_result c q m).result
+service_only service.Who q m rest = pick_one (λ v. v) never_fault (λ v. picked.Who v) (MeansWho q) (λ m. m) (λ m. who_result q) (who_seen q) m rest
+service_only service.Cookies q m rest = pick_one known_cookies same_fault (λ v. picked.Cookies v) (MeansRequest q) (λ m. m) (λ m. cookies_result q) (cookies_seen q) m rest
+service_only service.Lines q m rest = pick_one (λ v. v) same_fault (λ v. picked.Lines v) (MeansLines q) (lines_rest q) (lines_result q) (lines_seen q) m rest
+
 choice_only : (c : Choice) (q : DemoRequest) (m rest : List Mark)
     → GivesOnly (λ n x. MeansChoice c q m rest n x) (choice_result c q m).delay (choice_result c q m).result
 choice_only choice.Bytes q m rest = pick_one (λ v. v) same_fault (λ v. picked.Bytes v) (MeansBody q) (body_rest q) (body_result q) (body_seen q) m rest
@@ -239,6 +269,7 @@ choice_only choice.Other q m rest =
     converted_only (λ v. picked.Other) never_fault (MeansUnit m rest) _ _ (λ k y g. (g.1, g.2))
 choice_only (choice.Decoded c) q m rest = decoded_only c q m rest
 choice_only (choice.Immediate c) q m rest = immediate_only c q m rest
+choice_only (choice.Service c) q m rest = service_only c q m rest
 
 -- the future of a choice's arguments, where this choice was made
 pub extracts_decoded : (q : DemoRequest) (made : DecodedChoice) (c : DecodedChoice)
@@ -254,6 +285,13 @@ pub extracts_immediate : (q : DemoRequest) (made : ImmediateChoice) (c : Immedia
     → Extracts (λ m rest n x. MeansImmediate c q m rest n x) gives old new
     → Extracts (λ m rest n x. MeansImmediate made q m rest n x) gives old new
 extracts_immediate q made c gives old new e h = rw e h
+
+pub extracts_service : (q : DemoRequest) (made : ServiceChoice) (c : ServiceChoice)
+    (gives : ℕ → Result Picked Fault → Type 0) (old new : Option (List Mark))
+    → made ≡ c
+    → Extracts (λ m rest n x. MeansService c q m rest n x) gives old new
+    → Extracts (λ m rest n x. MeansService made q m rest n x) gives old new
+extracts_service q made c gives old new e h = rw e h
 
 -- the future of a choice's arguments, for a request that makes this choice
 pub extracts_choice : (q : DemoRequest) (c : Choice)

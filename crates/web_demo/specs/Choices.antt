@@ -6,6 +6,7 @@ use Rattle.web_demo.specs.declared.choice.Choice.{Choice}
 use Rattle.web_demo.specs.declared.choice.Choice.TheVariants as choice
 use Rattle.web_demo.specs.declared.choice.DecodedChoice.TheVariants as decoded
 use Rattle.web_demo.specs.declared.choice.ImmediateChoice.TheVariants as immediate
+use Rattle.web_demo.specs.declared.choice.ServiceChoice.TheVariants as service
 
 -- what this segment asks for
 abbrev pub choice_named : List ℕ → Choice
@@ -22,6 +23,9 @@ choice_named segment =
     else if bytes_eq segment (codes "header") then choice.Immediate immediate.Header
     else if bytes_eq segment (codes "data") then choice.Immediate immediate.Data
     else if bytes_eq segment (codes "raw") then choice.Immediate immediate.Raw
+    else if bytes_eq segment (codes "who") then choice.Service service.Who
+    else if bytes_eq segment (codes "cookies") then choice.Service service.Cookies
+    else if bytes_eq segment (codes "lines") then choice.Service service.Lines
     else if bytes_eq segment (codes "both") then choice.Both
     else if bytes_eq segment (codes "wait") then choice.Wait
     else choice.Other

@@ -1,19 +1,25 @@
 -- The replies of the program's handler.
-use Rattle.std.specs.Prelude.{◌≡◌, ℕ, ⊤, List, Option, None, Some, codes, length}
+use Rattle.std.specs.Prelude.{◌≡◌, ℕ, ⊤, List, Option, None, Some, Result, Ok, Err, codes}
+use Rattle.std.specs.Prelude.{length}
 use Rattle.serde_json.specs.Written.{compact_text}
+use Rattle.web_cookies.specs.CookieTexts.{cookie_error_text}
+use Rattle.web_cookies.specs.declared.cookie_parse_error.CookieParseError.{CookieParseError}
 use Rattle.web_request.specs.Feed.{Feed}
+use Rattle.web_request.specs.KeptValues.{CookiesSaid}
 use Rattle.web_request.specs.declared.source.Mark.{Mark}
 use Rattle.web_values.specs.FormPairs.{pairs_text}
 use Rattle.web_reply.specs.ResponseBodies.{Plain, Plain.Bytes, Plain.Stream, box_plain}
+use Rattle.web_reply.specs.ResponseBodies.{whole_plain}
 use Rattle.web_reply.specs.declared.body.BoxBody.{BoxBody}
-use Rattle.web_reply.specs.Replies.{Reply, plain_reply, typed_reply}
+use Rattle.web_reply.specs.declared.cause.Cause.TheVariants.{Custom}
+use Rattle.web_reply.specs.Replies.{Fault, Reply, error_reply, fault_of, plain_reply, typed_reply}
 use Rattle.web_reply.specs.Responders.{bytes_reply, empty_reply, text_reply}
 use Rattle.web_types.specs.declared.either.Either.{Either}
 use Rattle.web_types.specs.declared.either.Either.TheVariants.{Left, Right}
 use Rattle.web_demo_layers.specs.Items.{item_text, json_of_item, pairs_of_item}
 use Rattle.web_demo_layers.specs.declared.item.Item.{Item}
 use Rattle.web_demo.specs.DemoTexts.{accept_text, data_text, either_text, option_text}
-use Rattle.web_demo.specs.DemoTexts.{result_text}
+use Rattle.web_demo.specs.DemoTexts.{lines_text, printed_cookies, result_text, who_text}
 use Rattle.web_demo.specs.declared.answer.Answer.{Answer}
 use Rattle.web_demo.specs.declared.answer.Answer.TheVariants as answer
 use Rattle.web_demo.specs.declared.picked.Picked.{Picked}
@@ -28,6 +34,8 @@ printed_text (picked.Path path) = Some (item_text path)
 printed_text (picked.Query query) = Some (item_text query.0)
 printed_text (picked.Header header) = Some (accept_text header)
 printed_text (picked.Data arguments) = Some (data_text arguments)
+printed_text (picked.Who info) = Some (who_text info)
+printed_text (picked.Lines lines) = Some (lines_text lines)
 printed_text _ = None
 
 -- how many polls of the handler return Pending
@@ -59,6 +67,21 @@ answer_reply (answer.Form item) = form_reply item
 answer_reply answer.Done = empty_reply 204
 answer_reply answer.None = empty_reply 404
 
+-- status 400 with the text of the error
+abbrev pub cookie_error : CookieParseError → Fault
+cookie_error error = fault_of (Custom 400 (cookie_error_text error))
+
+abbrev pub cookies_refusal : CookieParseError → Reply Plain
+cookies_refusal error = plain_reply whole_plain (error_reply (cookie_error error))
+
+abbrev pub text_or_refusal : Result (List ℕ) CookieParseError → Reply Plain
+text_or_refusal (Ok text) = text_reply text
+text_or_refusal (Err error) = cookies_refusal error
+
+-- 200 with the cookies, or the reply to the error where they cannot be read
+abbrev pub cookies_reply : CookiesSaid → Reply Plain
+cookies_reply said = text_or_refusal (printed_cookies said)
+
 -- each but one with a body has a reply that allocates nothing
 abbrev pub AnswerNeedsNoMemory : Answer → Type 0
 AnswerNeedsNoMemory answer.Done = ⊤
@@ -80,6 +103,7 @@ unprinted_reply (picked.Text text) = text_reply text
 unprinted_reply (picked.Json json) = json_reply json.0
 unprinted_reply (picked.Form form) = form_reply form.0
 unprinted_reply (picked.Raw body) = raw_reply body
+unprinted_reply (picked.Cookies said) = cookies_reply said
 unprinted_reply (picked.Both text late) = text_reply text
 unprinted_reply (picked.Wait wait) = empty_reply 204
 unprinted_reply _ = empty_reply 404
@@ -95,6 +119,7 @@ demo_reply p = text_reply_or (printed_text p) (unprinted_reply p)
 -- nothing is printed of them, and no response is made
 abbrev pub AnswersWithoutMemory : Picked → Type 0
 AnswersWithoutMemory (picked.Raw body) = ⊥
+AnswersWithoutMemory (picked.Cookies said) = ⊥
 AnswersWithoutMemory p = printed_text p ≡ None
 
 -- an output of this reply alone, after this number of polls alone

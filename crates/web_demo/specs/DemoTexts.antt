@@ -1,7 +1,14 @@
 -- The texts that the handler replies with.
 use Rattle.std.specs.Prelude.{ℕ, List, ◌++◌, length, codes, decimal, map}
-use Rattle.std.specs.Prelude.{Option, None, Some, Result, Ok, Err}
+use Rattle.std.specs.Prelude.{Option, None, Some, Result, Ok, Err, unwrap_or}
+use Rattle.std.specs.Prelude.{◌-◌, take, if◌then◌else◌}
+use Rattle.std.specs.Io.BufRead.{ends_with_byte}
+use Rattle.std.specs.List.{join_by}
+use Rattle.web_cookies.specs.CookieFields.{CookieFields}
+use Rattle.web_cookies.specs.declared.cookie_parse_error.CookieParseError.{CookieParseError}
 use Rattle.web_texts.specs.MediaTypeTexts.{media_type_text}
+use Rattle.web_request.specs.Connections.{Connection}
+use Rattle.web_request.specs.KeptValues.{CookiesSaid}
 use Rattle.web_headers.specs.PrintedLists.{comma_joined}
 use Rattle.web_headers.specs.declared.accept_header.Accept.{Accept}
 use Rattle.web_negotiate.specs.MediaChoices.{media_rank}
@@ -20,6 +27,9 @@ use Rattle.web_demo.specs.DemoArguments.{DataView}
 
 abbrev pub space : List ℕ
 space = codes " "
+
+abbrev pub bar : List ℕ
+bar = codes "|"
 
 -- the side that was read, and its item
 abbrev pub either_text : Either (Json Item) (Form Item) → List ℕ
@@ -45,6 +55,37 @@ conn_text (Some conn) = decimal conn.0
 abbrev pub data_text : DataView → List ℕ
 data_text d =
     decimal d.number ++ (space ++ (decimal d.local ++ (space ++ conn_text d.request.conn)))
+
+-- the text, or `-`
+abbrev pub text_or_dash : Option (List ℕ) → List ℕ
+text_or_dash text = unwrap_or text (codes "-")
+
+-- where a request came from and was sent to
+abbrev pub who_text : Connection → List ℕ
+who_text c =
+    codes "host=" ++ (c.host ++ (codes " scheme=" ++ (c.scheme ++ (codes " peer="
+    ++ (text_or_dash c.peer ++ (codes " realip=" ++ text_or_dash c.client))))))
+
+abbrev pub pair_text : CookieFields → List ℕ
+pair_text cookie = cookie.name ++ (codes "=" ++ cookie.value)
+
+-- the names and values of cookies, with spaces between
+abbrev pub cookies_text : List CookieFields → List ℕ
+cookies_text cookies = join_by pair_text space cookies
+
+-- the same, where the cookies can be read
+abbrev pub printed_cookies : CookiesSaid → Result (List ℕ) CookieParseError
+printed_cookies (Ok cookies) = Ok (cookies_text cookies)
+printed_cookies (Err error) = Err error
+
+-- a line without the newline at its end, if it has one
+abbrev pub without_newline : List ℕ → List ℕ
+without_newline line =
+    if ends_with_byte 10 line then take (length line - 1) line else line
+
+-- the lines without their newlines, with vertical bars between
+abbrev pub lines_text : List (List ℕ) → List ℕ
+lines_text lines = join_by without_newline bar lines
 
 -- the media types that are accepted, the most wanted first
 abbrev pub accept_text : Header Accept → List ℕ

@@ -9,5 +9,7 @@ pub mod DemoReplies
 pub mod DemoTexts
 pub mod ItemArguments
 pub mod LateAndWait
+pub mod LinesArgument
 pub mod PickedArguments
+pub mod ServiceArguments
 pub mod ServiceFunctions

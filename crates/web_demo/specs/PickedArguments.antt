@@ -30,6 +30,7 @@ use Rattle.web_demo.specs.Choices.{choice_of}
 use Rattle.web_demo.specs.DemoArguments.{data_view, raw_view, seen_data}
 use Rattle.web_demo_flights.specs.DemoExchanges.{DemoRequest}
 use Rattle.web_demo.specs.LateAndWait.{MeansWait, delay_in, wait_some}
+use Rattle.web_demo.specs.ServiceArguments.{MeansService, service_result, service_some}
 use Rattle.web_demo.specs.declared.choice.Choice.{Choice}
 use Rattle.web_demo.specs.declared.choice.Choice.TheVariants as choice
 use Rattle.web_demo.specs.declared.choice.DecodedChoice.{DecodedChoice}
@@ -163,6 +164,7 @@ MeansChoice choice.Other q m rest n x =
     (MeansUnit m rest) n x
 MeansChoice (choice.Decoded c) q m rest n x = MeansDecoded c q m rest n x
 MeansChoice (choice.Immediate c) q m rest n x = MeansImmediate c q m rest n x
+MeansChoice (choice.Service c) q m rest n x = MeansService c q m rest n x
 
 choice_some : (c : Choice) (q : DemoRequest) (m : List Mark) → AllowsSome (MeansChoice c q m)
 choice_some choice.Bytes q m =
@@ -184,6 +186,7 @@ choice_some choice.Other q m =
     (unit_some m)
 choice_some (choice.Decoded c) q m = decoded_some c q m
 choice_some (choice.Immediate c) q m = immediate_some c q m
+choice_some (choice.Service c) q m = service_some c q m
 
 abbrev pub choice_result : Choice → DemoRequest → List Mark → DelayedResult Picked
 choice_result choice.Bytes q m = with_value (λ v. picked.Bytes v.0) (list1 (body_result q m))
@@ -194,6 +197,7 @@ choice_result choice.Wait q m = at_once (Ok (picked.Wait (record { 0 = delay_in 
 choice_result choice.Other q m = at_once (Ok picked.Other)
 choice_result (choice.Decoded c) q m = decoded_result c q m
 choice_result (choice.Immediate c) q m = immediate_result c q m
+choice_result (choice.Service c) q m = service_result c q m
 
 -- to begin with the arguments of this choice allocates nothing
 abbrev pub ChoiceNeedsNoMemory : Choice → DemoRequest → Type 0

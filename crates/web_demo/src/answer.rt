@@ -3,17 +3,23 @@ ghost use Rattle.std.specs.Prelude.{◌≡◌, ◌∷◌, [], IfOk, OnOk, codes}
 ghost use Rattle.http_header.specs.FieldValue.{plain_value};
 ghost use Rattle.web_reply.specs.Replies.{plain_reply};
 ghost use Rattle.web_reply.specs.ResponseBodies.{box_plain};
-ghost use Rattle.web_demo.specs.DemoReplies.{form_reply, json_reply, raw_reply};
+ghost use Rattle.web_request.specs.KeptValues.{known_cookies};
+ghost use Rattle.web_request.specs.Returns.{ReturnsBy};
+ghost use Rattle.web_demo.specs.DemoReplies.{cookie_error, cookies_refusal, cookies_reply};
+ghost use Rattle.web_demo.specs.DemoReplies.{form_reply, json_reply, output_reply, raw_reply};
+ghost use Rattle.web_demo.specs.DemoTexts.{printed_cookies};
 
-use crate::demo_arguments::RawBody;
+use crate::demo_arguments::{CookieArguments, RawBody};
+use crate::texts::cookies_text;
 use bytes::Bytes;
 use http::StatusCode;
 use http_header::{CONTENT_TYPE, HeaderMap, HeaderValue};
 use std::alloc::Global;
 use web_body::Marks;
-use web_demo_layers::Item;
-use web_reply::{BoxBody, Done, Error, HttpResponse, Responder};
-use web_request::{App, HttpRequest, NoMemory};
+use web_demo_layers::{Demo, Item};
+use web_reply::{BoxBody, Cause, Done, Error, HttpResponse, Responder};
+use web_request::cookies::CookieParseError;
+use web_request::{App, Fail, HttpRequest, NoMemory};
 use web_texts::Text;
 use web_types::{Either, Form, Json};
 
@@ -66,6 +72,52 @@ pub(crate) fn raw_response(
     match put_octet_stream(reply.headers_mut()) {
         Ok(()) => Ok(reply),
         Err(e) => Err(e),
+    }
+}
+
+/// The error of cookies that cannot be read: status 400 with its text.
+fn cookie_error(alloc: Global, error: CookieParseError) -> Result<Error, NoMemory>
+    ensures { IfOk result (λ made. made ≡ cookie_error error) }
+{
+    let text = Text::from(error.to_string(alloc)?);
+    Ok(Error::from(Cause::Custom {
+        status: StatusCode::BAD_REQUEST,
+        text,
+    }))
+}
+
+/// The cookies of a request as a text, or why they cannot be read.
+fn printed_cookies(
+    alloc: Global,
+    request: &mut HttpRequest<Demo>,
+) -> Result<Text, Fail<CookieParseError>>
+    ensures { ReturnsBy (λ text. text) result (printed_cookies (known_cookies request.old)) }
+{
+    let cookies = request.cookies(alloc)?;
+    Ok(cookies_text(alloc, cookies)?)
+}
+
+/// The reply to the error of cookies that cannot be read.
+fn refused_cookies(alloc: Global, error: CookieParseError) -> Result<DemoOutput, NoMemory>
+    ensures { IfOk result (λ output. output_reply output ≡ cookies_refusal error) }
+{
+    let error = cookie_error(alloc, error)?;
+    let reply = HttpResponse::from_error(alloc, error)?;
+    Ok(Either::Right(reply.map_into_boxed_body(alloc)?))
+}
+
+/// The cookies of a request as a text, or the reply to the error where they cannot be read.
+pub(crate) fn cookies_output(
+    alloc: Global,
+    arguments: CookieArguments,
+) -> Result<DemoOutput, NoMemory>
+    ensures { IfOk result (λ output. output_reply output ≡ cookies_reply arguments) }
+{
+    let CookieArguments { mut request } = arguments;
+    match printed_cookies(alloc, &mut request) {
+        Ok(text) => Ok(Either::Left(Answer::Text(text))),
+        Err(Fail::NoMemory) => Err(NoMemory),
+        Err(Fail::Of(error)) => refused_cookies(alloc, error),
     }
 }
 

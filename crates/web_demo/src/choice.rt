@@ -14,6 +14,7 @@ pub enum Choice {
     Wait,
     Decoded(DecodedChoice),
     Immediate(ImmediateChoice),
+    Service(ServiceChoice),
     Other,
 }
 
@@ -35,6 +36,14 @@ pub enum ImmediateChoice {
     Header,
     Data,
     Raw,
+}
+
+/// Arguments that read where a request came from, its cookies, and its body line by line.
+#[derive(Clone, Copy, Debug, PartialEq, Eq)]
+pub enum ServiceChoice {
+    Who,
+    Cookies,
+    Lines,
 }
 
 fn is_named(segment: &[u8], name: &[u8]) -> bool
@@ -70,6 +79,12 @@ fn choice_named(segment: &[u8]) -> Choice
         Choice::Immediate(ImmediateChoice::Data)
     } else if is_named(segment, b"raw") {
         Choice::Immediate(ImmediateChoice::Raw)
+    } else if is_named(segment, b"who") {
+        Choice::Service(ServiceChoice::Who)
+    } else if is_named(segment, b"cookies") {
+        Choice::Service(ServiceChoice::Cookies)
+    } else if is_named(segment, b"lines") {
+        Choice::Service(ServiceChoice::Lines)
     } else if is_named(segment, b"both") {
         Choice::Both
     } else if is_named(segment, b"wait") {

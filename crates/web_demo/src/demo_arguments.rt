@@ -1,4 +1,4 @@
-//! The arguments of `/data` and of `/raw`.
+//! The arguments of `/data`, of `/cookies` and of `/raw`.
 use std::marker::Model;
 use web_body::{Marks, Payload};
 use web_demo_layers::{Demo, DemoLocal};
@@ -23,6 +23,20 @@ impl Model for DataArguments {
       local = d.local.0;
       request = d.request.request;
     } };
+}
+
+/// A request whose cookies are to be read. Contracts see what its header fields say of them.
+#[derive(Drop)]
+pub struct CookieArguments {
+    pub request: HttpRequest<Demo>,
+}
+
+impl Model for CookieArguments {
+    ghost use Rattle.web_request.specs.KeptValues.{CookiesSaid, known_cookies};
+
+    ghost Value = { CookiesSaid };
+
+    ghost view = { λ c. known_cookies c.request };
 }
 
 /// A body that nothing was read of. Contracts see its marks, where they are stated.

@@ -3,10 +3,12 @@ ghost use Rattle.std.specs.Prelude.{◌≡◌, IfOk, IsOk};
 ghost use Rattle.web_demo.specs.DemoReplies.{AnswersWithoutMemory, demo_reply, output_reply};
 ghost use Rattle.web_demo.specs.DemoReplies.{printed_text, unprinted_reply, wait_of};
 
-use crate::answer::{Answer, DemoOutput, raw_response};
+use crate::answer::{Answer, DemoOutput, cookies_output, raw_response};
 use crate::answering::Answering;
 use crate::picked::Picked;
-use crate::texts::{accept_text, data_text, either_text, item_text, option_text, result_text};
+use crate::texts::{
+    accept_text, data_text, either_text, item_text, lines_text, option_text, result_text, who_text,
+};
 use std::alloc::Global;
 use web_request::NoMemory;
 use web_texts::Text;
@@ -16,8 +18,8 @@ use web_worker::Handler;
 /// The handler of the program. What it replies to the arguments of each segment stands in the
 /// command's page.
 ///
-/// `call` needs memory for the texts that it prints and for the response to `/raw`. A poll of its
-/// future needs none.
+/// `call` needs memory for the texts that it prints, to read cookies, and for the response to
+/// `/raw`. A poll of its future needs none.
 #[derive(Debug, Drop)]
 pub struct DemoHandler;
 
@@ -43,6 +45,8 @@ fn printed_text(alloc: Global, picked: &Picked) -> Result<Option<Text>, NoMemory
         Picked::Query(query) => item_text(alloc, &query.0)?,
         Picked::Header(header) => accept_text(alloc, header)?,
         Picked::Data(arguments) => data_text(alloc, arguments)?,
+        Picked::Who(info) => who_text(alloc, info)?,
+        Picked::Lines(lines) => lines_text(alloc, lines.as_slice())?,
         _ => return Ok(None),
     };
     Ok(Some(text))
@@ -59,10 +63,18 @@ fn unprinted_output(alloc: Global, picked: Picked) -> Result<DemoOutput, NoMemor
         Picked::Json(json) => Ok(Either::Left(Answer::Json(json.into_inner()))),
         Picked::Form(form) => Ok(Either::Left(Answer::Form(form.into_inner()))),
         Picked::Raw(body) => Ok(Either::Right(raw_response(alloc, body)?)),
+        Picked::Cookies(arguments) => cookies_output(alloc, arguments),
         Picked::Both(text, _) => Ok(Either::Left(Answer::Text(text))),
         Picked::Wait(_) => Ok(Either::Left(Answer::Done)),
         _ => Ok(Either::Left(Answer::None)),
     }
+}
+
+/// The other value. The first is dropped here, and not in the caller, whose proof is then smaller.
+fn instead_of<P: Drop, T>(_value: P, other: T) -> T
+    ensures { result ≡ other }
+{
+    other
 }
 
 /// The output for these arguments. Those that were printed are dropped.
@@ -70,9 +82,10 @@ fn output_of(alloc: Global, picked: Picked) -> Result<DemoOutput, NoMemory>
     ensures value { IfOk result (λ output. output_reply output ≡ demo_reply picked) }
     ensures memory { AnswersWithoutMemory picked → IsOk result }
 {
-    match printed_text(alloc, &picked)? {
-        Some(text) => Ok(Either::Left(Answer::Text(text))),
-        None => Ok(unprinted_output(alloc, picked)?),
+    match printed_text(alloc, &picked) {
+        Ok(None) => unprinted_output(alloc, picked),
+        Ok(Some(text)) => Ok(Either::Left(Answer::Text(instead_of(picked, text)))),
+        Err(e) => Err(instead_of(picked, e)),
     }
 }
 

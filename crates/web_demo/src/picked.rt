@@ -5,11 +5,13 @@ ghost use Rattle.web_reply.specs.Replies.{Fault};
 ghost use Rattle.web_demo_flights.specs.DemoExchanges.{DemoRequest};
 ghost use Rattle.web_demo.specs.PickedArguments.{MeansPicked, picked_delay, picked_result};
 
+use crate::all_lines::AllLines;
 use crate::choice::{Choice, choice_of};
 use crate::decoded::{DecodedFuture, decoded_future};
-use crate::demo_arguments::{DataArguments, RawBody};
+use crate::demo_arguments::{CookieArguments, DataArguments, RawBody};
 use crate::immediate::{ImmediateFuture, immediate_future};
 use crate::late::Late;
+use crate::service::{ServiceFuture, service_future};
 use crate::wait::Wait;
 use bytes::Bytes;
 use std::alloc::Global;
@@ -20,7 +22,7 @@ use web_extract::EitherFuture::{Left, Right};
 use web_extract::{EitherFuture, FromRequest, MapInto, from_request_into};
 use web_headers::Accept;
 use web_reply::Error;
-use web_request::{HttpRequest, NoMemory};
+use web_request::{ConnectionInfo, HttpRequest, NoMemory};
 use web_texts::Text;
 use web_types::{Either, Form, Json};
 
@@ -51,6 +53,12 @@ pub enum Picked {
     Data(DataArguments),
     /// Of `/raw`: the body, unread.
     Raw(RawBody),
+    /// Of `/who`: where the request came from and was sent to.
+    Who(ConnectionInfo),
+    /// Of `/cookies`: the request, whose cookies are read.
+    Cookies(CookieArguments),
+    /// Of `/lines`: the lines of the body.
+    Lines(AllLines),
     /// Of `/both`: the body as a text, and an argument that comes late.
     Both(Text, Late),
     /// Of `/wait`: how long the handler waits.
@@ -68,7 +76,7 @@ pub type PickedFuture = EitherFuture<
         EitherFuture<FutureOf<(Bytes,)>, FutureOf<(String,)>>,
         EitherFuture<FutureOf<(String, Late)>, EitherFuture<FutureOf<Wait>, FutureOf<()>>>,
     >,
-    EitherFuture<DecodedFuture, ImmediateFuture>,
+    EitherFuture<DecodedFuture, EitherFuture<ImmediateFuture, ServiceFuture>>,
 >;
 
 /// The arguments that the first segment of the path asks for, and no others.
@@ -120,9 +128,12 @@ impl FromRequest<Demo> for Picked {
             Choice::Decoded(choice) => Ok(Right(Left(decoded_future(
                 alloc, req, payload, choice,
             )?))),
-            Choice::Immediate(choice) => Ok(Right(Right(immediate_future(
+            Choice::Immediate(choice) => Ok(Right(Right(Left(immediate_future(
                 alloc, req, payload, choice,
-            )?))),
+            )?)))),
+            Choice::Service(choice) => Ok(Right(Right(Right(service_future(
+                alloc, req, payload, choice,
+            )?)))),
             Choice::Other => {
                 let future = from_request_into::<Demo, (), Picked, Error>(alloc, req, payload)?;
                 Ok(Left(Right(Right(Right(future)))))

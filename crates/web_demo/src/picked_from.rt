@@ -1,7 +1,8 @@
 //! What the arguments of each segment become.
 ghost use Rattle.std.specs.Prelude.{◌≡◌};
 
-use crate::demo_arguments::{DataArguments, RawBody};
+use crate::all_lines::AllLines;
+use crate::demo_arguments::{CookieArguments, DataArguments, RawBody};
 use crate::late::Late;
 use crate::picked::Picked;
 use crate::wait::Wait;
@@ -12,7 +13,7 @@ use web_demo_layers::{Demo, DemoLocal, Item};
 use web_extract::IntoSome;
 use web_headers::Accept;
 use web_reply::Error;
-use web_request::{Data, HttpRequest, ReqData};
+use web_request::{ConnectionInfo, Data, HttpRequest, ReqData};
 use web_texts::Text;
 use web_types::{Either, Form, Json};
 
@@ -240,6 +241,62 @@ impl IntoSome<Picked> for (Payload<Marks>,) {
     ghost use Rattle.web_demo.specs.declared.picked.Picked.TheVariants as picked;
 
     ghost converted = { converts_by (λ list. picked.Raw (raw_view list.0)) };
+}
+
+impl From<(ConnectionInfo,)> for Picked {
+    ghost use Rattle.web_demo.specs.declared.picked.Picked.TheVariants as picked;
+
+    ghost from_gives = { λ list x. x ≡ picked.Who list.0 };
+
+    fn from(list: (ConnectionInfo,)) -> Picked {
+        let (info,) = list;
+        Picked::Who(info)
+    }
+}
+
+impl IntoSome<Picked> for (ConnectionInfo,) {
+    ghost use Rattle.web_extract.specs.ConvertedFutures.{converts_by};
+    ghost use Rattle.web_demo.specs.declared.picked.Picked.TheVariants as picked;
+
+    ghost converted = { converts_by (λ list. picked.Who list.0) };
+}
+
+impl From<(HttpRequest<Demo>,)> for Picked {
+    ghost use Rattle.web_request.specs.KeptValues.{known_cookies};
+    ghost use Rattle.web_demo.specs.declared.picked.Picked.TheVariants as picked;
+
+    ghost from_gives = { λ list x. x ≡ picked.Cookies (known_cookies list.0) };
+
+    fn from(list: (HttpRequest<Demo>,)) -> Picked {
+        let (request,) = list;
+        Picked::Cookies(CookieArguments { request })
+    }
+}
+
+impl IntoSome<Picked> for (HttpRequest<Demo>,) {
+    ghost use Rattle.web_extract.specs.ConvertedFutures.{converts_by};
+    ghost use Rattle.web_request.specs.KeptValues.{known_cookies};
+    ghost use Rattle.web_demo.specs.declared.picked.Picked.TheVariants as picked;
+
+    ghost converted = { converts_by (λ list. picked.Cookies (known_cookies list.0)) };
+}
+
+impl From<(AllLines,)> for Picked {
+    ghost use Rattle.web_demo.specs.declared.picked.Picked.TheVariants as picked;
+
+    ghost from_gives = { λ list x. x ≡ picked.Lines list.0 };
+
+    fn from(list: (AllLines,)) -> Picked {
+        let (lines,) = list;
+        Picked::Lines(lines)
+    }
+}
+
+impl IntoSome<Picked> for (AllLines,) {
+    ghost use Rattle.web_extract.specs.ConvertedFutures.{converts_by};
+    ghost use Rattle.web_demo.specs.declared.picked.Picked.TheVariants as picked;
+
+    ghost converted = { converts_by (λ list. picked.Lines list.0) };
 }
 
 impl From<(String, Late)> for Picked {

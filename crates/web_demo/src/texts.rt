@@ -1,7 +1,8 @@
 //! The texts that the handler replies with.
-ghost use Rattle.std.specs.Prelude.{◌≡◌, IfOk};
+ghost use Rattle.std.specs.Prelude.{◌≡◌, ◌++◌, IfOk, OnOk, flat_map, string_bytes};
 ghost use Rattle.web_demo.specs.DemoTexts.{accept_text, data_text, either_text, option_text};
-ghost use Rattle.web_demo.specs.DemoTexts.{result_text};
+ghost use Rattle.web_demo.specs.DemoTexts.{bar, cookies_text, lines_text, pair_text};
+ghost use Rattle.web_demo.specs.DemoTexts.{result_text, space, who_text, without_newline};
 ghost use Rattle.web_demo_layers.specs.Items.{item_text};
 
 use crate::demo_arguments::DataArguments;
@@ -12,7 +13,8 @@ use web_demo_layers::Item;
 use web_headers::{Accept, fmt_comma_delimited};
 use web_negotiate::prelude::AcceptChoices;
 use web_reply::{Error, ResponseError};
-use web_request::NoMemory;
+use web_request::cookies::Cookie;
+use web_request::{ConnectionInfo, NoMemory};
 use web_texts::{Mime, Text};
 use web_types::{Either, Form, Json};
 
@@ -73,6 +75,128 @@ pub(crate) fn data_text(alloc: Global, arguments: &DataArguments) -> Result<Text
         Some(conn) => Ok(Text::from(format!(in alloc; "{number} {local} {conn}")?)),
         None => Ok(Text::from(format!(in alloc; "{number} {local} -")?)),
     }
+}
+
+/// Where a request came from and was sent to.
+pub(crate) fn who_text(alloc: Global, info: &ConnectionInfo) -> Result<Text, NoMemory>
+    ensures { IfOk result (λ text. text ≡ who_text info.now) }
+{
+    let host = info.host();
+    let scheme = info.scheme();
+    let peer = info.peer_addr().unwrap_or("-");
+    let client = info.realip_remote_addr().unwrap_or("-");
+    Ok(Text::from(format!(in alloc; "host={host} scheme={scheme} peer={peer} realip={client}")?))
+}
+
+fn push_pair(text: &mut String, cookie: &Cookie) -> Result<(), NoMemory>
+    ensures { OnOk result
+        (string_bytes text.new ≡ string_bytes text.old ++ pair_text cookie.now) }
+{
+    text.push_str(cookie.name())?;
+    text.push_str("=")?;
+    Ok(text.push_str(cookie.value())?)
+}
+
+fn push_later_pair(text: &mut String, cookie: &Cookie) -> Result<(), NoMemory>
+    ensures { OnOk result
+        (string_bytes text.new ≡ string_bytes text.old ++ (space ++ pair_text cookie.now)) }
+{
+    text.push_str(" ")?;
+    push_pair(text, cookie)
+}
+
+/// Adds the names and values of cookies, each with a space before it.
+fn push_later_pairs(text: &mut String, cookies: &[Cookie]) -> Result<(), NoMemory>
+    ensures { OnOk result (string_bytes text.new
+        ≡ string_bytes text.old ++ flat_map (λ c. space ++ pair_text c) cookies.now) }
+{
+    for cookie in cookies {
+        push_later_pair(text, cookie)?;
+    }
+    Ok(())
+}
+
+/// Adds the names and values of cookies, with spaces between.
+fn push_pairs(text: &mut String, cookies: &[Cookie]) -> Result<(), NoMemory>
+    ensures { OnOk result
+        (string_bytes text.new ≡ string_bytes text.old ++ cookies_text cookies.now) }
+{
+    match cookies {
+        [] => Ok(()),
+        [first, later @ ..] => {
+            push_pair(text, first)?;
+            push_later_pairs(text, later)
+        }
+    }
+}
+
+/// The names and values of cookies, with spaces between.
+pub(crate) fn cookies_text(alloc: Global, cookies: &[Cookie]) -> Result<Text, NoMemory>
+    ensures { IfOk result (λ text. text ≡ cookies_text cookies.now) }
+{
+    let mut text = String::new(alloc);
+    push_pairs(&mut text, cookies)?;
+    Ok(Text::from(text))
+}
+
+/// The line without the newline at its end, if it has one.
+fn without_newline(line: &Text) -> &str
+    ensures { result.now ≡ without_newline line.now }
+{
+    let text = line.as_str();
+    match text.strip_suffix('\n') {
+        Some(front) => front,
+        None => text,
+    }
+}
+
+fn push_line(text: &mut String, line: &Text) -> Result<(), NoMemory>
+    ensures { OnOk result
+        (string_bytes text.new ≡ string_bytes text.old ++ without_newline line.now) }
+{
+    Ok(text.push_str(without_newline(line))?)
+}
+
+fn push_later_line(text: &mut String, line: &Text) -> Result<(), NoMemory>
+    ensures { OnOk result
+        (string_bytes text.new ≡ string_bytes text.old ++ (bar ++ without_newline line.now)) }
+{
+    text.push_str("|")?;
+    push_line(text, line)
+}
+
+/// Adds the lines without their newlines, each with a vertical bar before it.
+fn push_later_lines(text: &mut String, lines: &[Text]) -> Result<(), NoMemory>
+    ensures { OnOk result (string_bytes text.new
+        ≡ string_bytes text.old ++ flat_map (λ l. bar ++ without_newline l) lines.now) }
+{
+    for line in lines {
+        push_later_line(text, line)?;
+    }
+    Ok(())
+}
+
+/// Adds the lines without their newlines, with vertical bars between.
+fn push_lines(text: &mut String, lines: &[Text]) -> Result<(), NoMemory>
+    ensures { OnOk result
+        (string_bytes text.new ≡ string_bytes text.old ++ lines_text lines.now) }
+{
+    match lines {
+        [] => Ok(()),
+        [first, later @ ..] => {
+            push_line(text, first)?;
+            push_later_lines(text, later)
+        }
+    }
+}
+
+/// The lines without their newlines, with vertical bars between.
+pub(crate) fn lines_text(alloc: Global, lines: &[Text]) -> Result<Text, NoMemory>
+    ensures { IfOk result (λ text. text ≡ lines_text lines.now) }
+{
+    let mut text = String::new(alloc);
+    push_lines(&mut text, lines)?;
+    Ok(Text::from(text))
 }
 
 /// Media types in their order.

@@ -1,5 +1,5 @@
 -- The exchanges of the program, as its worker sees them.
-use Rattle.std.specs.Prelude.{ℕ, [], ◌∷◌, None, codes, map, option_map, true, false}
+use Rattle.std.specs.Prelude.{ℕ, [], ◌∷◌, codes, map, option_map, true, false}
 use Rattle.http.specs.declared.version.TheConstants.Version.{HTTP_11}
 use Rattle.web_request.specs.declared.address.IpAddr.TheVariants.{V4}
 use Rattle.web_request.specs.declared.config.AppConfig.{AppConfig}
@@ -35,7 +35,7 @@ demo_pool = record {
   config = demo_config;
 }
 
--- of this method and target, HTTP/1.1, with these headers, without the address of a peer
+-- of this method and target, HTTP/1.1, with these headers, from this peer
 abbrev pub demo_head : ScriptedExchangeView → Head
 demo_head e = record {
   scheme = e.target.scheme;
@@ -44,7 +44,7 @@ demo_head e = record {
   method = e.method;
   version = HTTP_11;
   headers = e.headers;
-  peer = None;
+  peer = e.peer;
 }
 
 -- the data of a connection, and of a request

@@ -93,6 +93,7 @@ impl<Args: FromRequest<Demo>, H: Handler<Args>> ExchangeSink for DemoFlights<Arg
             params,
             layers,
             marks,
+            peer,
             local,
             conn,
         } = exchange;
@@ -105,7 +106,7 @@ impl<Args: FromRequest<Demo>, H: Handler<Args>> ExchangeSink for DemoFlights<Arg
                     method,
                     version: Version::HTTP_11,
                     headers,
-                    peer_addr: None,
+                    peer_addr: peer,
                 },
                 params,
                 conn,

@@ -19,7 +19,7 @@ pub now_exactly : {T : Type 0} (r : Result T Fault) (m : List Mark) → Exactly 
 now_exactly r m left n x = (λ h. h, λ h. h)
 
 request_seen : {L D C E : Type 0} (q : Request L D C) (x : Result (Record L D C) E) → IsRequest q x → seen_request x ≡ Ok q
-request_seen q (Ok r) h = ap Ok h
+request_seen q (Ok r) h = ap Ok h.0
 request_seen q (Err e) h = absurd h
 
 pub only_request : {L D C E : Type 0} (q : Request L D C) → OnlyNow (seen_request {E = E}) (AllowsNow (IsRequest q)) (Ok q)

@@ -3,7 +3,7 @@ use Rattle.std.specs.Prelude.{◌≡◌, ℕ, List, Result, Ok, Err, refl}
 use Rattle.std.proofs.Common.{inl, inr}
 use Rattle.web_request.specs.declared.source.Mark.{Mark}
 use Rattle.web_request.specs.Head.{Head, Target, head_target, uri_view}
-use Rattle.web_request.specs.Request.{Record, Request, record_of}
+use Rattle.web_request.specs.Request.{Record, Request, nothing_kept, record_of}
 use Rattle.web_values.specs.Answers.{OrAll}
 use Rattle.web_reply.specs.Replies.{Fault}
 use Rattle.http_uri.specs.declared.uri.Uri.{Uri}
@@ -25,15 +25,15 @@ now_some y m none = none m 0 y (refl, refl, refl)
 abbrev pub immediate : {T : Type 0} → Result T Fault → DelayedResult T
 immediate r = record { delay = 0; result = r }
 
--- a request as an argument: the request itself, in whatever record
+-- a request as an argument: the request itself, in whatever record, of which nothing is computed
 abbrev pub IsRequest :
     {L D C E : Type 0} → Request L D C → Result (Record L D C) E → Type 0
-IsRequest q (Ok r) = r.request ≡ q
+IsRequest q (Ok r) = (r.request ≡ q) × (r.kept ≡ nothing_kept)
 IsRequest q (Err e) = ⊥
 
 pub request_some : {L D C E : Type 0} (q : Request L D C) (m : List Mark)
     → AllowsSome (AllowsNow (IsRequest {E = E} q) m)
-request_some q m none = none m 0 (Ok (record_of q)) (refl, refl, refl)
+request_some q m none = none m 0 (Ok (record_of q)) (refl, refl, (refl, refl))
 
 -- the request of the record
 abbrev pub seen_request :

@@ -21,3 +21,4 @@ pub mod FirstTaker
 pub mod HeadArguments
 pub mod DataArguments
 pub mod PayloadArgument
+pub mod PeerArgument

@@ -1,18 +1,20 @@
 //! Laws of the arguments that read no body, as contracts of functions that callers cite in proofs.
 //! A call of one has no effect.
 ghost use Rattle.std.specs.Prelude.{List, Ok};
+ghost use Rattle.web_request.specs.Connections.{connection_of};
 ghost use Rattle.web_request.specs.Request.{Request};
 ghost use Rattle.web_request.specs.declared.source.Mark.{Mark};
 ghost use Rattle.web_extract.specs.DataArguments.{data_result, request_data_result};
 ghost use Rattle.web_extract.specs.HeadArguments.{OnlyNow, OnlyTarget, seen_request};
 ghost use Rattle.web_extract.specs.ListResults.{Exactly};
 ghost use Rattle.web_extract.specs.PayloadArgument.{OnlyPayload};
+ghost use Rattle.web_extract.specs.PeerArgument.{peer_or_missing};
 
 use crate::from_request::FromRequest;
 use http::Method;
 use http_uri::Uri;
 use web_body::Payload;
-use web_request::{App, Data, Holds, HttpRequest, ReqData, Source};
+use web_request::{App, ConnectionInfo, Data, Holds, HttpRequest, PeerAddr, ReqData, Source};
 use web_texts::Duplicate;
 
 /// `Data` and `ReqData` allow exactly one result, at the first poll: what the nearest layer, or the
@@ -37,6 +39,17 @@ pub fn head_law<P: App>()
         → OnlyNow (λ x. x) (⟦<Method as FromRequest<P>>⟧.means q) (Ok q.head.method) }
     ensures uri { (q : Request P.Layer P.Local P.Conn)
         → OnlyTarget q.head (⟦<Uri as FromRequest<P>>⟧.means q) }
+{}
+
+/// `ConnectionInfo` and `PeerAddr` allow exactly one result, at the first poll: what the head says
+/// under the settings of the worker; and the address of the peer, or that it is missing.
+pub fn connection_law<P: App>()
+    ensures connection { (q : Request P.Layer P.Local P.Conn)
+        → OnlyNow (λ x. x) (⟦<ConnectionInfo as FromRequest<P>>⟧.means q)
+        (Ok (connection_of q.head q.config)) }
+    ensures peer { (q : Request P.Layer P.Local P.Conn)
+        → OnlyNow (λ x. x) (⟦<PeerAddr as FromRequest<P>>⟧.means q)
+        (peer_or_missing q.head.peer) }
 {}
 
 /// A payload as an argument allows exactly one result, at the first poll: a payload of all the

@@ -58,7 +58,7 @@ module _ {S L D C U W : Type 0} (feed : S → Feed)
       → (n ≡ 0) × Came q m x
   came q m body has rest n (Ok v) (left, (n1, n2, (all, first, is), (none, second, is_unread), at)) = (
     omega (arith, first, second, at),
-    (is, unread feed left body (has ∙ ap Some (sym all)) (Ok v.1) is_unread ∙ ap Some all),
+    (is.0, unread feed left body (has ∙ ap Some (sym all)) (Ok v.1) is_unread ∙ ap Some all),
   )
   came q m body has rest n (Err f) (left, inl ((e, (all, first, is), turns), need)) = absurd is
   came q m body has rest n (Err f) (left, inr ((e, (none, second, is_unread), turns), need)) =

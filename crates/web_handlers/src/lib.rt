@@ -4,8 +4,9 @@
 //! its calls (`echo`), a future of one's own (`second_poll`), an argument of one's own
 //! (`request_path`), a loop of one's own over flights (`flight_rounds`), the functions that serve
 //! exchanges by the handlers (`serving`), a type that is read from JSON and forms (`booking`), a
-//! layer that configures how (`booking_layer`), its handlers (`booking_handlers`), and the handler
-//! of a proxy (`relay`).
+//! layer that configures how (`booking_layer`), its handlers (`booking_handlers`), the handler of a
+//! proxy (`relay`), a middleware that asks for a host (`served_host`), and replies that are built
+//! step by step, with errors, redirects and cookies (`replies`).
 #![tactic(auto)]
 
 mod booking;
@@ -15,8 +16,10 @@ mod echo;
 mod flight_rounds;
 mod hello;
 mod relay;
+pub mod replies;
 mod request_path;
 mod second_poll;
+mod served_host;
 mod serving;
 #[cfg(test)]
 mod tests;
@@ -30,4 +33,5 @@ pub use hello::{Site, serve_hello};
 pub use relay::{Relay, serve_relay};
 pub use request_path::RequestPath;
 pub use second_poll::{Greeter, SecondPoll};
+pub use served_host::is_served;
 pub use serving::{Outcomes, serve_by_closure, serve_echo, serve_greeting};

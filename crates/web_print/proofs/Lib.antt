@@ -1,4 +1,6 @@
+pub mod CountLemmas
 pub mod HexadecimalLemmas
 pub mod MappedListsLemmas
 pub mod SortedNamesLemmas
+pub mod SummaryLemmas
 pub mod TextLinesLemmas

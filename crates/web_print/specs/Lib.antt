@@ -1,4 +1,5 @@
 pub mod BodyLines
 pub mod HeaderLines
 pub mod OutcomeText
+pub mod SummaryText
 pub mod TextLines

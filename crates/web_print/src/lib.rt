@@ -1,4 +1,5 @@
-//! The text that the command writes: the outcome of each exchange, and what the pool holds.
+//! The texts that the command writes: the outcome of each exchange and what the pool holds, and the
+//! summary of a load.
 #![tactic(auto)]
 
 mod body;
@@ -9,6 +10,8 @@ mod lines;
 mod marks;
 mod outcomes;
 mod response;
+mod summary;
 
 pub use law::header_order_law;
 pub use outcomes::printed;
+pub use summary::summarized;

@@ -1,0 +1,3 @@
+pub mod CookieItemLemmas
+pub mod HeaderStepLemmas
+pub mod ResponseCookieLemmas

@@ -9,12 +9,15 @@ use Rattle.web_body.specs.declared.form_error.UrlencodedError.{UrlencodedError}
 use Rattle.web_body.specs.declared.form_error.UrlencodedError.TheVariants as form
 use Rattle.web_body.specs.ErrorTexts.{payload_error_text, json_error_text, form_error_text}
 use Rattle.web_body.specs.ErrorTexts.{path_error_text, query_error_text}
+use Rattle.web_body.specs.declared.lines_error.ReadlinesError.{ReadlinesError}
+use Rattle.web_body.specs.declared.lines_error.ReadlinesError.TheVariants as lines
+use Rattle.web_body.specs.LinesErrorTexts.{lines_error_text}
 use Rattle.web_values.specs.FaultTexts.{json_fault_text}
 use Rattle.web_reply.specs.declared.cause.Cause.{Cause}
 use Rattle.web_reply.specs.declared.cause.Cause.TheVariants.{Payload, Http, Utf8, Io, Custom}
 use Rattle.web_reply.specs.declared.cause.Cause.TheVariants.{ContentType, Parse, HeaderValue}
 use Rattle.web_reply.specs.declared.cause.Cause.TheVariants.{Json, Form, Read, JsonText, Write}
-use Rattle.web_reply.specs.declared.cause.Cause.TheVariants.{Path, Query}
+use Rattle.web_reply.specs.declared.cause.Cause.TheVariants.{Path, Query, Lines, MissingPeer}
 use Rattle.web_reply.specs.declared.cause.HttpError.{HttpError}
 use Rattle.web_reply.specs.declared.cause.HttpError.TheVariants.{Name, Value, MaxSize}
 use Rattle.web_reply.specs.declared.cause.IoKind.{IoKind}
@@ -36,9 +39,11 @@ cause_text (Json e) = json_error_text e
 cause_text (Form e) = form_error_text e
 cause_text (Path e) = path_error_text e
 cause_text (Query e) = query_error_text e
+cause_text (Lines e) = lines_error_text e
 cause_text (ContentType e) = content_type_error_text e
 cause_text (Parse e) = codes "invalid header"
 cause_text (HeaderValue e) = codes "invalid header value"
+cause_text MissingPeer = codes "Missing peer address"
 cause_text (Http e) = http_text e
 cause_text (Read e) = e.text
 cause_text (JsonText e) = json_fault_text e
@@ -71,6 +76,12 @@ form_status form.Encoding = 400
 form_status (form.Serialize e) = 400
 form_status (form.Payload e) = payload_status e
 
+abbrev pub lines_status : ReadlinesError → ℕ
+lines_status lines.EncodingError = 400
+lines_status (lines.Payload e) = 400
+lines_status lines.LimitOverflow = 413
+lines_status (lines.ContentTypeError e) = 400
+
 abbrev pub io_status : IoKind → ℕ
 io_status kind.NotFound = 404
 io_status kind.PermissionDenied = 403
@@ -82,9 +93,11 @@ cause_status (Json e) = json_status e
 cause_status (Form e) = form_status e
 cause_status (Path e) = 400
 cause_status (Query e) = 400
+cause_status (Lines e) = lines_status e
 cause_status (ContentType e) = 400
 cause_status (Parse e) = 400
 cause_status (HeaderValue e) = 400
+cause_status MissingPeer = 500
 cause_status (Http e) = 500
 cause_status (Read e) = 400
 cause_status (JsonText e) = 500

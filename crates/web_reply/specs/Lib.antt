@@ -3,6 +3,12 @@ pub mod Causes
 pub mod ResponseHeads
 pub mod LentParts
 pub mod BodyMaps
+pub mod PreparedReplies
 pub mod Replies
+pub mod InternalErrors
+pub mod Mappers
 pub mod Responders
 pub mod CowTexts
+pub mod HeaderSteps
+pub mod CookieHeaders
+pub mod ResponseCookies

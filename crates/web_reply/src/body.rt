@@ -6,7 +6,7 @@ use bytes::Bytes;
 use std::alloc::Global;
 use web_body::Payload;
 use web_request::Source;
-use web_texts::NoMemory;
+use web_texts::{Duplicate, NoMemory};
 
 /// What is known of a body's length before it is sent.
 #[derive(Clone, Copy, Debug, PartialEq, Eq)]
@@ -61,6 +61,15 @@ pub trait MessageBody<S: Source>: Sized + Drop {
     fn boxed(self, alloc: Global) -> Result<BoxBody<S>, NoMemory>
         ensures value { IfOk result (λ body. box_plain S.feed body ≡ plain self) }
         ensures memory { needs_no_memory self → IsOk result };
+}
+
+impl Duplicate for WholeBody {
+    fn duplicate(&self, _alloc: Global) -> Result<WholeBody, NoMemory> {
+        Ok(match self {
+            WholeBody::Empty => WholeBody::Empty,
+            WholeBody::Bytes(bytes) => WholeBody::Bytes(bytes.clone()?),
+        })
+    }
 }
 
 impl<S: Source> MessageBody<S> for () {

@@ -4,8 +4,9 @@ use http::StatusCode;
 use std::fmt;
 use web_body::{
     JsonFault, JsonPayloadError, PathError, PayloadError, QueryPayloadError, ReadFault,
-    UrlencodedError, WriteFault,
+    ReadlinesError, UrlencodedError, WriteFault,
 };
+use web_request::MissingPeerAddr;
 use web_texts::{ContentTypeError, InvalidHeaderValue, ParseError, Text};
 
 /// Why a header could not be set.
@@ -43,12 +44,16 @@ pub enum Cause {
     Path(PathError),
     /// A query gave no value: 400.
     Query(QueryPayloadError),
+    /// A line of a body could not be read: 413 above the limit, otherwise 400.
+    Lines(ReadlinesError),
     /// The content type of a request is not usable: 400.
     ContentType(ContentTypeError),
     /// A header of a request could not be read: 400.
     Parse(ParseError),
     /// A typed header could not be written as a field value: 400.
     HeaderValue(InvalidHeaderValue),
+    /// The address that a request came from is not known: 500.
+    MissingPeer,
     /// A header could not be set: 500.
     Http(HttpError),
     /// A reader refused what it was given: 400.
@@ -108,9 +113,11 @@ impl fmt::Display for Cause {
             Cause::Form(fault) => write!(f, "{fault}"),
             Cause::Path(fault) => write!(f, "{fault}"),
             Cause::Query(fault) => write!(f, "{fault}"),
+            Cause::Lines(fault) => write!(f, "{fault}"),
             Cause::ContentType(fault) => write!(f, "{fault}"),
             Cause::Parse(fault) => write!(f, "{fault}"),
             Cause::HeaderValue(fault) => write!(f, "{fault}"),
+            Cause::MissingPeer => write!(f, "{MissingPeerAddr}"),
             Cause::Http(fault) => write!(f, "{fault}"),
             Cause::Read(fault) => write!(f, "{fault}"),
             Cause::JsonText(fault) => write!(f, "{fault}"),

@@ -1,11 +1,13 @@
 //! Errors and their replies.
 ghost use Rattle.std.specs.Prelude.{◌≡◌, ℕ, IfOk, OnOk, OnErr};
-ghost use Rattle.web_reply.specs.Causes.{form_status, json_status, payload_status};
-ghost use Rattle.web_reply.specs.Replies.{Fault, Reply};
+ghost use Rattle.web_reply.specs.Causes.{form_status, json_status, lines_status, payload_status};
+ghost use Rattle.web_reply.specs.PreparedReplies.{prepared_map};
+ghost use Rattle.web_reply.specs.Replies.{Reply, after_giving, default_reply, given_reply};
 ghost use Rattle.web_reply.specs.declared.body.WholeBody.{WholeBody};
 
 use crate::body::WholeBody;
 use crate::cause::{Cause, HttpError, IoKind};
+use crate::prepared::Prepared;
 use crate::response::HttpResponse;
 use crate::typed::{PLAIN_TEXT, typed};
 use bytes::Bytes;
@@ -16,8 +18,9 @@ use std::fmt::Display;
 use std::marker::Model;
 use web_body::{
     JsonFault, JsonPayloadError, PathError, PayloadError, QueryPayloadError, ReadFault,
-    UrlencodedError, WriteFault,
+    ReadlinesError, UrlencodedError, WriteFault,
 };
+use web_request::MissingPeerAddr;
 use web_texts::{ContentTypeError, InvalidHeaderValue, NoMemory, ParseError};
 
 /// A result whose error becomes a reply.
@@ -28,8 +31,8 @@ pub trait ResponseError: Display {
     /// The status of its reply.
     ghost status: { Self → ℕ };
 
-    /// Its reply.
-    ghost reply: { Self → Reply WholeBody };
+    /// The replies that it may have.
+    ghost replies: { Self → Reply WholeBody → Type 0 };
 
     /// Its value after its reply was made.
     ghost after: { Self → Self };
@@ -39,18 +42,19 @@ pub trait ResponseError: Display {
 
     /// Its reply. Where allocation fails, the error is unchanged.
     fn error_response(&mut self, alloc: Global) -> Result<HttpResponse<WholeBody>, NoMemory>
-        ensures value { IfOk result (λ given. given ≡ reply self.old) }
+        ensures value { IfOk result (λ reply. replies self.old reply) }
         ensures after { OnOk result (self.new ≡ after self.old) }
         ensures kept { OnErr result (self.new ≡ self.old) };
 }
 
 impl ResponseError for Cause {
+    ghost use Rattle.std.specs.Prelude.{◌≡◌};
     ghost use Rattle.web_reply.specs.Causes.{cause_status};
     ghost use Rattle.web_reply.specs.Replies.{default_reply};
 
     ghost status = { cause_status };
 
-    ghost reply = { default_reply };
+    ghost replies = { λ cause reply. reply ≡ default_reply cause };
 
     ghost after = { λ cause. cause };
 
@@ -60,10 +64,11 @@ impl ResponseError for Cause {
             Cause::Json(fault) => json_status(fault),
             Cause::Form(fault) => form_status(fault),
             Cause::Path(_) | Cause::Query(_) => StatusCode::BAD_REQUEST,
+            Cause::Lines(fault) => lines_status(fault),
             Cause::ContentType(_) | Cause::Parse(_) | Cause::HeaderValue(_) => {
                 StatusCode::BAD_REQUEST
             }
-            Cause::Http(_) => StatusCode::INTERNAL_SERVER_ERROR,
+            Cause::MissingPeer | Cause::Http(_) => StatusCode::INTERNAL_SERVER_ERROR,
             Cause::Read(_) | Cause::Utf8 => StatusCode::BAD_REQUEST,
             Cause::JsonText(_) | Cause::Write(_) => StatusCode::INTERNAL_SERVER_ERROR,
             Cause::Io(IoKind::NotFound) => StatusCode::NOT_FOUND,
@@ -74,6 +79,15 @@ impl ResponseError for Cause {
     }
 
     fn error_response(&mut self, alloc: Global) -> Result<HttpResponse<WholeBody>, NoMemory> {
+        self.reply(alloc)
+    }
+}
+
+impl Cause {
+    /// The reply to this cause: its status, and its text as `text/plain; charset=utf-8`.
+    pub(crate) fn reply(&self, alloc: Global) -> Result<HttpResponse<WholeBody>, NoMemory>
+        ensures { IfOk result (λ reply. reply ≡ default_reply self.now) }
+    {
         let text = self.to_string(alloc)?;
         typed(
             alloc,
@@ -121,16 +135,37 @@ fn form_status(fault: &UrlencodedError) -> StatusCode
     }
 }
 
-/// The error of a handler or of one of its arguments: a cause, from which the reply is made.
+fn lines_status(fault: &ReadlinesError) -> StatusCode
+    ensures { result ≡ lines_status fault.now }
+{
+    match fault {
+        ReadlinesError::LimitOverflow => StatusCode::PAYLOAD_TOO_LARGE,
+        ReadlinesError::EncodingError
+        | ReadlinesError::Payload(_)
+        | ReadlinesError::ContentTypeError(_) => StatusCode::BAD_REQUEST,
+    }
+}
+
+/// The error of a handler or of one of its arguments: a cause, from which the reply is made, unless
+/// a reply was prepared.
+///
+/// A prepared reply stands behind a `Box`, since few errors have one.
 #[derive(Debug, Drop)]
 pub struct Error {
     cause: Cause,
+    prepared: Prepared<Box<HttpResponse<WholeBody>>>,
 }
 
 impl Model for Error {
+    ghost use Rattle.web_reply.specs.PreparedReplies.{prepared_map};
+    ghost use Rattle.web_reply.specs.Replies.{Fault};
+
     ghost Value = { Fault };
 
-    ghost view = { λ e. record { cause = e.cause } };
+    ghost view = { λ e. record {
+      cause = e.cause;
+      prepared = prepared_map (λ reply. reply.value) e.prepared;
+    } };
 }
 
 impl Error {
@@ -147,6 +182,51 @@ impl Error {
         &self.cause
     }
 
+    /// The reply: a prepared one once, then an empty 500; where none was prepared, that to the
+    /// cause. Where allocation fails, the error is unchanged.
+    pub fn error_response(&mut self, alloc: Global) -> Result<HttpResponse<WholeBody>, NoMemory>
+        ensures value { IfOk result (λ reply. reply ≡ given_reply self.old) }
+        ensures after { OnOk result (self.new ≡ after_giving self.old) }
+        ensures kept { OnErr result (self.new ≡ self.old) }
+    {
+        match self.prepared.give() {
+            Prepared::Never => self.cause.error_response(alloc),
+            Prepared::Held(reply) => Ok(Box::into_inner(reply)),
+            Prepared::Given => Ok(HttpResponse::new(alloc, StatusCode::INTERNAL_SERVER_ERROR)),
+        }
+    }
+
+    /// An error of this cause, with its reply prepared.
+    pub(crate) fn with_prepared(
+        cause: Cause,
+        prepared: Prepared<Box<HttpResponse<WholeBody>>>,
+    ) -> Error
+        ensures { result ≡ record {
+          cause = cause;
+          prepared = prepared_map (λ reply. reply.value) prepared;
+        } }
+    {
+        Error { cause, prepared }
+    }
+
+    /// A copy of the reply that `error_response` gives next.
+    pub(crate) fn copied_response(&self, alloc: Global) -> Result<HttpResponse<WholeBody>, NoMemory>
+        ensures { IfOk result (λ reply. reply ≡ given_reply self.now) }
+    {
+        match &self.prepared {
+            Prepared::Never => self.cause.reply(alloc),
+            Prepared::Held(reply) => reply.copy(alloc),
+            Prepared::Given => Ok(HttpResponse::new(alloc, StatusCode::INTERNAL_SERVER_ERROR)),
+        }
+    }
+
+    /// Notes that the reply was given.
+    pub(crate) fn note_given(&mut self)
+        ensures { self.new ≡ after_giving self.old }
+    {
+        self.prepared.give();
+    }
+
     pub(crate) fn into_cause(self) -> Cause
         ensures { result ≡ self.cause }
     {
@@ -160,7 +240,10 @@ impl From<Cause> for Error {
     ghost from_gives = { λ cause e. e ≡ fault_of cause };
 
     fn from(cause: Cause) -> Error {
-        Error { cause }
+        Error {
+            cause,
+            prepared: Prepared::Never,
+        }
     }
 }
 
@@ -171,9 +254,7 @@ impl From<PayloadError> for Error {
     ghost from_gives = { λ fault e. e ≡ fault_of (Payload fault) };
 
     fn from(fault: PayloadError) -> Error {
-        Error {
-            cause: Cause::Payload(fault),
-        }
+        Error::from(Cause::Payload(fault))
     }
 }
 
@@ -184,9 +265,7 @@ impl From<ContentTypeError> for Error {
     ghost from_gives = { λ fault e. e ≡ fault_of (ContentType fault) };
 
     fn from(fault: ContentTypeError) -> Error {
-        Error {
-            cause: Cause::ContentType(fault),
-        }
+        Error::from(Cause::ContentType(fault))
     }
 }
 
@@ -197,9 +276,7 @@ impl From<ParseError> for Error {
     ghost from_gives = { λ fault e. e ≡ fault_of (Parse fault) };
 
     fn from(fault: ParseError) -> Error {
-        Error {
-            cause: Cause::Parse(fault),
-        }
+        Error::from(Cause::Parse(fault))
     }
 }
 
@@ -210,9 +287,7 @@ impl From<InvalidHeaderValue> for Error {
     ghost from_gives = { λ fault e. e ≡ fault_of (HeaderValue fault) };
 
     fn from(fault: InvalidHeaderValue) -> Error {
-        Error {
-            cause: Cause::HeaderValue(fault),
-        }
+        Error::from(Cause::HeaderValue(fault))
     }
 }
 
@@ -223,9 +298,7 @@ impl From<JsonPayloadError> for Error {
     ghost from_gives = { λ fault e. e ≡ fault_of (Json fault) };
 
     fn from(fault: JsonPayloadError) -> Error {
-        Error {
-            cause: Cause::Json(fault),
-        }
+        Error::from(Cause::Json(fault))
     }
 }
 
@@ -236,9 +309,7 @@ impl From<UrlencodedError> for Error {
     ghost from_gives = { λ fault e. e ≡ fault_of (Form fault) };
 
     fn from(fault: UrlencodedError) -> Error {
-        Error {
-            cause: Cause::Form(fault),
-        }
+        Error::from(Cause::Form(fault))
     }
 }
 
@@ -249,9 +320,7 @@ impl From<PathError> for Error {
     ghost from_gives = { λ fault e. e ≡ fault_of (Path fault) };
 
     fn from(fault: PathError) -> Error {
-        Error {
-            cause: Cause::Path(fault),
-        }
+        Error::from(Cause::Path(fault))
     }
 }
 
@@ -262,9 +331,29 @@ impl From<QueryPayloadError> for Error {
     ghost from_gives = { λ fault e. e ≡ fault_of (Query fault) };
 
     fn from(fault: QueryPayloadError) -> Error {
-        Error {
-            cause: Cause::Query(fault),
-        }
+        Error::from(Cause::Query(fault))
+    }
+}
+
+impl From<ReadlinesError> for Error {
+    ghost use Rattle.web_reply.specs.Replies.{fault_of};
+    ghost use Rattle.web_reply.specs.declared.cause.Cause.TheVariants.{Lines};
+
+    ghost from_gives = { λ fault e. e ≡ fault_of (Lines fault) };
+
+    fn from(fault: ReadlinesError) -> Error {
+        Error::from(Cause::Lines(fault))
+    }
+}
+
+impl From<MissingPeerAddr> for Error {
+    ghost use Rattle.web_reply.specs.Replies.{fault_of};
+    ghost use Rattle.web_reply.specs.declared.cause.Cause.TheVariants.{MissingPeer};
+
+    ghost from_gives = { λ fault e. e ≡ fault_of MissingPeer };
+
+    fn from(_fault: MissingPeerAddr) -> Error {
+        Error::from(Cause::MissingPeer)
     }
 }
 
@@ -275,9 +364,7 @@ impl From<ReadFault> for Error {
     ghost from_gives = { λ fault e. e ≡ fault_of (Read fault) };
 
     fn from(fault: ReadFault) -> Error {
-        Error {
-            cause: Cause::Read(fault),
-        }
+        Error::from(Cause::Read(fault))
     }
 }
 
@@ -288,9 +375,7 @@ impl From<JsonFault> for Error {
     ghost from_gives = { λ fault e. e ≡ fault_of (JsonText fault) };
 
     fn from(fault: JsonFault) -> Error {
-        Error {
-            cause: Cause::JsonText(fault),
-        }
+        Error::from(Cause::JsonText(fault))
     }
 }
 
@@ -301,9 +386,7 @@ impl From<WriteFault> for Error {
     ghost from_gives = { λ fault e. e ≡ fault_of (Write fault) };
 
     fn from(fault: WriteFault) -> Error {
-        Error {
-            cause: Cause::Write(fault),
-        }
+        Error::from(Cause::Write(fault))
     }
 }
 
@@ -314,9 +397,7 @@ impl From<HttpError> for Error {
     ghost from_gives = { λ fault e. e ≡ fault_of (Http fault) };
 
     fn from(fault: HttpError) -> Error {
-        Error {
-            cause: Cause::Http(fault),
-        }
+        Error::from(Cause::Http(fault))
     }
 }
 
@@ -327,9 +408,7 @@ impl From<IoKind> for Error {
     ghost from_gives = { λ kind e. e ≡ fault_of (Io kind) };
 
     fn from(kind: IoKind) -> Error {
-        Error {
-            cause: Cause::Io(kind),
-        }
+        Error::from(Cause::Io(kind))
     }
 }
 

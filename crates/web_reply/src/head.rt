@@ -1,10 +1,12 @@
 //! The head of a response.
-ghost use Rattle.std.specs.Prelude.{◌≡◌};
+ghost use Rattle.std.specs.Prelude.{◌≡◌, IfOk};
 
 use bytes::ByteStr;
 use http::{StatusCode, Version};
 use http_header::{HeaderMap, HeaderValue};
+use std::alloc::Global;
 use std::marker::Model;
+use web_texts::{Duplicate, NoMemory};
 
 /// What happens to the connection after the response (RFC 9110, section 7.6.1).
 #[derive(Clone, Copy, Debug, PartialEq, Eq)]
@@ -50,6 +52,14 @@ impl Reason {
     }
 }
 
+impl Duplicate for Reason {
+    fn duplicate(&self, _alloc: Global) -> Result<Reason, NoMemory> {
+        Ok(Reason {
+            text: self.text.clone()?,
+        })
+    }
+}
+
 /// The status line and the headers of a response, with what a server needs to send them.
 #[derive(Drop)]
 pub struct ResponseHead {
@@ -63,4 +73,36 @@ pub struct ResponseHead {
     pub headers: HeaderMap<HeaderValue>,
     /// The reason phrase, where it is not the status's own.
     pub reason: Option<Reason>,
+}
+
+/// A copy of the headers.
+pub(crate) fn copy_headers(
+    headers: &HeaderMap<HeaderValue>,
+) -> Result<HeaderMap<HeaderValue>, NoMemory>
+    ensures { IfOk result (λ copy. copy ≡ headers.now) }
+{
+    Ok(headers.clone()?)
+}
+
+fn copy_reason(alloc: Global, reason: &Option<Reason>) -> Result<Option<Reason>, NoMemory>
+    ensures { IfOk result (λ copy. copy ≡ reason.now) }
+{
+    match reason {
+        Some(reason) => Ok(Some(reason.duplicate(alloc)?)),
+        None => Ok(None),
+    }
+}
+
+impl Duplicate for ResponseHead {
+    fn duplicate(&self, alloc: Global) -> Result<ResponseHead, NoMemory> {
+        let headers = copy_headers(&self.headers)?;
+        Ok(ResponseHead {
+            version: self.version,
+            status: self.status,
+            connection: self.connection,
+            no_chunking: self.no_chunking,
+            headers,
+            reason: copy_reason(alloc, &self.reason)?,
+        })
+    }
 }

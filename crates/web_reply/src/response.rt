@@ -1,6 +1,6 @@
 //! Responses.
 ghost use Rattle.std.specs.Prelude.{◌≡◌, ◌↔◌, IsTrue, IsOk, IfOk, None, Some};
-ghost use Rattle.std.specs.Option.{option_copied};
+ghost use Rattle.std.specs.Option.{option_copied, option_map};
 ghost use Rattle.std.specs.Borrow.{sem};
 ghost use Rattle.web_reply.specs.ResponseBodies.{box_plain};
 ghost use Rattle.web_reply.specs.ResponseHeads.{KeepsAlive, Upgrades};
@@ -10,23 +10,24 @@ ghost use Rattle.web_reply.specs.Replies.{bare_reply, error_reply, plain_reply, 
 
 use crate::body::{BoxBody, EitherBody, MessageBody, WholeBody};
 use crate::cause::Cause;
-use crate::error::{Error, ResponseError};
+use crate::error::Error;
 use crate::head::{ConnectionType, ResponseHead};
 use http::{StatusCode, Version};
 use http_header::{HeaderMap, HeaderValue};
 use std::alloc::Global;
 use std::marker::Model;
+use std::rc::Rc;
 use web_request::Source;
-use web_texts::NoMemory;
+use web_texts::{Duplicate, NoMemory};
 
 /// A response: a head, a body and, for the reply to an error, the cause.
 ///
-/// The cause stands behind a `Box`, since few responses have one.
+/// The cause stands behind an `Rc`, since few responses have one, and copies share it.
 #[derive(Drop)]
 pub struct HttpResponse<B> {
     head: ResponseHead,
     body: B,
-    error: Option<Box<Cause>>,
+    error: Option<Rc<Cause>>,
 }
 
 impl<B> Model for HttpResponse<B> {
@@ -42,6 +43,17 @@ impl<B> Model for HttpResponse<B> {
     } };
 }
 
+/// The same cause, shared.
+fn copy_cause(cause: &Option<Rc<Cause>>) -> Result<Option<Rc<Cause>>, NoMemory>
+    ensures { IfOk result (λ copy. option_map (λ c. c.value) copy
+        ≡ option_map (λ c. c.value) cause.now) }
+{
+    match cause {
+        Some(cause) => Ok(Some(cause.clone()?)),
+        None => Ok(None),
+    }
+}
+
 impl HttpResponse<WholeBody> {
     /// An HTTP/1.1 response with this status, no header and an empty body.
     pub fn new(alloc: Global, status: StatusCode) -> HttpResponse<WholeBody>
@@ -55,12 +67,25 @@ impl HttpResponse<WholeBody> {
     pub fn from_error(alloc: Global, error: Error) -> Result<HttpResponse<WholeBody>, NoMemory>
         ensures { IfOk result (λ reply. reply ≡ error_reply error) }
     {
-        let mut cause = error.into_cause();
-        let HttpResponse { head, body, .. } = cause.error_response(alloc)?;
+        let mut error = error;
+        let HttpResponse { head, body, .. } = error.error_response(alloc)?;
         Ok(HttpResponse {
             head,
             body,
-            error: Some(Box::new(alloc, cause)?),
+            error: Some(Rc::new(alloc, error.into_cause())?),
+        })
+    }
+
+    /// A copy of the response, which shares the cause.
+    pub(crate) fn copy(&self, alloc: Global) -> Result<HttpResponse<WholeBody>, NoMemory>
+        ensures { IfOk result (λ copy. copy ≡ self.now) }
+    {
+        let error = copy_cause(&self.error)?;
+        let body = self.body.duplicate(alloc)?;
+        Ok(HttpResponse {
+            head: self.head.duplicate(alloc)?,
+            body,
+            error,
         })
     }
 }

@@ -73,6 +73,9 @@ module _ {L D C : Type 0} {xs : List ℕ} {rs : List (Record L D C)} {c : ℕ} {
   pub room_left : (e && nat_lt (length xs) c) ≡ true → length rs < room
   room_left h = let lt = is_less (length xs) c (both e _ h).1 in let f = k.records_fit in let s = as_long in omega arith
 
+  pub place_left : (e && nat_lt (length xs) c) ≡ true → length xs < places
+  place_left h = let lt = is_less (length xs) c (both e _ h).1 in let f = k.numbers_fit in omega arith
+
   pub keeps_given : (r : Record L D C) (xs2 : List ℕ) (rs2 : List (Record L D C)) (room2 places2 : ℕ) → (e && nat_lt (length xs) c) ≡ true → Clean r
       → xs2 ≡ xs ++ r.serial ∷ [] → rs2 ≡ rs ++ r ∷ [] → room ≤ room2 → places ≤ places2 → KeptRecords xs2 rs2 c e room2 places2
   keeps_given r xs2 rs2 room2 places2 a clean p q u v = record {

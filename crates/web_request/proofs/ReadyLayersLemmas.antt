@@ -3,7 +3,7 @@ use Rattle.std.proofs.Common.{suc, List, [], ◌∷◌, ◌++◌, ◌≡◌, ref
 use Rattle.std.specs.Prelude.{Option, None, Some}
 use Rattle.std.specs.declared.rc.Rc.{Rc}
 use Rattle.std.proofs.lemmas.List.{map-append}
-use Rattle.std.proofs.lemmas.List.Elements.{All-append, All-cons, All-pop}
+use Rattle.std.proofs.lemmas.List.Elements.{All-append, All-cons, All-pop, All-push}
 use Rattle.web_request.specs.ReadyLayers.{AllReady}
 use Rattle.web_request.specs.Shared.{values, values_behind}
 use Rattle.web_request.proofs.NearestLemmas.{behind-push}
@@ -24,3 +24,9 @@ module _ {L Z : Type 0} (ready : L → Type 0) where
   ready_last root left before r layer is lent all =
       let split = All-pop ready (values_behind root before ++ r.value ∷ []) (values_behind root before) (Some r.value) refl (rw (sym (behind-push root before r), sym is) all) in
       (split.0, rw lent split.1)
+
+  -- one more as the last one
+  pub ready_pushed : (root : Option (Rc L Z)) (ls ms : List (Rc L Z)) (r : Rc L Z) → ms ≡ ls ++ r ∷ [] → AllReady ready (values_behind root ls) → ready r.value
+      → AllReady ready (values_behind root ms)
+  ready_pushed root ls ms r is before here =
+      subst (AllReady ready) (sym (ap (values_behind root) is ∙ behind-push root ls r)) (All-push ready (values_behind root ls) r.value before here)

@@ -1,7 +1,13 @@
 pub mod Shared
 pub mod Head
 pub mod ReadyLayers
+pub mod AddressTexts
+pub mod Connections
 pub mod Request
+pub mod KeptValues
+pub mod FullUrls
+pub mod Computed
+pub mod Descriptions
 pub mod Nearest
 pub mod MessageFields
 pub mod Returns

@@ -2,7 +2,7 @@
 use Rattle.std.specs.Prelude.{ℕ, ◌≡◌, ◌+◌, ◌-◌, List, [], ◌∷◌, ◌++◌, None, Bool, true, ◌&&◌}
 use Rattle.std.specs.Prelude.{if◌then◌else◌, length, nat_lt, slice_index_or, take}
 use Rattle.web_request.specs.declared.config.AppConfig.{AppConfig}
-use Rattle.web_request.specs.Request.{Parts, Record}
+use Rattle.web_request.specs.Request.{Parts, Record, nothing_kept}
 
 pub record Pool (L : Type 0) : Type 0 where
   -- the numbers of the records that are kept, the oldest first
@@ -69,6 +69,7 @@ new_record root config serial p = record {
     config = config;
   };
   serial = serial;
+  kept = nothing_kept;
 }
 
 -- Nothing of an earlier request is left but its head and the configuration. The next request
@@ -78,3 +79,4 @@ pub record Clean {L D C : Type 0} (r : Record L D C) : Type 0 where
   pub layers : r.request.layers ≡ []
   pub conn : r.request.conn ≡ None
   pub local : r.request.local ≡ None
+  pub kept : r.kept ≡ nothing_kept

@@ -11,3 +11,8 @@ ReturnsError (fail.Of e) wanted = wanted ≡ Err e
 abbrev pub Returns : {T E : Type 0} → Result T (Fail E) → Result T E → Type 0
 Returns (Ok x) wanted = wanted ≡ Ok x
 Returns (Err e) wanted = ReturnsError e wanted
+
+-- the same, where contracts see the value by a view
+abbrev pub ReturnsBy : {X T E : Type 0} → (X → T) → Result X (Fail E) → Result T E → Type 0
+ReturnsBy view (Ok x) wanted = wanted ≡ Ok (view x)
+ReturnsBy view (Err e) wanted = ReturnsError e wanted

@@ -1,7 +1,10 @@
 //! Network addresses.
 
-/// An IPv4 or IPv6 address.
-#[derive(Clone, Copy, Debug, PartialEq, Eq)]
+use std::fmt;
+use std::net::{Ipv4Addr, Ipv6Addr};
+
+/// An IPv4 or IPv6 address. Addresses of IPv4 are ordered before those of IPv6.
+#[derive(Clone, Copy, Debug, PartialEq, Eq, PartialOrd, Ord, Hash)]
 pub enum IpAddr {
     /// The four bytes in network order (RFC 791, section 3.1).
     V4([u8; 4]),
@@ -9,11 +12,49 @@ pub enum IpAddr {
     V6([u16; 8]),
 }
 
+/// Prints IPv4 in decimal with dots, and IPv6 in lower-case hexadecimal with colons (RFC 5952):
+/// the first longest run of two or more zero groups is `::`, and an address of IPv4 that is mapped
+/// into IPv6 ends in its decimal form.
+impl fmt::Display for IpAddr {
+    ghost use Rattle.std.specs.Prelude.{Some};
+    ghost use Rattle.web_request.specs.AddressTexts.{ip_text};
+
+    ghost output = { λ ip. Some (ip_text ip) };
+
+    fn fmt<W: fmt::Write>(&self, f: &mut fmt::Formatter<W>) -> fmt::Result {
+        match *self {
+            IpAddr::V4(bytes) => {
+                let ip = Ipv4Addr::from_octets(bytes);
+                write!(f, "{ip}")
+            }
+            IpAddr::V6(groups) => {
+                let ip = Ipv6Addr::from_segments(groups);
+                write!(f, "{ip}")
+            }
+        }
+    }
+}
+
 /// An IP address and a port.
-#[derive(Clone, Copy, Debug, PartialEq, Eq)]
+#[derive(Clone, Copy, Debug, PartialEq, Eq, PartialOrd, Ord, Hash)]
 pub struct SocketAddr {
     /// The address.
     pub ip: IpAddr,
     /// The port.
     pub port: u16,
+}
+
+/// Prints address and port with a colon between them, and an address of IPv6 in brackets.
+impl fmt::Display for SocketAddr {
+    ghost use Rattle.std.specs.Prelude.{Some};
+    ghost use Rattle.web_request.specs.AddressTexts.{socket_text};
+
+    ghost output = { λ address. Some (socket_text address) };
+
+    fn fmt<W: fmt::Write>(&self, f: &mut fmt::Formatter<W>) -> fmt::Result {
+        match self.ip {
+            IpAddr::V4(_) => write!(f, "{}:{}", self.ip, self.port),
+            IpAddr::V6(_) => write!(f, "[{}]:{}", self.ip, self.port),
+        }
+    }
 }

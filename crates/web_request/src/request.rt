@@ -1,11 +1,14 @@
 //! Requests.
-ghost use Rattle.std.specs.Prelude.{◌≡◌, IfErr, IfOk, IfSome, OnErr, OnOk, option_copied};
+ghost use Rattle.std.specs.Prelude.{◌≡◌, ◌++◌, ◌∷◌, [], IfErr, IfOk, IfSome, OnErr, OnOk};
+ghost use Rattle.std.specs.Prelude.{option_copied};
 ghost use Rattle.std.specs.Option.{option_and_then};
-ghost use Rattle.std.specs.Borrow.{Lends, sem};
+ghost use Rattle.std.specs.Borrow.{Lends, LendsSoOk, sem};
 ghost use Rattle.std.specs.contracts.option.Option.{the_row as option_row};
 ghost use Rattle.web_request.specs.Head.{head_path, head_query, head_target, head_view, uri_view};
 ghost use Rattle.web_request.specs.Nearest.{nearest, nearest_config};
 ghost use Rattle.web_request.specs.Pool.{Clean, new_record};
+ghost use Rattle.web_request.specs.Request.{nothing_kept};
+ghost use Rattle.web_request.specs.contracts.head.RequestHead.{the_row as head_row};
 ghost use Rattle.web_request.specs.contracts.request.HttpRequest.{the_row};
 
 use crate::address::SocketAddr;
@@ -13,6 +16,7 @@ use crate::app::App;
 use crate::config::AppConfig;
 use crate::copies::{copied_data, copied_pairs, shared_again, shared_layers};
 use crate::head::RequestHead;
+use crate::kept_values::KeptValues;
 use crate::layers::{ConfigChoice, HeldValue, Holds, OwnConfig, SharedConfig, Wanted};
 use crate::parts::RequestParts;
 use crate::reuse::{move_into, put_head};
@@ -26,18 +30,20 @@ use web_texts::{NoMemory, Pair};
 
 /// A request in a record of an `HttpRequestPool`.
 ///
-/// Contracts see the values of its parts, and the number of its record.
+/// Contracts see the values of its parts, the number of its record, and what was computed of it and
+/// is kept.
 #[derive(Drop)]
 pub struct HttpRequest<A: App> {
-    head: Rc<RequestHead>,
+    pub(crate) head: Rc<RequestHead>,
     params: Vec<Pair>,
     /// Apart from the other layers, so that a request with no further layer needs no list.
     root: Option<Rc<A::Layer>>,
     layers: Vec<Rc<A::Layer>>,
     conn: Option<Rc<A::Conn>>,
     local: Option<A::Local>,
-    config: Rc<AppConfig>,
+    pub(crate) config: Rc<AppConfig>,
     serial: u64,
+    pub(crate) kept: KeptValues,
 }
 
 impl<A: App> Model for HttpRequest<A> {
@@ -47,6 +53,8 @@ impl<A: App> Model for HttpRequest<A> {
     ghost use Rattle.web_request.specs.Request.{Record};
 
     ghost Value = { Record A.Layer A.Local A.Conn };
+
+    ghost use Rattle.web_request.specs.KeptValues.{kept_view};
 
     ghost view = { λ r. record {
       request = record {
@@ -58,6 +66,7 @@ impl<A: App> Model for HttpRequest<A> {
         config = r.config.value;
       };
       serial = r.serial;
+      kept = kept_view r.kept;
     } };
 
     ghost invariant = { λ r. AllReady A.Layer.ready (values_behind r.root r.layers.items) };
@@ -223,10 +232,12 @@ impl<A: App> HttpRequest<A> {
 
     /// An equal request under the same number. It shares the head, the layers, the data of the
     /// connection and the settings; the parameters and the data of the request are copied. A later
-    /// change of the one is not seen by the other. Returns `NoMemory` where an allocation failed.
+    /// change of the one is not seen by the other. What was computed of this request is not taken
+    /// over. Returns `NoMemory` where an allocation failed.
     pub fn duplicate(&self, alloc: Global) -> Result<HttpRequest<A>, NoMemory>
         ensures request { IfOk result (λ copy. copy.request ≡ self.now.request) }
         ensures serial { IfOk result (λ copy. copy.serial ≡ self.now.serial) }
+        ensures kept { IfOk result (λ copy. copy.kept ≡ nothing_kept) }
     {
         let root = shared_again(&self.root)?;
         let layers = shared_layers(&self.layers)?;
@@ -242,7 +253,43 @@ impl<A: App> HttpRequest<A> {
             local,
             config: self.config.clone()?,
             serial: self.serial,
+            kept: KeptValues::none(),
         })
+    }
+
+    /// The head, for writing. One that a duplicate shares is copied first, so that the duplicate
+    /// keeps it. What was computed before stays as it is. Returns `NoMemory` where allocation
+    /// failed; the request is then as before.
+    pub fn head_mut(&mut self) -> Result<&mut RequestHead, NoMemory>
+        ensures* writes_back { sem 𝓛 (LendsSoOk
+            (the_row A.row A.Layer.row A.Local.row A.Conn.row A.Source.row
+            A.Layer.AppLayer A.Source.Source)
+            head_row self.entry result
+            (λ new head. new ≡ record self.old {
+              request = record self.old.request { head = head_view head };
+            })
+            (λ new. new ≡ self.old)) }
+        ensures shows { IfOk result (λ head. head_view head.now ≡ self.old.request.head) }
+    {
+        match Rc::make_mut(&mut self.head) {
+            Ok(head) => Ok(head),
+            Err(_) => Err(NoMemory),
+        }
+    }
+
+    /// Adds a layer as the last one, so that it decides first. It must be ready: its closures may
+    /// be called. Returns `NoMemory` where allocation failed; the request is then as before.
+    pub fn add_layer(&mut self, layer: Rc<A::Layer>) -> Result<(), NoMemory>
+        requires ready { A.Layer.ready layer.value }
+        ensures ok { OnOk result (self.new ≡ record self.old {
+          request = record self.old.request {
+            layers = self.old.request.layers ++ layer.value ∷ [];
+          };
+        }) }
+        ensures err { OnErr result (self.new ≡ self.old) }
+    {
+        self.layers.push(layer)?;
+        Ok(())
     }
 
     /// Makes a record in new memory. Where an allocation failed, returns the parts.
@@ -293,6 +340,7 @@ impl<A: App> HttpRequest<A> {
             local,
             config,
             serial,
+            kept: KeptValues::none(),
         })
     }
 
@@ -306,6 +354,7 @@ impl<A: App> HttpRequest<A> {
         self.layers.clear();
         self.conn = None;
         self.local = None;
+        self.kept = KeptValues::none();
     }
 
     /// Puts a request of these parts into a clean record. Where an allocation failed, returns the

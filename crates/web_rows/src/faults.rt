@@ -42,9 +42,9 @@ const RUNS: &[(&[&str], &str, Status, &str)] = &[
     (SERVE, SCRIPT, Status::Done, REPLIES),
     (
         SERVE,
-        "exchange POST /lines\n",
+        "exchange POST *\nstall 1\n",
         Status::Script,
-        "line 1: not built\n",
+        "line 2: bad mark\n",
     ),
     (&["serve"], "", Status::Usage, USAGE),
 ];

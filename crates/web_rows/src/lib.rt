@@ -1,6 +1,7 @@
 //! Tests of the command: scripts with the texts of their replies, bodies under headers and layers,
-//! the arguments of each segment, refused scripts, inputs and outputs that fail at each call in
-//! turn, arguments that are no command, and the order in which the futures of a handler are polled.
+//! the arguments of each segment, also where a request came from, its cookies and its lines,
+//! refused scripts, loads, inputs and outputs that fail at each call in turn, arguments that are no
+//! command, and the order in which the futures of a handler are polled.
 //!
 //! The expected texts are written by hand from what the program promises.
 #![tactic(auto)]
@@ -16,6 +17,8 @@ mod faults;
 #[cfg(test)]
 mod interrupts;
 #[cfg(test)]
+mod loads;
+#[cfg(test)]
 mod poll_order;
 #[cfg(test)]
 mod refusals;
@@ -23,3 +26,5 @@ mod refusals;
 mod replies;
 #[cfg(test)]
 mod scripts;
+#[cfg(test)]
+mod service_arguments;

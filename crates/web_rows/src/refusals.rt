@@ -18,7 +18,48 @@ const REFUSALS: &[(&str, &str, u64, &str)] = &[
         4,
         "unknown line",
     ),
-    ("a word that is not built", "plan\npeer x\n", 2, "not built"),
+    (
+        "a peer after the plan",
+        "plan\npeer x\n",
+        2,
+        "line after plan",
+    ),
+    (
+        "a peer before an exchange",
+        "peer 1.2.3.4:5\n",
+        1,
+        "no exchange",
+    ),
+    (
+        "a peer without a port",
+        "exchange GET /who\npeer 1.2.3.4\n",
+        2,
+        "bad peer",
+    ),
+    (
+        "a peer with an octet above 255",
+        "exchange GET /who\npeer 1.2.3.256:5\n",
+        2,
+        "bad peer",
+    ),
+    (
+        "a peer with a port above 65,535",
+        "exchange GET /who\npeer 1.2.3.4:65536\n",
+        2,
+        "bad peer",
+    ),
+    (
+        "a peer with five octets",
+        "exchange GET /who\npeer 1.2.3.4.5:6\n",
+        2,
+        "bad peer",
+    ),
+    (
+        "a peer with an empty octet",
+        "exchange GET /who\npeer 1..3.4:5\n",
+        2,
+        "bad peer",
+    ),
     (
         "an exchange after the plan",
         "plan\nexchange\n",
@@ -46,10 +87,10 @@ const REFUSALS: &[(&str, &str, u64, &str)] = &[
         "bad exchange",
     ),
     (
-        "a segment that is not built",
-        "exchange POST /lines\nplan 0\n",
+        "a target with a space",
+        "exchange POST /lines x\nplan 0\n",
         1,
-        "not built",
+        "bad exchange",
     ),
     (
         "a header without a name",

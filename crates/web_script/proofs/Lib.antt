@@ -4,6 +4,7 @@ pub mod LineArgumentsLemmas
 pub mod LineFaultsLemmas
 pub mod MarksLemmas
 pub mod NewlineLemmas
+pub mod PeerLemmas
 pub mod PlanEntriesLemmas
 pub mod ReaderLemmas
 pub mod ScriptLoopLemmas

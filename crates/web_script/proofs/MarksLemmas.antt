@@ -9,14 +9,16 @@ use Rattle.std.proofs.lemmas.List.{append-nil}
 use Rattle.std.proofs.lemmas.List.Elements.{All-push}
 use Rattle.http_header.specs.FieldValue.{FieldValue}
 use Rattle.hex.specs.Hex.{decode_of}
+use Rattle.web_request.specs.declared.address.SocketAddr.{SocketAddr}
 use Rattle.web_request.specs.declared.source.Mark.{Mark}
 use Rattle.web_request.specs.declared.source.Mark.TheVariants as mark
 use Rattle.web_request.specs.Body.{is_body, ends_in_fault, whole}
 use Rattle.web_texts.specs.declared.text.Pair.{Pair}
 use Rattle.web_script.specs.ScriptedView.{ScriptedExchangeView}
 use Rattle.web_script.specs.ExchangeSinks.{open_exchanges}
-use Rattle.web_script.specs.Reader.{ReaderView, new_reader, refusal, after_line, completed_by, with_headers, with_layers, with_marks, with_params, with_local, with_conn}
+use Rattle.web_script.specs.Reader.{ReaderView, new_reader, refusal, after_line, completed_by, with_headers, with_layers, with_marks, with_params, with_peer, with_local, with_conn}
 use Rattle.web_script.specs.Numbers.{line_number}
+use Rattle.web_script.specs.Peers.{line_peer}
 use Rattle.web_script.specs.ScriptExchanges.{line_headers, line_layers}
 use Rattle.web_script.specs.declared.layer.LayerSettings.{LayerSettings}
 use Rattle.web_script.specs.declared.reason.Reason.{Reason}
@@ -81,6 +83,10 @@ layers_sound : (o : Option ScriptedExchangeView) (f : Bool) (l : List LayerSetti
 layers_sound None f l sound = tt
 layers_sound (Some e) f l sound = sound
 
+peer_sound : (o : Option ScriptedExchangeView) (f : Bool) (address : SocketAddr) → IsOpenSound o f → IsOpenSound (option_map (with_peer address) o) f
+peer_sound None f address sound = tt
+peer_sound (Some e) f address sound = sound
+
 local_sound : (o : Option ScriptedExchangeView) (f : Bool) (n : ℕ) → IsOpenSound o f → IsOpenSound (option_map (with_local n) o) f
 local_sound None f n sound = tt
 local_sound (Some e) f n sound = sound
@@ -122,6 +128,7 @@ open_more s word.Exchange text fine sound = (refl, refl)
 open_more s word.Header text fine sound = headers_sound s.open_exchange s.has_fault (line_headers word.Header text) sound
 open_more s word.Layer text fine sound = layers_sound s.open_exchange s.has_fault (line_layers word.Layer text) sound
 open_more s word.Param text fine sound = params_sound s.open_exchange s.has_fault _ sound
+open_more s word.Peer text fine sound = peer_sound s.open_exchange s.has_fault (line_peer text) sound
 open_more s word.Local text fine sound = local_sound s.open_exchange s.has_fault (line_number text) sound
 open_more s word.Conn text fine sound = conn_sound s.open_exchange s.has_fault (line_number text) sound
 open_more s word.Text text fine sound =
@@ -133,7 +140,6 @@ open_more s word.Stall text fine sound = marks_sound s.open_exchange s.has_fault
 open_more s word.Fault text fine sound = marks_sound s.open_exchange s.has_fault true _ (has_none s _ fine) (refl, refl) sound
 open_more s word.Plan text fine sound = sound
 open_more s word.Skipped text fine sound = sound
-open_more s word.Unbuilt text fine sound = sound
 open_more s word.Unknown text fine sound = sound
 
 whole_more : (whole : List ScriptedExchangeView) (s : ReaderView) (v : Word) → IsSound whole s → AllPass (λ e. is_body e.marks) (whole ++ completed_by s v)
@@ -142,12 +148,12 @@ whole_more whole s word.Text sound = rw (append-nil whole) sound.added
 whole_more whole s word.Piece sound = rw (append-nil whole) sound.added
 whole_more whole s word.Stall sound = rw (append-nil whole) sound.added
 whole_more whole s word.Fault sound = rw (append-nil whole) sound.added
+whole_more whole s word.Peer sound = rw (append-nil whole) sound.added
 whole_more whole s word.Local sound = rw (append-nil whole) sound.added
 whole_more whole s word.Conn sound = rw (append-nil whole) sound.added
 whole_more whole s word.Param sound = rw (append-nil whole) sound.added
 whole_more whole s word.Plan sound = rw (append-nil whole) sound.added
 whole_more whole s word.Skipped sound = rw (append-nil whole) sound.added
-whole_more whole s word.Unbuilt sound = rw (append-nil whole) sound.added
 whole_more whole s word.Header sound = rw (append-nil whole) sound.added
 whole_more whole s word.Layer sound = rw (append-nil whole) sound.added
 whole_more whole s word.Unknown sound = rw (append-nil whole) sound.added

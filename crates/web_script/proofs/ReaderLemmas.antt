@@ -14,9 +14,10 @@ use Rattle.web_script.specs.ScriptedView.{ScriptedExchangeView}
 use Rattle.web_script.specs.LineKinds.{has, is_mark}
 use Rattle.web_script.specs.LineFaults.{has_line, exchange_lines, place_fault, argument_fault, fault_of, max_headers}
 use Rattle.web_script.specs.Numbers.{line_number}
-use Rattle.web_script.specs.ScriptExchanges.{line_headers, line_layers, line_marks, line_params, line_locals, line_conns, line_entries, plan, exchange_of, exchanges}
+use Rattle.web_script.specs.Peers.{line_peer}
+use Rattle.web_script.specs.ScriptExchanges.{line_headers, line_layers, line_marks, line_params, line_peers, line_locals, line_conns, line_entries, plan, exchange_of, exchanges}
 use Rattle.web_script.specs.ExchangeSinks.{open_exchanges}
-use Rattle.web_script.specs.Reader.{ReaderView, header_count, word_fault, reader_fault, refusal, after_line, completed_by, with_headers, with_layers, with_marks, with_params, with_local, with_conn}
+use Rattle.web_script.specs.Reader.{ReaderView, header_count, word_fault, reader_fault, refusal, after_line, completed_by, with_headers, with_layers, with_marks, with_params, with_peer, with_local, with_conn}
 use Rattle.web_script.specs.declared.reason.Reason.{Reason}
 use Rattle.web_script.specs.declared.reason.Reason.TheVariants as reason
 use Rattle.web_script.specs.declared.line.Word.{Word}
@@ -72,17 +73,18 @@ grown x e = record e {
   params = e.params ++ line_params x.word x.argument;
   layers = e.layers ++ line_layers x.word x.argument;
   marks = e.marks ++ line_marks x.word x.argument;
+  peer = last_or e.peer (line_peers x.word x.argument);
   local = last_or e.local (line_locals x.word x.argument);
   conn = last_or e.conn (line_conns x.word x.argument);
 }
 
-last_append : (o : Option ℕ) (xs ys : List ℕ) → last_or o (xs ++ ys) ≡ last_or (last_or o xs) ys
+last_append : {A : Type 0} (o : Option A) (xs ys : List A) → last_or o (xs ++ ys) ≡ last_or (last_or o xs) ys
 last_append o [] ys = refl
 last_append o (x ∷ xs) ys = last_append (Some x) xs ys
 
-last_more : (numbers : Line → List ℕ) (rest : List Line) (x : Line) → last_or None (flat_map numbers (rest ++ x ∷ [])) ≡ last_or (last_or None (flat_map numbers rest)) (numbers x)
-last_more numbers rest x =
-    rw (flat_map-append numbers rest (x ∷ []), append-nil (numbers x)) (last_append None (flat_map numbers rest) (numbers x))
+last_more : {A : Type 0} (values : Line → List A) (rest : List Line) (x : Line) → last_or None (flat_map values (rest ++ x ∷ [])) ≡ last_or (last_or None (flat_map values rest)) (values x)
+last_more values rest x =
+    rw (flat_map-append values rest (x ∷ []), append-nil (values x)) (last_append None (flat_map values rest) (values x))
 
 headers_more : (rest : List Line) (x : Line)
     → append_all [] (flat_map (λ l. line_headers l.word l.argument) (rest ++ x ∷ [])) ≡ append_all (append_all [] (flat_map (λ l. line_headers l.word l.argument) rest)) (line_headers x.word x.argument)
@@ -100,6 +102,7 @@ grown_is head rest x =
       append-nil (line_layers x.word x.argument),
       flat_map-append (λ (l : Line). line_params l.word l.argument) rest (x ∷ []),
       append-nil (line_params x.word x.argument),
+      last_more (λ (l : Line). line_peers l.word l.argument) rest x,
       last_more (λ (l : Line). line_locals l.word l.argument) rest x,
       last_more (λ (l : Line). line_conns l.word l.argument) rest x,
     ) refl
@@ -190,11 +193,11 @@ whole_after_is whole s word.Fault = sym (append-nil whole)
 whole_after_is whole s word.Header = sym (append-nil whole)
 whole_after_is whole s word.Param = sym (append-nil whole)
 whole_after_is whole s word.Layer = sym (append-nil whole)
+whole_after_is whole s word.Peer = sym (append-nil whole)
 whole_after_is whole s word.Local = sym (append-nil whole)
 whole_after_is whole s word.Conn = sym (append-nil whole)
 whole_after_is whole s word.Plan = sym (append-nil whole)
 whole_after_is whole s word.Skipped = sym (append-nil whole)
-whole_after_is whole s word.Unbuilt = sym (append-nil whole)
 whole_after_is whole s word.Unknown = sym (append-nil whole)
 
 one_more : (before : List Line) (whole : List ScriptedExchangeView) (s : ReaderView) (v : Word) (text : List ℕ) → IsRead before whole s → IsRead (before ++ line v text ∷ []) (whole_after whole s v) (after_line s v text)
@@ -248,6 +251,11 @@ one_more before whole s word.Layer text read =
     (keeps_as (before ++ line word.Layer text ∷ []) whole s.open_exchange s.has_fault (grown (line word.Layer text)) (with_layers (line_layers word.Layer text))
     (λ e. rw (append-nil e.params, append-nil e.marks) refl)
     (extend before whole s.open_exchange s.has_fault s.has_fault (line word.Layer text) refl (quiet (line word.Layer text) s.has_fault refl) read.exchange))
+one_more before whole s word.Peer text read =
+    unplanned before whole s word.Peer text whole _ s.has_fault refl refl read
+    (keeps_as (before ++ line word.Peer text ∷ []) whole s.open_exchange s.has_fault (grown (line word.Peer text)) (with_peer (line_peer text))
+    (λ e. rw (append-nil e.params, append-nil e.layers, append-nil e.marks) refl)
+    (extend before whole s.open_exchange s.has_fault s.has_fault (line word.Peer text) refl (quiet (line word.Peer text) s.has_fault refl) read.exchange))
 one_more before whole s word.Local text read =
     unplanned before whole s word.Local text whole _ s.has_fault refl refl read
     (keeps_as (before ++ line word.Local text ∷ []) whole s.open_exchange s.has_fault (grown (line word.Local text)) (with_local (line_number text))
@@ -268,10 +276,6 @@ one_more before whole s word.Skipped text read =
     unplanned before whole s word.Skipped text whole s.open_exchange s.has_fault refl refl read
     (nothing_more (before ++ line word.Skipped text ∷ []) whole s.open_exchange s.has_fault (grown (line word.Skipped text)) (λ e. rw (append-nil e.params, append-nil e.layers, append-nil e.marks) refl)
     (extend before whole s.open_exchange s.has_fault s.has_fault (line word.Skipped text) refl (quiet (line word.Skipped text) s.has_fault refl) read.exchange))
-one_more before whole s word.Unbuilt text read =
-    unplanned before whole s word.Unbuilt text whole s.open_exchange s.has_fault refl refl read
-    (nothing_more (before ++ line word.Unbuilt text ∷ []) whole s.open_exchange s.has_fault (grown (line word.Unbuilt text)) (λ e. rw (append-nil e.params, append-nil e.layers, append-nil e.marks) refl)
-    (extend before whole s.open_exchange s.has_fault s.has_fault (line word.Unbuilt text) refl (quiet (line word.Unbuilt text) s.has_fault refl) read.exchange))
 one_more before whole s word.Unknown text read =
     unplanned before whole s word.Unknown text whole s.open_exchange s.has_fault refl refl read
     (nothing_more (before ++ line word.Unknown text ∷ []) whole s.open_exchange s.has_fault (grown (line word.Unknown text)) (λ e. rw (append-nil e.params, append-nil e.layers, append-nil e.marks) refl)
@@ -317,10 +321,10 @@ one_header word.Layer text = refl
 one_header word.Piece text = refl
 one_header word.Stall text = refl
 one_header word.Fault text = refl
+one_header word.Peer text = refl
 one_header word.Local text = refl
 one_header word.Conn text = refl
 one_header word.Skipped text = refl
-one_header word.Unbuilt text = refl
 one_header word.Unknown text = refl
 
 headers_of_lines : (rest : List Line) → length (flat_map (λ l. line_headers l.word l.argument) rest) ≡ header_lines rest
@@ -343,12 +347,11 @@ tests : Bool → Bool → Bool → Bool → Line → Option Reason
 tests planned begun failed full l =
     cond (has word.Skipped l) None
     (cond (has word.Unknown l) (Some reason.UnknownLine)
-    (cond (has word.Unbuilt l) (Some reason.NotBuilt)
     (cond (not (has word.Plan l) && planned) (Some reason.LineAfterPlan)
     (cond (not (has word.Exchange l || has word.Plan l) && not begun) (Some reason.NoExchange)
     (cond (is_mark l && failed) (Some reason.MarkAfterFault)
     (cond (has word.Header l && full) (Some reason.TooManyHeaders)
-    None))))))
+    None)))))
 
 same_tests : (p b f m : Bool) (v : Word) (text : List ℕ) → word_fault p b f m v ≡ tests p b f m (line v text)
 unfolding tests
@@ -361,10 +364,10 @@ same_tests p b f m word.Layer text = refl
 same_tests p b f m word.Piece text = refl
 same_tests p b f m word.Stall text = refl
 same_tests p b f m word.Fault text = refl
+same_tests p b f m word.Peer text = refl
 same_tests p b f m word.Local text = refl
 same_tests p b f m word.Conn text = refl
 same_tests p b f m word.Skipped text = refl
-same_tests p b f m word.Unbuilt text = refl
 same_tests p b f m word.Unknown text = refl
 
 -- where no exchange is begun, it does not matter what one has
@@ -378,10 +381,10 @@ not_begun p f g m n word.Layer = refl
 not_begun p f g m n word.Piece = refl
 not_begun p f g m n word.Stall = refl
 not_begun p f g m n word.Fault = refl
+not_begun p f g m n word.Peer = refl
 not_begun p f g m n word.Local = refl
 not_begun p f g m n word.Conn = refl
 not_begun p f g m n word.Skipped = refl
-not_begun p f g m n word.Unbuilt = refl
 not_begun p f g m n word.Unknown = refl
 
 tests_kept : (before : List Line) (whole : List ScriptedExchangeView) (o : Option ScriptedExchangeView) (p f : Bool) (v : Word) → Keeps before whole o f

@@ -77,9 +77,9 @@ marks_le word.Exchange text = omega arith
 marks_le word.Header text = omega arith
 marks_le word.Param text = omega arith
 marks_le word.Layer text = omega arith
+marks_le word.Peer text = omega arith
 marks_le word.Local text = omega arith
 marks_le word.Conn text = omega arith
-marks_le word.Unbuilt text = omega arith
 marks_le word.Skipped text = omega arith
 marks_le word.Unknown text = omega arith
 

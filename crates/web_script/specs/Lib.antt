@@ -6,6 +6,7 @@ pub mod LineArguments
 pub mod LineFaults
 pub mod LineKinds
 pub mod Numbers
+pub mod Peers
 pub mod PlanEntries
 pub mod Reader
 pub mod ReasonTexts

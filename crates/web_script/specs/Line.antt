@@ -13,10 +13,6 @@ pub record Line : Type 0 where
 abbrev pub is_space : ℕ → Bool
 is_space b = b == 32
 
--- the words that are not built yet
-abbrev pub is_unbuilt : List ℕ → Bool
-is_unbuilt name = bytes_eq name (codes "peer")
-
 abbrev pub word_of : List ℕ → Word
 word_of name =
     if bytes_eq name (codes "text") then word.Text
@@ -24,13 +20,13 @@ word_of name =
     else if bytes_eq name (codes "exchange") then word.Exchange
     else if bytes_eq name (codes "header") then word.Header
     else if bytes_eq name (codes "param") then word.Param
+    else if bytes_eq name (codes "peer") then word.Peer
     else if bytes_eq name (codes "layer") then word.Layer
     else if bytes_eq name (codes "piece") then word.Piece
     else if bytes_eq name (codes "stall") then word.Stall
     else if bytes_eq name (codes "fault") then word.Fault
     else if bytes_eq name (codes "local") then word.Local
     else if bytes_eq name (codes "conn") then word.Conn
-    else if is_unbuilt name then word.Unbuilt
     else word.Unknown
 
 -- Empty lines and comments are skipped. Else the word is what precedes the first space, and the

@@ -1,14 +1,13 @@
 -- The arguments of `exchange`, `header` and `param` lines.
-use Rattle.std.specs.Prelude.{ℕ, ◌==◌, Bool, false, not, ◌&&◌, List, [], ◌∷◌, length, codes, Option}
+use Rattle.std.specs.Prelude.{ℕ, ◌==◌, Bool, not, ◌&&◌, List, [], length, Option}
 use Rattle.std.specs.Prelude.{None, Some, is_some, unwrap_or, nat_lt, nat_le, if◌then◌else◌}
 use Rattle.std.specs.List.{list_all, list_any, before_first, after_first}
-use Rattle.std.specs.Str.{bytes_eq, is_utf8}
+use Rattle.std.specs.Str.{is_utf8}
 use Rattle.http_header.specs.FieldValue.{FieldValue, plain_value}
 use Rattle.http_header.specs.Token.{is_token_byte, is_value_byte, lowercase}
 use Rattle.web_texts.specs.declared.text.Pair.{Pair}
 use Rattle.web_script.specs.Line.{is_space}
-use Rattle.web_script.specs.Segments.{first_segment}
-use Rattle.web_script.specs.Targets.{Target, target_of, target_path}
+use Rattle.web_script.specs.Targets.{Target, target_of}
 use Rattle.web_script.specs.declared.reason.Reason.{Reason}
 use Rattle.web_script.specs.declared.reason.Reason.TheVariants as reason
 
@@ -26,33 +25,16 @@ has_space text = list_any is_space text
 unfoldable pub is_method : List ℕ → Bool
 is_method text = nat_lt 0 (length text) && list_all is_token_byte text
 
--- the first segments that are not built yet
-abbrev pub unbuilt_segments : List (List ℕ)
-unbuilt_segments =
-    codes "who" ∷ codes "cookies" ∷ codes "lines" ∷ []
-
--- the segment is one of them
-abbrev pub is_unbuilt : List ℕ → Bool
-is_unbuilt segment = list_any (bytes_eq segment) unbuilt_segments
-
--- whether paths with the first segment of this target are built, where there is a target
-abbrev pub is_built : Option Target → Bool
-is_built None = false
-is_built (Some t) = not (is_unbuilt (first_segment (target_path t)))
-
 -- why TARGET is faulty
 abbrev pub target_fault : Option Target → Option Reason
-target_fault target =
-    if not (is_some target) then Some reason.BadExchange
-    else if not (is_built target) then Some reason.NotBuilt
-    else None
+target_fault target = if is_some target then None else Some reason.BadExchange
 
 -- METHOD, one space and TARGET, which has no space
 unfoldable pub is_request : List ℕ → Bool
 is_request text =
     has_space text && (not (has_space (after_space text)) && is_method (before_space text))
 
--- Why the argument of an `exchange` line is faulty: its form is tested before what is built.
+-- why the argument of an `exchange` line is faulty
 abbrev pub request_fault : List ℕ → Option Reason
 request_fault text =
     if is_request text then target_fault (target_of (after_space text))

@@ -10,6 +10,7 @@ use Rattle.web_script.specs.LineKinds.{has, is_mark}
 use Rattle.web_script.specs.LayerLines.{is_layer}
 use Rattle.web_script.specs.LineArguments.{is_header, is_param, request_fault}
 use Rattle.web_script.specs.Numbers.{number_of}
+use Rattle.web_script.specs.Peers.{peer_of}
 use Rattle.web_script.specs.PlanEntries.{entries_of}
 use Rattle.web_script.specs.declared.line.Word.{Word}
 use Rattle.web_script.specs.declared.line.Word.TheVariants as word
@@ -38,6 +39,7 @@ abbrev pub argument_fault : Word → List ℕ → Option Reason
 argument_fault word.Exchange text = request_fault text
 argument_fault word.Header text = unless (is_header text) reason.BadHeader
 argument_fault word.Param text = unless (is_param text) reason.BadParam
+argument_fault word.Peer text = unless (is_some (peer_of text)) reason.BadPeer
 argument_fault word.Layer text = unless (is_layer text) reason.BadLayer
 argument_fault word.Piece text = unless (is_ok (decode_of text)) reason.BadPiece
 argument_fault word.Stall text = unless (length text == 0) reason.BadMark
@@ -52,7 +54,6 @@ abbrev pub place_fault : List Line → Line → Option Reason
 place_fault before line =
     if has word.Skipped line then None
     else if has word.Unknown line then Some reason.UnknownLine
-    else if has word.Unbuilt line then Some reason.NotBuilt
     else if not (has word.Plan line) && has_line word.Plan before then Some reason.LineAfterPlan
     else if not (has word.Exchange line || has word.Plan line)
     && not (has_line word.Exchange before) then Some reason.NoExchange

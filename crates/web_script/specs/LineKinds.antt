@@ -10,6 +10,7 @@ same_word word.Plan word.Plan = true
 same_word word.Exchange word.Exchange = true
 same_word word.Header word.Header = true
 same_word word.Param word.Param = true
+same_word word.Peer word.Peer = true
 same_word word.Layer word.Layer = true
 same_word word.Piece word.Piece = true
 same_word word.Stall word.Stall = true
@@ -17,7 +18,6 @@ same_word word.Fault word.Fault = true
 same_word word.Local word.Local = true
 same_word word.Conn word.Conn = true
 same_word word.Skipped word.Skipped = true
-same_word word.Unbuilt word.Unbuilt = true
 same_word word.Unknown word.Unknown = true
 same_word _ _ = false
 

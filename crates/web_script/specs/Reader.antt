@@ -6,6 +6,7 @@ use Rattle.http_header.specs.FieldValue.{FieldValue}
 use Rattle.http_header.specs.HeaderMap.{append_all, value_count}
 use Rattle.web_texts.specs.declared.memory.Fail.{Fail}
 use Rattle.web_texts.specs.declared.text.Pair.{Pair}
+use Rattle.web_request.specs.declared.address.SocketAddr.{SocketAddr}
 use Rattle.web_request.specs.declared.source.Mark.{Mark}
 use Rattle.web_script.specs.Acceptance.{Accepts}
 use Rattle.web_script.specs.ExchangeSinks.{open_exchanges}
@@ -14,6 +15,7 @@ use Rattle.web_script.specs.ScriptedView.{ScriptedExchangeView}
 use Rattle.web_script.specs.Targets.{Target}
 use Rattle.web_script.specs.LineFaults.{argument_fault, max_headers}
 use Rattle.web_script.specs.Numbers.{line_number}
+use Rattle.web_script.specs.Peers.{line_peer}
 use Rattle.web_script.specs.ScriptExchanges.{line_headers, line_layers, line_marks, line_params}
 use Rattle.web_script.specs.ScriptExchanges.{exchange_of, line_entries}
 use Rattle.web_script.specs.declared.layer.LayerSettings.{LayerSettings}
@@ -43,7 +45,6 @@ header_count (Some e) = value_count e.headers
 abbrev pub word_fault : Bool → Bool → Bool → Bool → Word → Option Reason
 word_fault planned begun failed full word.Skipped = None
 word_fault planned begun failed full word.Unknown = Some reason.UnknownLine
-word_fault planned begun failed full word.Unbuilt = Some reason.NotBuilt
 word_fault planned begun failed full word.Plan = None
 word_fault planned begun failed full word.Exchange =
     if planned then Some reason.LineAfterPlan else None
@@ -53,6 +54,10 @@ word_fault planned begun failed full word.Header =
     else if full then Some reason.TooManyHeaders
     else None
 word_fault planned begun failed full word.Param =
+    if planned then Some reason.LineAfterPlan
+    else if not begun then Some reason.NoExchange
+    else None
+word_fault planned begun failed full word.Peer =
     if planned then Some reason.LineAfterPlan
     else if not begun then Some reason.NoExchange
     else None
@@ -92,6 +97,7 @@ bare_exchange method target = record {
   params = [];
   layers = [];
   marks = [];
+  peer = None;
   local = None;
   conn = None;
 }
@@ -112,6 +118,9 @@ with_layers more e = record e { layers = e.layers ++ more }
 abbrev pub with_marks : List Mark → ScriptedExchangeView → ScriptedExchangeView
 with_marks more e = record e { marks = e.marks ++ more }
 
+abbrev pub with_peer : SocketAddr → ScriptedExchangeView → ScriptedExchangeView
+with_peer address e = record e { peer = Some address }
+
 abbrev pub with_local : ℕ → ScriptedExchangeView → ScriptedExchangeView
 with_local n e = record e { local = Some n }
 
@@ -130,6 +139,7 @@ open_after s word.Text text = option_map (with_marks (line_marks word.Text text)
 open_after s word.Piece text = option_map (with_marks (line_marks word.Piece text)) s.open_exchange
 open_after s word.Stall text = option_map (with_marks (line_marks word.Stall text)) s.open_exchange
 open_after s word.Fault text = option_map (with_marks (line_marks word.Fault text)) s.open_exchange
+open_after s word.Peer text = option_map (with_peer (line_peer text)) s.open_exchange
 open_after s word.Local text = option_map (with_local (line_number text)) s.open_exchange
 open_after s word.Conn text = option_map (with_conn (line_number text)) s.open_exchange
 open_after s _ text = s.open_exchange
@@ -146,12 +156,12 @@ after_line s word.Piece text = record s { open_exchange = open_after s word.Piec
 after_line s word.Stall text = record s { open_exchange = open_after s word.Stall text }
 after_line s word.Fault text =
     record s { open_exchange = open_after s word.Fault text; has_fault = true }
+after_line s word.Peer text = record s { open_exchange = open_after s word.Peer text }
 after_line s word.Local text = record s { open_exchange = open_after s word.Local text }
 after_line s word.Conn text = record s { open_exchange = open_after s word.Conn text }
 after_line s word.Plan text =
     record s { has_plan = true; plan = s.plan ++ line_entries word.Plan text }
 after_line s word.Skipped text = s
-after_line s word.Unbuilt text = s
 after_line s word.Unknown text = s
 
 -- the exchange that a line of this word completes, which goes to the sink

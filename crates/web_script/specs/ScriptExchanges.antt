@@ -5,6 +5,7 @@ use Rattle.std.specs.Result.{result_unwrap_or}
 use Rattle.hex.specs.Hex.{decode_of}
 use Rattle.http_header.specs.FieldValue.{FieldValue}
 use Rattle.http_header.specs.HeaderMap.{append_all}
+use Rattle.web_request.specs.declared.address.SocketAddr.{SocketAddr}
 use Rattle.web_request.specs.declared.source.Mark.{Mark}
 use Rattle.web_request.specs.declared.source.Mark.TheVariants as mark
 use Rattle.web_request.specs.Body.{whole}
@@ -15,6 +16,7 @@ use Rattle.web_script.specs.LineKinds.{has}
 use Rattle.web_script.specs.LayerLines.{layer_of}
 use Rattle.web_script.specs.LineArguments.{before_space, request_target, header_of, param_of}
 use Rattle.web_script.specs.Numbers.{line_number}
+use Rattle.web_script.specs.Peers.{line_peer}
 use Rattle.web_script.specs.PlanEntries.{entries_of}
 use Rattle.web_script.specs.declared.layer.LayerSettings.{LayerSettings}
 use Rattle.web_script.specs.declared.line.Word.{Word}
@@ -43,6 +45,11 @@ abbrev pub line_params : Word → List ℕ → List Pair
 line_params word.Param text = param_of text ∷ []
 line_params _ text = []
 
+-- the address of a `peer` line
+abbrev pub line_peers : Word → List ℕ → List SocketAddr
+line_peers word.Peer text = line_peer text ∷ []
+line_peers _ text = []
+
 -- the number of a `local` line
 abbrev pub line_locals : Word → List ℕ → List ℕ
 line_locals word.Local text = line_number text ∷ []
@@ -62,6 +69,7 @@ exchange_of head lines = record {
   params = flat_map (λ line. line_params line.word line.argument) lines;
   layers = flat_map (λ line. line_layers line.word line.argument) lines;
   marks = flat_map (λ line. line_marks line.word line.argument) lines;
+  peer = last_or None (flat_map (λ line. line_peers line.word line.argument) lines);
   local = last_or None (flat_map (λ line. line_locals line.word line.argument) lines);
   conn = last_or None (flat_map (λ line. line_conns line.word line.argument) lines);
 }

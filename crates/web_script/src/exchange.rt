@@ -1,8 +1,8 @@
 //! An exchange of a script, and what an `exchange` line asks for.
-ghost use Rattle.std.specs.Prelude.{◌≡◌, Some, is_some};
+ghost use Rattle.std.specs.Prelude.{◌≡◌, Some};
 ghost use Rattle.web_script.specs.Acceptance.{Accepts};
-ghost use Rattle.web_script.specs.LineArguments.{has_space, is_built, is_method, is_unbuilt};
-ghost use Rattle.web_script.specs.LineArguments.{request_fault, target_fault};
+ghost use Rattle.web_script.specs.LineArguments.{has_space, is_method, request_fault};
+ghost use Rattle.web_script.specs.LineArguments.{target_fault};
 ghost use Rattle.web_script.specs.LineFaults.{unless};
 ghost use Rattle.web_script.specs.Reader.{bare_exchange, new_exchange};
 ghost use Rattle.web_script.specs.Targets.{parts_of, target_of};
@@ -10,7 +10,6 @@ ghost use Rattle.web_script.specs.declared.reason.Reason.TheVariants.{BadExchang
 
 use crate::layer::LayerSettings;
 use crate::reason::Reason;
-use crate::segment::first_segment;
 use bytes::Bytes;
 use http::Method;
 use http::method::MethodError;
@@ -18,8 +17,8 @@ use http_header::{HeaderMap, HeaderName, HeaderValue};
 use http_uri::{Uri, UriError};
 use std::alloc::Global;
 use std::marker::Model;
-use web_request::Mark;
-use web_texts::{Fail, NoMemory, Pair, bytes_equal, split_once_at};
+use web_request::{Mark, SocketAddr};
+use web_texts::{Fail, NoMemory, Pair, split_once_at};
 
 /// An exchange that a script asks for.
 #[derive(Drop)]
@@ -36,6 +35,8 @@ pub struct ScriptedExchange {
     pub layers: Vec<LayerSettings>,
     /// The marks of the body. In those of a script no piece is empty, and a fault is the last mark.
     pub marks: Vec<Mark>,
+    /// The address of the last `peer` line: where the request came from.
+    pub peer: Option<SocketAddr>,
     /// The number of the last `local` line: the data of the request.
     pub local: Option<u64>,
     /// The number of the last `conn` line: the data of the connection.
@@ -55,24 +56,10 @@ impl Model for ScriptedExchange {
       params = e.params.items;
       layers = e.layers.items;
       marks = e.marks.items;
+      peer = e.peer;
       local = e.local;
       conn = e.conn;
     } };
-}
-
-/// Whether paths with this first segment are not built yet.
-fn is_unbuilt(segment: &[u8]) -> bool
-    ensures { result ≡ is_unbuilt segment.now }
-{
-    bytes_equal(segment, b"who")
-        || bytes_equal(segment, b"cookies")
-        || bytes_equal(segment, b"lines")
-}
-
-fn is_built(uri: &Uri) -> bool
-    ensures { result ≡ is_built (Some (parts_of uri.now)) }
-{
-    !is_unbuilt(first_segment(uri.path()))
 }
 
 fn has_space(text: &[u8]) -> bool
@@ -95,7 +82,7 @@ fn read_method(alloc: Global, text: &[u8]) -> Result<Method, Fail<Reason>>
 
 /// The target that is written so, if the text has the form of one. It is not copied.
 fn read_target(text: Bytes) -> Result<Uri, Fail<Reason>>
-    ensures { Accepts result (unless (is_some (target_of text)) BadExchange)
+    ensures { Accepts result (target_fault (target_of text))
         (λ uri. target_of text ≡ Some (parts_of uri)) }
 {
     match Uri::from_shared(text) {
@@ -103,18 +90,6 @@ fn read_target(text: Bytes) -> Result<Uri, Fail<Reason>>
         Err(UriError::Invalid(_)) => Err(Fail::Of(Reason::BadExchange)),
         Err(UriError::OutOfMemory) => Err(Fail::NoMemory),
     }
-}
-
-/// The target that is written so, if paths with its first segment are built.
-fn read_built_target(text: Bytes) -> Result<Uri, Fail<Reason>>
-    ensures { Accepts result (target_fault (target_of text))
-        (λ uri. target_of text ≡ Some (parts_of uri)) }
-{
-    let uri = read_target(text)?;
-    if !is_built(&uri) {
-        return Err(Fail::Of(Reason::NotBuilt));
-    }
-    Ok(uri)
 }
 
 /// What an `exchange` line asks for.
@@ -140,7 +115,7 @@ pub fn read_request(alloc: Global, text: Bytes) -> Result<RequestLine, Fail<Reas
     let method = read_method(alloc, method)?;
     let mut target = text;
     target.advance(start);
-    let uri = read_built_target(target)?;
+    let uri = read_target(target)?;
     Ok(RequestLine { method, uri })
 }
 
@@ -161,6 +136,7 @@ impl ScriptedExchange {
             params: Vec::new(alloc),
             layers: Vec::new(alloc),
             marks: Vec::new(alloc),
+            peer: None,
             local: None,
             conn: None,
         }

@@ -10,6 +10,7 @@ mod line;
 mod number;
 mod param;
 mod part;
+mod peer;
 mod reader;
 mod reason;
 mod script;

@@ -1,7 +1,7 @@
 //! A line's word, and where its argument begins.
 ghost use Rattle.std.specs.Prelude.{◌≡◌, ◌≤◌, ◌-◌, ◌++◌, length, take, drop, codes, IfSome};
 ghost use Rattle.std.specs.Str.Lines.{strip_carriage_return};
-ghost use Rattle.web_script.specs.Line.{is_unbuilt, line_of, word_of};
+ghost use Rattle.web_script.specs.Line.{line_of, word_of};
 
 use web_texts::{bytes_equal, split_once_at};
 
@@ -13,6 +13,7 @@ pub enum Word {
     Exchange,
     Header,
     Param,
+    Peer,
     Layer,
     Piece,
     Stall,
@@ -21,15 +22,7 @@ pub enum Word {
     Conn,
     /// An empty line or a comment.
     Skipped,
-    /// A word that is not built yet.
-    Unbuilt,
     Unknown,
-}
-
-fn is_unbuilt(name: &[u8]) -> bool
-    ensures { result ≡ is_unbuilt name.now }
-{
-    bytes_equal(name, b"peer")
 }
 
 fn word_named(name: &[u8]) -> Word
@@ -45,6 +38,8 @@ fn word_named(name: &[u8]) -> Word
         Word::Header
     } else if bytes_equal(name, b"param") {
         Word::Param
+    } else if bytes_equal(name, b"peer") {
+        Word::Peer
     } else if bytes_equal(name, b"layer") {
         Word::Layer
     } else if bytes_equal(name, b"piece") {
@@ -57,8 +52,6 @@ fn word_named(name: &[u8]) -> Word
         Word::Local
     } else if bytes_equal(name, b"conn") {
         Word::Conn
-    } else if is_unbuilt(name) {
-        Word::Unbuilt
     } else {
         Word::Unknown
     }

@@ -8,7 +8,7 @@ ghost use Rattle.hex.specs.Hex.{decode_of};
 ghost use Rattle.web_script.specs.declared.line.Word.TheVariants.{Exchange, Header, Text};
 ghost use Rattle.web_script.specs.declared.reason.Reason.TheVariants.{BadHeader, BadParam};
 ghost use Rattle.web_script.specs.declared.reason.Reason.TheVariants.{BadLayer, BadNumber};
-ghost use Rattle.web_script.specs.declared.reason.Reason.TheVariants.{BadPiece};
+ghost use Rattle.web_script.specs.declared.reason.Reason.TheVariants.{BadPeer, BadPiece};
 
 use crate::entries::read_entries;
 use crate::exchange::{RequestLine, ScriptedExchange, read_request};
@@ -18,6 +18,7 @@ use crate::line::{Word, split_line, without_return};
 use crate::number::read_number;
 use crate::param::read_param;
 use crate::part::part_of;
+use crate::peer::read_peer;
 use crate::reason::Reason;
 use crate::sink::{ExchangeSink, add_open};
 use bytes::Bytes;
@@ -59,8 +60,8 @@ impl Reader {
     ghost use Rattle.web_script.specs.Acceptance.{Accepts};
     ghost use Rattle.web_script.specs.Reader.{new_reader, header_count, reader_fault, Reads};
     ghost use Rattle.web_script.specs.Reader.{completed_by, with_headers, with_layers, with_marks};
-    ghost use Rattle.web_script.specs.Reader.{with_conn, with_local, with_params, new_exchange};
-    ghost use Rattle.web_script.specs.Reader.{after_line};
+    ghost use Rattle.web_script.specs.Reader.{with_conn, with_local, with_params, with_peer};
+    ghost use Rattle.web_script.specs.Reader.{after_line, new_exchange};
     ghost use Rattle.web_script.specs.ExchangeSinks.{Adds, open_exchanges};
     ghost use Rattle.web_script.specs.LayerLines.{is_layer, layer_of};
     ghost use Rattle.web_script.specs.LineFaults.{argument_fault, max_headers, unless};
@@ -68,6 +69,7 @@ impl Reader {
     ghost use Rattle.web_script.specs.LineArguments.{header_of, is_header, is_param, param_of};
     ghost use Rattle.web_script.specs.LineArguments.{request_fault};
     ghost use Rattle.web_script.specs.Numbers.{line_number, number_of};
+    ghost use Rattle.web_script.specs.Peers.{line_peer, peer_of};
     ghost use Rattle.web_request.specs.Body.{is_body, piece_bytes, whole};
 
     pub fn new(alloc: Global) -> Self
@@ -109,7 +111,6 @@ impl Reader {
         match word {
             Word::Skipped | Word::Plan => None,
             Word::Unknown => Some(Reason::UnknownLine),
-            Word::Unbuilt => Some(Reason::NotBuilt),
             _ if self.has_plan => Some(Reason::LineAfterPlan),
             Word::Exchange => None,
             _ if self.open_exchange.is_none() => Some(Reason::NoExchange),
@@ -204,6 +205,21 @@ impl Reader {
         Ok(())
     }
 
+    fn set_peer(&mut self, text: &[u8]) -> Result<(), Fail<Reason>>
+        ensures { Accepts result (unless (is_some (peer_of text.now)) BadPeer)
+            (λ _. self.new ≡ record self.old {
+              open_exchange = option_map
+                  (with_peer (line_peer text.now))
+                  self.old.open_exchange;
+            }) }
+    {
+        let peer = read_peer(text)?;
+        if let Some(exchange) = &mut self.open_exchange {
+            exchange.peer = Some(peer);
+        }
+        Ok(())
+    }
+
     fn set_local(&mut self, text: &[u8]) -> Result<(), Fail<Reason>>
         ensures { Accepts result (unless (is_some (number_of text.now)) BadNumber)
             (λ _. self.new ≡ record self.old {
@@ -270,6 +286,7 @@ impl Reader {
         match word {
             Word::Param => return self.add_param(alloc, argument),
             Word::Layer => return self.add_layer(alloc, argument),
+            Word::Peer => return self.set_peer(argument),
             Word::Local => return self.set_local(argument),
             Word::Conn => return self.set_conn(argument),
             Word::Piece => return self.add_digits(alloc, argument),
@@ -288,7 +305,7 @@ impl Reader {
                 self.has_plan = true;
             }
             Word::Text | Word::Exchange | Word::Header => {}
-            Word::Skipped | Word::Unbuilt | Word::Unknown => {}
+            Word::Skipped | Word::Unknown => {}
         }
         Ok(())
     }

@@ -24,14 +24,14 @@ pub enum Reason {
     BadLayer,
     /// The argument of a `piece` line is not an even number of hexadecimal digits.
     BadPiece,
+    /// The argument of a `peer` line is not an address of IPv4 with a port.
+    BadPeer,
     /// The argument of a `local` or `conn` line is not a number up to 2^64 - 1.
     BadNumber,
     /// The argument of a `stall` or `fault` line is not empty.
     BadMark,
     /// The argument of a `plan` line is not a list of numbers up to 4,294,967,295.
     BadPlan,
-    /// The word or the first segment of the target is not built yet.
-    NotBuilt,
 }
 
 impl fmt::Display for Reason {
@@ -52,10 +52,10 @@ impl fmt::Display for Reason {
             Reason::BadParam => "bad param",
             Reason::BadLayer => "bad layer",
             Reason::BadPiece => "bad piece",
+            Reason::BadPeer => "bad peer",
             Reason::BadNumber => "bad number",
             Reason::BadMark => "bad mark",
             Reason::BadPlan => "bad plan",
-            Reason::NotBuilt => "not built",
         })
     }
 }

@@ -2,10 +2,11 @@ use Rattle.std.proofs.Common.{◌≡◌}
 use Rattle.web_demo.specs.DemoFunctions.{picked_arguments}
 use Rattle.web_demo.specs.PickedArguments.{MeansPicked}
 use Rattle.web_demo.proofs.PickedArgumentsLemmas.{picked_meets}
-use Rattle.web_cli.specs.DemoScripts.{AppendsPickedCalls, ArePickedReplies}
+use Rattle.web_cli.specs.DemoScripts.{AppendsPickedCalls, ArePickedReplies, IsPickedSummary}
+use Rattle.web_cli.specs.LoadTexts.{IsSummary, load_script}
 use Rattle.web_cli.specs.ScriptAnswers.{AppendsScriptCalls, AreReplies}
 use Rattle.web_cli.proofs.DemoSettingLemmas.{demo_setting}
-use Rattle.web_cli.proofs.RunLemmas.{headline_as, result_as}
+use Rattle.web_cli.proofs.RunLemmas.{alone_as, headline_as, result_as}
 use Rattle.web_cli.proofs.serving.run.Goals as goal
 
 pub returns-clause-serves : goal.returns-clause-serves
@@ -47,3 +48,22 @@ returns-clause-headline g c = λ words.
     c.run_over.result (g.I.Input.state c.args.input.now) (g.I.Input.state c.run_over.new.input)
     (g.O.Output.state c.args.output.now) (g.O.Output.state c.run_over.new.output)
     (c.run_over.ensures.headline words)
+
+pub returns-clause-replays : goal.returns-clause-replays
+returns-clause-replays g c = λ load words.
+    let s = demo_setting {U = Unit {0}} {W = Unit {0}} (record {
+      means = λ q m rest n x. MeansPicked q m rest n x;
+      converts = λ e f. f ≡ e;
+      answers = g.H.Handler.answers c.args.handler.now;
+      responds = g.H.Output.Responder.responds;
+    }) (λ u n x. ⊥) (λ u n x. ⊥) in
+    let old = g.H.Handler.calls c.args.handler.now in
+    let new = g.H.Handler.calls c.run_over.new.handler in
+    alone_as (IsSummary s (load_script load))
+    (IsPickedSummary (g.H.Handler.answers c.args.handler.now) g.H.Output.Responder.responds (load_script load))
+    (AppendsScriptCalls s old new (load_script load)) (AppendsPickedCalls old new (load_script load))
+    (λ text summary handler meets. summary picked_arguments handler picked_meets meets)
+    (λ calls. calls picked_arguments picked_meets)
+    c.run_over.result (g.I.Input.state c.args.input.now) (g.I.Input.state c.run_over.new.input)
+    (g.O.Output.state c.args.output.now) (g.O.Output.state c.run_over.new.output)
+    (c.run_over.ensures.replays load words)

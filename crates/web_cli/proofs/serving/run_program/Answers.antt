@@ -2,8 +2,10 @@ use Rattle.std.proofs.Common.{◌≡◌}
 use Rattle.std.specs.Prelude.{None, ⊤}
 use Rattle.web_demo.specs.DemoFunctions.{demo_handler}
 use Rattle.web_demo.specs.DemoReplies.{HandlerAnswers}
-use Rattle.web_cli.specs.DemoScripts.{AppendsPickedCalls, ArePickedReplies, IsDemoText}
-use Rattle.web_cli.proofs.RunLemmas.{OutputResponds, demo_meets, headline_as, result_as}
+use Rattle.web_cli.specs.DemoScripts.{AppendsPickedCalls, ArePickedReplies, IsDemoSummary, IsDemoText}
+use Rattle.web_cli.specs.DemoScripts.{IsPickedSummary}
+use Rattle.web_cli.specs.LoadTexts.{load_script}
+use Rattle.web_cli.proofs.RunLemmas.{OutputResponds, alone_as, demo_meets, headline_as, result_as}
 use Rattle.web_cli.proofs.serving.run_program.Goals as goal
 
 pub returns-clause-serves : goal.returns-clause-serves
@@ -24,3 +26,12 @@ returns-clause-headline g c = λ words.
     c.run.result (g.I.Input.state c.args.input.now) (g.I.Input.state c.run.new.input)
     (g.O.Output.state c.args.output.now) (g.O.Output.state c.run.new.output)
     (c.run.ensures.headline words)
+
+pub returns-clause-replays : goal.returns-clause-replays
+returns-clause-replays g c = λ load words.
+    alone_as (IsPickedSummary (λ p n y. HandlerAnswers p n y) (λ y q r. OutputResponds y q r) (load_script load))
+    (IsDemoSummary (load_script load)) (AppendsPickedCalls None None (load_script load)) ⊤
+    (λ text summary. summary demo_handler demo_meets) (λ calls. tt)
+    c.run.result (g.I.Input.state c.args.input.now) (g.I.Input.state c.run.new.input)
+    (g.O.Output.state c.args.output.now) (g.O.Output.state c.run.new.output)
+    (c.run.ensures.replays load words)

@@ -45,3 +45,10 @@ returns-in_ok-immediate_future-in-Immediate-clause-extracts c =
     extracts_choice c.args.req.now.request (choice.Immediate c.in-Immediate.choice) _ _ _
     (rw (← c.path.ensures, ← c.choice_of.ensures) c.in-Immediate.is)
     c.in_ok-immediate_future-in-Immediate.ensures.extracts
+
+pub returns-in_ok-service_future-in-Service-clause-extracts :
+    goal.returns-in_ok-service_future-in-Service-clause-extracts
+returns-in_ok-service_future-in-Service-clause-extracts c =
+    extracts_choice c.args.req.now.request (choice.Service c.in-Service.choice) _ _ _
+    (rw (← c.path.ensures, ← c.choice_of.ensures) c.in-Service.is)
+    c.in_ok-service_future-in-Service.ensures.extracts

@@ -1,8 +1,15 @@
 use Rattle.std.proofs.Common.{rules, subst, arith, ◌≡◌, true, length, nat_lt, ◌<◌}
 use Rattle.std.specs.Prelude.{IsOk, ◌&&◌}
 use Rattle.std.specs.Vec.{vec_len, vec_capacity}
-use Rattle.web_request.proofs.PoolLemmas.{keeps_given, room_left}
+use Rattle.web_request.proofs.PoolLemmas.{keeps_given, place_left, room_left}
 use Rattle.web_request.proofs.pool.HttpRequestPool.give_back.Goals as goal
+
+pub unreachable-requires : goal.unreachable-requires
+unreachable-requires g c =
+    let a : (c.self.inside.enabled && nat_lt (length c.self.inside.numbers.items) c.self.inside.capacity) ≡ true = search rules in
+    let left = place_left c.self.invariant.0 a in
+    let lt : vec_len c.self.inside.numbers < vec_capacity c.self.inside.numbers = omega (arith, c.self.inside.numbers.ok.0) in
+    let no = subst IsOk c.in-Err.is (c.push.ensures.succeeds lt) in grind arith
 
 pub unreachable-requires-in-Err-push : goal.unreachable-requires-in-Err-push
 unreachable-requires-in-Err-push g c =

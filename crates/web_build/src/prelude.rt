@@ -1,0 +1,4 @@
+//! The traits whose calls an application makes on types of other crates.
+
+pub use crate::builder::Build;
+pub use crate::customize_responder::Customize;

@@ -1,0 +1,43 @@
+-- What `generate` and `replay` write of a load.
+use Rattle.std.specs.Prelude.{◌≡◌, ℕ, List, length}
+use Rattle.web_generator.specs.ScriptTexts.{script_text}
+use Rattle.web_generator.specs.declared.load.Load.{Load}
+use Rattle.web_request.specs.Feed.{Feed}
+use Rattle.web_worker.specs.PlanOutcomes.{named_count}
+use Rattle.web_worker.specs.Setting.{Setting}
+use Rattle.web_script.specs.Script.{ScriptView, script_lines, script_view}
+use Rattle.web_print.specs.SummaryText.{summary}
+use Rattle.web_demo_layers.specs.declared.layer.DemoLayer.{DemoLayer}
+use Rattle.web_demo_layers.specs.declared.app.DemoLocal.{DemoLocal}
+use Rattle.web_demo_layers.specs.declared.app.DemoConn.{DemoConn}
+use Rattle.web_demo.specs.ServiceFunctions.{ArgumentFunctions, ArgumentsMeet}
+use Rattle.web_demo.specs.ServiceFunctions.{HandlerFunctions, HandlerMeets}
+use Rattle.web_cli.specs.ScriptAnswers.{script_outcomes}
+
+-- the script of a load
+abbrev pub load_script : Load → List ℕ
+load_script load = script_text load.seed load.count
+
+module _ {V : Type 0} (a : ArgumentFunctions V) (h : HandlerFunctions V) where
+  -- the summary of what a script of this many bytes asks for; one record was made for each exchange
+  -- that the plan names
+  unfoldable pub summary_of : ℕ → ScriptView → List ℕ
+  summary_of script_len s =
+      summary script_len (script_outcomes a h s) (named_count s.plan s.exchanges)
+
+-- the summary of a script
+abbrev pub summary_text :
+    {V : Type 0} → ArgumentFunctions V → HandlerFunctions V → List ℕ → List ℕ
+summary_text a h bytes = summary_of a h (length bytes) (script_view (script_lines bytes))
+
+-- U and W: the futures of the arguments and of the handler
+module _ {V E Y U W : Type 0} (s : Setting Feed DemoLayer DemoLocal DemoConn V E Y U W) where
+  -- for all functions that the arguments and the handler meet, this is the summary
+  abbrev pub IsSummaryOf : ℕ → ScriptView → List ℕ → Type 0
+  IsSummaryOf script_len script text =
+      (a : ArgumentFunctions V) (h : HandlerFunctions V)
+      → ArgumentsMeet s.rules.means s.rules.converts a
+      → HandlerMeets s.rules.answers s.rules.responds h → text ≡ summary_of a h script_len script
+
+  abbrev pub IsSummary : List ℕ → List ℕ → Type 0
+  IsSummary bytes text = IsSummaryOf (length bytes) (script_view (script_lines bytes)) text

@@ -1,0 +1,4 @@
+pub mod SortedNames
+pub mod VersionNames
+pub mod HeaderDescriptions
+pub mod LogEntries

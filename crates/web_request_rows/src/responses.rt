@@ -1,0 +1,76 @@
+//! Responses with the requests that they respond to.
+use crate::compare::assert_same;
+use crate::requests::{Site, request_of};
+use bytes::Bytes;
+use http::StatusCode;
+use http_header::{HOST, HeaderValue};
+use std::alloc::Global;
+use std::process::Abort;
+use web_body::PayloadError;
+use web_reply::{BoxBody, EitherBody, Error, HttpResponse, ResponseHead, WholeBody};
+use web_request::HttpRequest;
+use web_service::ServiceResponse;
+
+/// A response with the body `ab` to a request for `/a`.
+fn answered(rt: &impl Abort, alloc: Global) -> ServiceResponse<Site, Bytes> {
+    let body = Bytes::from_static(b"ab");
+    let response = HttpResponse::with_body(alloc, StatusCode::OK, body);
+    ServiceResponse::new(request_of(rt, alloc, "/a", &[]), response)
+}
+
+#[test]
+fn the_parts_of_a_response_are_read_and_changed(rt: HostRuntime) {
+    let alloc = rt.alloc();
+    let mut answered = answered(&rt, alloc);
+    *answered.response_mut().status_mut() = StatusCode::CREATED;
+    assert_same(&rt, answered.status().as_u16(), 201);
+    let headers = answered.headers_mut();
+    headers
+        .insert(HOST, HeaderValue::from_static("h"))
+        .expect(&rt, "room");
+    assert_same(&rt, answered.headers().len(), 1);
+    assert_same(&rt, answered.response().body().len(), 2);
+    assert_same(&rt, answered.request().path(), "/a");
+    let (request, response) = answered.into_parts();
+    assert_same(&rt, request.path(), "/a");
+    assert_same(&rt, response.status().as_u16(), 201);
+}
+
+#[test]
+fn another_response_takes_the_place(rt: HostRuntime) {
+    let alloc = rt.alloc();
+    let other = HttpResponse::new(alloc, StatusCode::NO_CONTENT);
+    let response = answered(&rt, alloc).into_response(other);
+    assert_same(&rt, response.status().as_u16(), 204);
+    let error = Error::from(PayloadError::Overflow);
+    let response = answered(&rt, alloc)
+        .error_response(alloc, error)
+        .expect(&rt, "memory");
+    assert_same(&rt, response.status().as_u16(), 413);
+    let error = Error::from(PayloadError::Io);
+    let request: HttpRequest<Site> = request_of(&rt, alloc, "/a", &[]);
+    let response = ServiceResponse::from_err(alloc, error, request).expect(&rt, "memory");
+    assert_same(&rt, response.status().as_u16(), 400);
+    assert_same(&rt, response.request().path(), "/a");
+}
+
+#[test]
+fn bodies_are_mapped(rt: HostRuntime) {
+    let alloc = rt.alloc();
+    let mapped = answered(&rt, alloc).map_body(|head: &mut ResponseHead, body: Bytes| -> usize {
+        head.status = StatusCode::CREATED;
+        body.len()
+    });
+    assert_same(&rt, mapped.status().as_u16(), 201);
+    assert_same(&rt, mapped.into_body(), 2);
+    let left = answered(&rt, alloc).map_into_left_body::<WholeBody>();
+    assert_same(&rt, matches!(left.into_body(), EitherBody::Left(_)), true);
+    let right = answered(&rt, alloc).map_into_right_body::<WholeBody>();
+    assert_same(&rt, matches!(right.into_body(), EitherBody::Right(_)), true);
+    let boxed = answered(&rt, alloc)
+        .map_into_boxed_body(alloc)
+        .expect(&rt, "memory");
+    assert_same(&rt, matches!(boxed.into_body(), BoxBody::Bytes(_)), true);
+    let response = HttpResponse::from(answered(&rt, alloc));
+    assert_same(&rt, response.body().len(), 2);
+}

@@ -1,0 +1,147 @@
+//! Requests with their payloads.
+use crate::compare::assert_same;
+use crate::requests::{Site, payload_of, request_of};
+use bytes::Bytes;
+use http::{Method, StatusCode};
+use http_header::{HOST, HeaderValue};
+use std::alloc::Global;
+use std::process::Abort;
+use std::rc::Rc;
+use web_body::{Marks, Payload, PayloadError, Poll, Step, TakePayload};
+use web_reply::{Error, HttpResponse};
+use web_request::cookies::Cookie;
+use web_request::{HttpMessage, HttpRequest, NoData};
+use web_service::ServiceRequest;
+
+/// A request for `/a?b=c` with the body `hello`.
+fn service(rt: &impl Abort, alloc: Global) -> ServiceRequest<Site> {
+    let fields = [("host", b"h".as_slice()), ("cookie", b"a=%31")];
+    let request = request_of(rt, alloc, "/a?b=c", &fields);
+    ServiceRequest::from_parts(request, payload_of(rt, alloc, b"hello"))
+}
+
+/// Whether a payload is a stream.
+fn is_stream(payload: &Payload<Marks>) -> bool {
+    match payload {
+        Payload::Stream(_) => true,
+        _ => false,
+    }
+}
+
+#[test]
+fn the_parts_of_a_request_are_read(rt: HostRuntime) {
+    let alloc = rt.alloc();
+    let service = service(&rt, alloc);
+    assert_same(&rt, service.head().method.as_str(), "GET");
+    assert_same(&rt, service.method().as_str(), "GET");
+    assert_same(&rt, service.uri().path(), "/a");
+    assert_same(&rt, service.version() == service.request().version(), true);
+    assert_same(&rt, (service.path(), service.query_string()), ("/a", "b=c"));
+    assert_same(&rt, service.headers().len(), 2);
+    assert_same(&rt, HttpMessage::headers(&service).len(), 2);
+    assert_same(&rt, service.peer_addr().is_none(), true);
+    assert_same(&rt, service.match_info().len(), 0);
+    assert_same(&rt, service.app_config().host.as_str(), "localhost:8080");
+    assert_same(&rt, service.extensions().is_none(), true);
+    let (request, payload) = service.parts();
+    assert_same(&rt, (request.path(), is_stream(payload)), ("/a", true));
+    let (request, payload) = service.into_parts();
+    assert_same(&rt, (request.path(), is_stream(&payload)), ("/a", true));
+}
+
+/// Compares the name and the value of the first cookie.
+fn assert_first(rt: &impl Abort, cookies: &[Cookie], expected: (&str, &str)) {
+    match cookies.first() {
+        Some(cookie) => assert_same(rt, (cookie.name(), cookie.value()), expected),
+        None => assert_same(rt, ("no", "cookie"), expected),
+    }
+}
+
+#[test]
+fn what_is_computed_of_a_request_is_read(rt: HostRuntime) {
+    let alloc = rt.alloc();
+    let mut service = service(&rt, alloc);
+    let info = service.connection_info(alloc).expect(&rt, "memory");
+    assert_same(&rt, info.host(), "h");
+    assert_first(
+        &rt,
+        service.cookies(alloc).expect(&rt, "cookies"),
+        ("a", "1"),
+    );
+    assert_first(
+        &rt,
+        service.cookies_raw(alloc).expect(&rt, "cookies"),
+        ("a", "%31"),
+    );
+    let found = service.cookie(alloc, "a").expect(&rt, "memory");
+    assert_same(&rt, found.is_some(), true);
+    let found = service.cookie_raw(alloc, "b").expect(&rt, "memory");
+    assert_same(&rt, found.is_none(), true);
+}
+
+#[test]
+fn the_parts_of_a_request_are_changed(rt: HostRuntime) {
+    let alloc = rt.alloc();
+    let mut service = service(&rt, alloc);
+    let value = HeaderValue::from_static("i");
+    let headers = service.headers_mut().expect(&rt, "memory");
+    headers.insert(HOST, value).expect(&rt, "room");
+    let info = service.connection_info(alloc).expect(&rt, "memory");
+    assert_same(&rt, info.host(), "i");
+    *service.extensions_mut() = Some(NoData);
+    assert_same(&rt, service.extensions().is_some(), true);
+    let layer = Rc::new(alloc, NoData).expect(&rt, "memory");
+    assert_same(&rt, service.add_data_container(layer).is_ok(), true);
+    service.set_payload(Payload::None);
+    assert_same(&rt, is_stream(service.parts().1), false);
+    let (_, payload) = service.parts_mut();
+    *payload = payload_of(&rt, alloc, b"ab");
+    assert_same(&rt, is_stream(service.parts().1), true);
+    assert_same(&rt, is_stream(&service.take_payload()), true);
+    assert_same(&rt, is_stream(service.parts().1), false);
+}
+
+#[test]
+fn a_changed_head_is_not_that_of_a_duplicate(rt: HostRuntime) {
+    let alloc = rt.alloc();
+    let request: HttpRequest<Site> = request_of(&rt, alloc, "/", &[]);
+    let copy = request.duplicate(alloc).expect(&rt, "memory");
+    let mut service = ServiceRequest::from_request(request);
+    service.head_mut().expect(&rt, "memory").method = Method::PUT;
+    assert_same(&rt, service.method().as_str(), "PUT");
+    assert_same(&rt, copy.method().as_str(), "GET");
+}
+
+/// The bytes that a request gives at the first poll.
+fn bytes_of(rt: &impl Abort, alloc: Global, service: &mut ServiceRequest<Site>) -> Bytes {
+    let mut future = service.extract::<Bytes>(alloc).expect(rt, "memory");
+    match future.poll(alloc) {
+        Step::Ready(Ok(bytes)) => bytes,
+        _ => panic!(rt; "no bytes at the first poll"),
+    }
+}
+
+#[test]
+fn an_argument_takes_the_payload(rt: HostRuntime) {
+    let alloc = rt.alloc();
+    let mut service = service(&rt, alloc);
+    let whole = bytes_of(&rt, alloc, &mut service);
+    assert_same(&rt, whole.as_slice(), b"hello".as_slice());
+    let empty = bytes_of(&rt, alloc, &mut service);
+    assert_same(&rt, empty.len(), 0);
+}
+
+#[test]
+fn a_request_becomes_its_response(rt: HostRuntime) {
+    let alloc = rt.alloc();
+    let response = HttpResponse::new(alloc, StatusCode::CREATED);
+    let answered = service(&rt, alloc).into_response(response);
+    assert_same(&rt, answered.request().path(), "/a");
+    assert_same(&rt, answered.status().as_u16(), 201);
+    let error = Error::from(PayloadError::Overflow);
+    let answered = service(&rt, alloc)
+        .error_response(alloc, error)
+        .expect(&rt, "memory");
+    assert_same(&rt, answered.request().path(), "/a");
+    assert_same(&rt, answered.status().as_u16(), 413);
+}

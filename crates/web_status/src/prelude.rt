@@ -1,0 +1,3 @@
+//! The trait whose calls an application makes on `HttpResponse`.
+
+pub use crate::http_codes::StatusNames;
