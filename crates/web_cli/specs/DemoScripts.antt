@@ -3,7 +3,7 @@ use Rattle.std.specs.Prelude.{◌≡◌, ◌++◌, ℕ, List, Option}
 use Rattle.std.specs.Option.{option_map}
 use Rattle.web_reply.specs.ResponseBodies.{Plain}
 use Rattle.web_reply.specs.Replies.{Reply}
-use Rattle.web_demo.specs.declared.picked.Picked.{Picked}
+use Rattle.web_demo_picked.specs.declared.picked.Picked.{Picked}
 use Rattle.web_demo_flights.specs.DemoExchanges.{DemoRequest}
 use Rattle.web_demo.specs.DemoFunctions.{demo_handler, picked_arguments}
 use Rattle.web_demo.specs.ServiceFunctions.{HandlerFunctions, HandlerMeets}

@@ -1,7 +1,3 @@
-pub mod BoxedFuturesLemmas
-pub mod GatheredLinesLemmas
-pub mod ItemArgumentsLemmas
+pub mod DemoFunctionsLemmas
 pub mod NewlineLemmas
-pub mod PickedArgumentsLemmas
 pub mod RepliesLemmas
-pub mod SeenArgumentsLemmas

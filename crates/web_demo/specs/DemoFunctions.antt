@@ -1,7 +1,7 @@
 -- The functions that the program's own arguments and handler meet.
-use Rattle.web_demo.specs.declared.picked.Picked.{Picked}
+use Rattle.web_demo_picked.specs.declared.picked.Picked.{Picked}
 use Rattle.web_demo.specs.DemoReplies.{demo_reply, wait_of}
-use Rattle.web_demo.specs.PickedArguments.{picked_delay, picked_result}
+use Rattle.web_demo_picked.specs.PickedArguments.{picked_delay, picked_result}
 use Rattle.web_demo.specs.ServiceFunctions.{ArgumentFunctions, HandlerFunctions}
 
 -- the arguments that the first segment of a path asks for

@@ -22,8 +22,8 @@ use Rattle.web_demo.specs.DemoTexts.{accept_text, data_text, either_text, option
 use Rattle.web_demo.specs.DemoTexts.{lines_text, printed_cookies, result_text, who_text}
 use Rattle.web_demo.specs.declared.answer.Answer.{Answer}
 use Rattle.web_demo.specs.declared.answer.Answer.TheVariants as answer
-use Rattle.web_demo.specs.declared.picked.Picked.{Picked}
-use Rattle.web_demo.specs.declared.picked.Picked.TheVariants as picked
+use Rattle.web_demo_picked.specs.declared.picked.Picked.{Picked}
+use Rattle.web_demo_picked.specs.declared.picked.Picked.TheVariants as picked
 
 -- the text that is printed of these arguments, where one is
 abbrev pub printed_text : Picked → Option (List ℕ)

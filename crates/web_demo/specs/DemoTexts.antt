@@ -23,7 +23,7 @@ use Rattle.web_types.specs.declared.form_value.Form.{Form}
 use Rattle.web_demo_layers.specs.Items.{item_text}
 use Rattle.web_demo_layers.specs.declared.app.DemoConn.{DemoConn}
 use Rattle.web_demo_layers.specs.declared.item.Item.{Item}
-use Rattle.web_demo.specs.DemoArguments.{DataView}
+use Rattle.web_demo_arguments.specs.DemoArguments.{DataView}
 
 abbrev pub space : List ℕ
 space = codes " "

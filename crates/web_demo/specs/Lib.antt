@@ -1,15 +1,4 @@
-pub mod ArgumentMeanings
-pub mod BodyArguments
-pub mod BoxedFutures
-pub mod Choices
-pub mod DelayedValue
-pub mod DemoArguments
 pub mod DemoFunctions
 pub mod DemoReplies
 pub mod DemoTexts
-pub mod ItemArguments
-pub mod LateAndWait
-pub mod LinesArgument
-pub mod PickedArguments
-pub mod ServiceArguments
 pub mod ServiceFunctions

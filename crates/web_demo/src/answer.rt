@@ -9,13 +9,13 @@ ghost use Rattle.web_demo.specs.DemoReplies.{cookie_error, cookies_refusal, cook
 ghost use Rattle.web_demo.specs.DemoReplies.{form_reply, json_reply, output_reply, raw_reply};
 ghost use Rattle.web_demo.specs.DemoTexts.{printed_cookies};
 
-use crate::demo_arguments::{CookieArguments, RawBody};
 use crate::texts::cookies_text;
 use bytes::Bytes;
 use http::StatusCode;
 use http_header::{CONTENT_TYPE, HeaderMap, HeaderValue};
 use std::alloc::Global;
 use web_body::Marks;
+use web_demo_arguments::{CookieArguments, RawBody};
 use web_demo_layers::{Demo, Item};
 use web_reply::{BoxBody, Cause, Done, Error, HttpResponse, Responder};
 use web_request::cookies::CookieParseError;

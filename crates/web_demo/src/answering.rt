@@ -2,10 +2,10 @@
 ghost use Rattle.std.specs.Prelude.{◌≡◌, Some};
 
 use crate::answer::DemoOutput;
-use crate::delayed::Delayed;
 use std::alloc::Global;
 use std::marker::Model;
 use web_body::{Poll, Step};
+use web_demo_arguments::Delayed;
 
 /// The output of the handler, after as many polls as it waits.
 #[derive(Drop)]
@@ -14,7 +14,7 @@ pub struct Answering {
 }
 
 impl Model for Answering {
-    ghost use Rattle.web_demo.specs.DelayedValue.{DelayedView};
+    ghost use Rattle.web_demo_arguments.specs.DelayedValue.{DelayedView};
     ghost use Rattle.web_demo.specs.DemoReplies.{Output};
 
     ghost Value = { DelayedView Output };
@@ -37,7 +37,7 @@ impl Answering {
 impl Poll for Answering {
     ghost use Rattle.std.specs.Prelude.{◌≡◌, false, is_none};
     ghost use Rattle.web_body.specs.PollSteps.{Ends, IfReady, Shifts};
-    ghost use Rattle.web_demo.specs.DelayedValue.{CountsDown, GivesDelayed, delayed_some};
+    ghost use Rattle.web_demo_arguments.specs.DelayedValue.{CountsDown, GivesDelayed, delayed_some};
 
     type Output = DemoOutput;
 

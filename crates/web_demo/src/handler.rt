@@ -5,11 +5,11 @@ ghost use Rattle.web_demo.specs.DemoReplies.{printed_text, unprinted_reply, wait
 
 use crate::answer::{Answer, DemoOutput, cookies_output, raw_response};
 use crate::answering::Answering;
-use crate::picked::Picked;
 use crate::texts::{
     accept_text, data_text, either_text, item_text, lines_text, option_text, result_text, who_text,
 };
 use std::alloc::Global;
+use web_demo_picked::Picked;
 use web_request::NoMemory;
 use web_texts::Text;
 use web_types::Either;
@@ -92,7 +92,7 @@ fn output_of(alloc: Global, picked: Picked) -> Result<DemoOutput, NoMemory>
 impl Handler<Picked> for DemoHandler {
     ghost use Rattle.std.specs.Prelude.{IfOk, None, false, is_none};
     ghost use Rattle.web_worker.specs.HandlerPromises.{Within};
-    ghost use Rattle.web_demo.specs.DelayedValue.{GivesDelayed};
+    ghost use Rattle.web_demo_arguments.specs.DelayedValue.{GivesDelayed};
     ghost use Rattle.web_demo.specs.DemoReplies.{HandlerAnswers};
 
     type Output = DemoOutput;

@@ -4,8 +4,8 @@ ghost use Rattle.web_demo.specs.ServiceFunctions.{ArgumentsMeet, HandlerMeets};
 
 use crate::answer::DemoOutput;
 use crate::handler::DemoHandler;
-use crate::picked::Picked;
 use web_demo_layers::Demo;
+use web_demo_picked::Picked;
 use web_extract::FromRequest;
 use web_reply::{Error, Responder};
 use web_worker::Handler;

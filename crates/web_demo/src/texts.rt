@@ -5,10 +5,10 @@ ghost use Rattle.web_demo.specs.DemoTexts.{bar, cookies_text, lines_text, pair_t
 ghost use Rattle.web_demo.specs.DemoTexts.{result_text, space, who_text, without_newline};
 ghost use Rattle.web_demo_layers.specs.Items.{item_text};
 
-use crate::demo_arguments::DataArguments;
 use std::alloc::Global;
 use std::fmt;
 use web_arguments::Header;
+use web_demo_arguments::DataArguments;
 use web_demo_layers::Item;
 use web_headers::{Accept, fmt_comma_delimited};
 use web_negotiate::prelude::AcceptChoices;

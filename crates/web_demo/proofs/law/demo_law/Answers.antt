@@ -1,5 +1,5 @@
 use Rattle.std.proofs.Common.{◌∙◌}
-use Rattle.web_demo.proofs.PickedArgumentsLemmas.{picked_meets}
+use Rattle.web_demo.proofs.DemoFunctionsLemmas.{picked_meets}
 use Rattle.web_demo.proofs.RepliesLemmas.{reply_only}
 use Rattle.web_demo.proofs.law.demo_law.Goals as goal
 

@@ -1,0 +1,5 @@
+pub mod Choices
+pub mod DelayedValue
+pub mod DemoArguments
+pub mod LateAndWait
+pub mod LinesArgument

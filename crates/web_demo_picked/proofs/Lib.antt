@@ -1,0 +1,4 @@
+pub mod BoxedFuturesLemmas
+pub mod ItemArgumentsLemmas
+pub mod PickedArgumentsLemmas
+pub mod SeenArgumentsLemmas

@@ -1,0 +1,305 @@
+-- The arguments that the first segment of a path asks for.
+use Rattle.std.proofs.Common.{◌≡◌, ℕ, List, [], refl, sym, ap, ◌∙◌}
+use Rattle.std.specs.Prelude.{Option, None, Some, Result, Ok, Err, String, string_bytes, codes}
+use Rattle.std.specs.Global.{Global}
+use Rattle.std.specs.Option.{option_map}
+use Rattle.web_texts.specs.MediaTypes.{MediaType}
+use Rattle.web_texts.specs.declared.errors.ParseError.{ParseError}
+use Rattle.web_texts.specs.declared.quality_item.QualityItem.{QualityItem}
+use Rattle.web_headers.specs.ListHeaders.{accept_of}
+use Rattle.web_headers.specs.declared.accept_header.Accept.{Accept}
+use Rattle.web_request.specs.declared.source.Mark.{Mark}
+use Rattle.web_request.specs.Feed.{Feed}
+use Rattle.web_request.specs.Head.{head_path}
+use Rattle.web_request.specs.KeptValues.{known_cookies}
+use Rattle.web_request.specs.Request.{Record, nothing_kept}
+use Rattle.web_body.specs.MemoryBodies.{marks_feed}
+use Rattle.web_body.specs.declared.payload.Payload.{Payload}
+use Rattle.web_body.specs.declared.payload.Payload.TheVariants as payload
+use Rattle.web_reply.specs.Replies.{Fault}
+use Rattle.web_extract.specs.ArgumentLists.{map_value}
+use Rattle.web_extract.specs.ConvertedFutures.{GivesConvertedBy, converted_result}
+use Rattle.web_extract.specs.Extracts.{Extracts}
+use Rattle.web_extract.specs.HeadArguments.{IsRequest, immediate as at_once, seen_request}
+use Rattle.web_extract.specs.ListResults.{DelayedResult, list1, list2, list3}
+use Rattle.web_extract.specs.OptionArgument.{GivesOption, as_option}
+use Rattle.web_extract.specs.PayloadArgument.{payload_result, seen_payload}
+use Rattle.web_extract.specs.ReadyFuture.{MeansUnit}
+use Rattle.web_extract.specs.ResultArgument.{AsResult}
+use Rattle.web_extract.specs.StringArgument.{decoded}
+use Rattle.web_extract.specs.declared.never.Never.{Never}
+use Rattle.web_extract.proofs.ConvertedFuturesLemmas.{GivesOnly, converted_only}
+use Rattle.web_extract.proofs.HeadArgumentsLemmas.{only_payload, only_request}
+use Rattle.web_arguments.specs.HeaderArgument.{SaysOnly, header_result, request_values}
+use Rattle.web_arguments.specs.declared.header_argument.Header.{Header}
+use Rattle.web_arguments.proofs.HeaderArgumentLemmas.{gives_only}
+use Rattle.web_demo_layers.specs.declared.app.DemoConn.{DemoConn}
+use Rattle.web_demo_layers.specs.declared.app.DemoLocal.{DemoLocal}
+use Rattle.web_demo_layers.specs.declared.layer.DemoLayer.{DemoLayer}
+use Rattle.web_demo_arguments.specs.Choices.{choice_of}
+use Rattle.web_demo_arguments.specs.DemoArguments.{data_view, raw_view, seen_data}
+use Rattle.web_demo_flights.specs.DemoExchanges.{DemoRequest}
+use Rattle.web_demo_arguments.specs.LateAndWait.{MeansLate, MeansWait}
+use Rattle.web_demo_picked.specs.BodyArguments.{Alone, MeansBody, MeansRaw, MeansText, body_rest, body_result}
+use Rattle.web_demo_picked.specs.BodyArguments.{text_rest, text_result}
+use Rattle.web_demo_picked.specs.ArgumentMeanings.{By, ByEither, InList, ListOfOne}
+use Rattle.web_demo_picked.specs.ArgumentMeanings.{never_fault, parse_fault, same_fault}
+use Rattle.web_demo_picked.specs.ArgumentMeanings.{MeansAccept, accept_result, header_or_fault}
+use Rattle.web_demo_picked.specs.ArgumentMeanings.{MeansBoth, both_result, delayed_late}
+use Rattle.web_demo_picked.specs.ArgumentMeanings.{MeansData, MeansLocal, MeansNumber, MeansRequest}
+use Rattle.web_demo_picked.specs.ArgumentMeanings.{local_result, number_result, numbers_result}
+use Rattle.web_demo_picked.specs.ArgumentMeanings.{MeansOptional, optional_result, or_none}
+use Rattle.web_demo_picked.specs.ArgumentMeanings.{without_refusal}
+use Rattle.web_demo_picked.specs.ArgumentMeanings.{MeansItemOrRefusal, as_value}
+use Rattle.web_demo_picked.specs.ItemArguments.{MeansEitherItem, MeansFormItem, MeansJsonItem}
+use Rattle.web_demo_picked.specs.ItemArguments.{MeansPathItem, MeansQueryItem}
+use Rattle.web_demo_picked.specs.ItemArguments.{either_item_result, form_item_result}
+use Rattle.web_demo_picked.specs.ItemArguments.{form_item_rest, json_item_rest, json_item_result}
+use Rattle.web_demo_picked.specs.ItemArguments.{path_item_result, query_item_result}
+use Rattle.web_demo_picked.specs.PickedArguments.{MeansChoice, MeansDecoded, MeansImmediate, MeansPicked}
+use Rattle.web_demo_picked.specs.PickedArguments.{choice_result, decoded_result, immediate_result}
+use Rattle.web_demo_picked.specs.PickedArguments.{picked_delay, picked_result}
+use Rattle.web_demo_arguments.specs.declared.choice.Choice.{Choice}
+use Rattle.web_demo_arguments.specs.declared.choice.Choice.TheVariants as choice
+use Rattle.web_demo_arguments.specs.declared.choice.DecodedChoice.{DecodedChoice}
+use Rattle.web_demo_arguments.specs.declared.choice.DecodedChoice.TheVariants as decoded
+use Rattle.web_demo_arguments.specs.declared.choice.ImmediateChoice.{ImmediateChoice}
+use Rattle.web_demo_arguments.specs.declared.choice.ImmediateChoice.TheVariants as immediate
+use Rattle.web_demo_arguments.specs.declared.choice.ServiceChoice.{ServiceChoice}
+use Rattle.web_demo_arguments.specs.declared.choice.ServiceChoice.TheVariants as service
+use Rattle.web_demo_arguments.specs.LinesArgument.{MeansLines, lines_rest, lines_result}
+use Rattle.web_demo_picked.specs.ServiceArguments.{MeansService, MeansWho, cookies_result, demo_cookies}
+use Rattle.web_demo_picked.specs.ServiceArguments.{service_result, who_result}
+use Rattle.web_demo_arguments.specs.declared.late.Late.{Late}
+use Rattle.web_demo_picked.specs.declared.picked.Picked.{Picked}
+use Rattle.web_demo_picked.specs.declared.picked.Picked.TheVariants as picked
+use Rattle.web_demo_picked.proofs.ItemArgumentsLemmas.{either_seen, form_seen, json_seen, path_seen, query_seen}
+use Rattle.web_demo_picked.proofs.SeenArgumentsLemmas.{Seen, SeenAlone, alone_seen, chosen_only, converted_same, listed_seen, pair_seen, three_seen}
+
+-- each argument
+
+body_seen : (q : DemoRequest) → SeenAlone (λ v. v) same_fault (MeansBody q) (body_rest q) (body_result q)
+body_seen q m left n y h = (h.0, h.1, converted_same y ∙ h.2)
+
+text_value : (y : Result (String Global) Fault) → converted_result string_bytes same_fault y ≡ map_value string_bytes y
+text_value (Ok v) = refl
+text_value (Err e) = refl
+
+text_seen : (q : DemoRequest) → SeenAlone string_bytes same_fault (MeansText q) (text_rest q) (text_result q)
+text_seen q m left n y h = (h.1.0, h.1.1, text_value y ∙ h.2 ∙ ap decoded h.1.2)
+
+raw_value : (y : Result (Payload Feed) Fault) → converted_result raw_view same_fault y ≡ seen_payload (λ feed. feed) y
+raw_value (Ok p) = refl
+raw_value (Err e) = refl
+
+raw_seen : SeenAlone raw_view same_fault MeansRaw (λ m. []) payload_result
+raw_seen m left n y h =
+    let once = only_payload (λ feed. feed) (payload.Stream (record (marks_feed m) { marks = Some m })) m refl left n y h in
+    (once.0, once.1, raw_value y ∙ once.2)
+
+late_seen : (q : DemoRequest) → SeenAlone (λ v. v) same_fault (MeansLate q.params) (λ m. m) (λ m. delayed_late q.params)
+late_seen q m left n y h = (h.0, h.1, converted_same y ∙ h.2)
+
+number_seen : (q : DemoRequest) → SeenAlone (λ v. v) same_fault (MeansNumber q) (λ m. m) (λ m. number_result q)
+number_seen q m left n y h = (h.0, h.1, converted_same y ∙ h.2)
+
+local_seen : (q : DemoRequest) → SeenAlone (λ v. v) same_fault (MeansLocal q) (λ m. m) (λ m. local_result q)
+local_seen q m left n y h = (h.0, h.1, converted_same y ∙ h.2)
+
+request_value : (y : Result (Record DemoLayer DemoLocal DemoConn) Fault) → converted_result (λ r. r.request) same_fault y ≡ seen_request y
+request_value (Ok r) = refl
+request_value (Err e) = refl
+
+request_seen : (q : DemoRequest) → SeenAlone (λ r. r.request) same_fault (MeansRequest q) (λ m. m) (λ m. at_once (Ok q))
+request_seen q m left n y h =
+    let once = only_request q m left n y h in
+    (once.0, once.1, request_value y ∙ once.2)
+
+-- where the request came from, its cookies, and its lines
+
+who_seen : (q : DemoRequest) → SeenAlone (λ v. v) never_fault (MeansWho q) (λ m. m) (λ m. who_result q)
+who_seen q m left n y h = (h.0, h.1, ap (converted_result (λ v. v) never_fault) h.2)
+
+cookies_known : (q : DemoRequest) (r : Record DemoLayer DemoLocal DemoConn) → r.request ≡ q → r.kept ≡ nothing_kept → known_cookies r ≡ demo_cookies q
+cookies_known q r is none = rw (is, none) refl
+
+cookies_value : (q : DemoRequest) (y : Result (Record DemoLayer DemoLocal DemoConn) Fault) → IsRequest q y → converted_result known_cookies same_fault y ≡ Ok (demo_cookies q)
+cookies_value q (Ok r) h = ap Ok (cookies_known q r h.0 h.1)
+cookies_value q (Err e) h = absurd h
+
+cookies_seen : (q : DemoRequest) → SeenAlone known_cookies same_fault (MeansRequest q) (λ m. m) (λ m. cookies_result q)
+cookies_seen q m left n y h = (h.0, h.1, cookies_value q y h.2)
+
+lines_seen : (q : DemoRequest) → SeenAlone (λ v. v) same_fault (MeansLines q) (lines_rest q) (lines_result q)
+lines_seen q m left n y h = (h.0, h.1, converted_same y ∙ h.2)
+
+-- the header Accept
+
+abbrev accept_said : Option (List (QualityItem MediaType)) → Option Accept
+accept_said items = option_map (λ i. record { 0 = i }) items
+
+none_said : (other : Option Accept) → option_map (λ (header : Accept). header.0) other ≡ None → other ≡ None
+none_said None says = refl
+none_said (Some header) says = absurd (cc)
+
+some_said : (i : List (QualityItem MediaType)) (other : Option Accept) → option_map (λ (header : Accept). header.0) other ≡ Some i → other ≡ Some (record { 0 = i })
+some_said i None says = absurd (cc)
+some_said i (Some header) says =
+    let same : header.0 ≡ i = cc in
+    ap (λ (l : List (QualityItem MediaType)). Some (record { 0 = l })) same
+
+only_said : (items : Option (List (QualityItem MediaType))) → SaysOnly (λ said. option_map (λ (header : Accept). header.0) said ≡ items) (accept_said items)
+only_said None = (refl, λ other says. none_said other says)
+only_said (Some i) = (refl, λ other says. some_said i other says)
+
+accept_value : (items : Option (List (QualityItem MediaType))) → converted_result (λ v. v) parse_fault (header_result (accept_said items)) ≡ header_or_fault items
+accept_value None = refl
+accept_value (Some i) = refl
+
+accept_seen : (q : DemoRequest) → SeenAlone (λ v. v) parse_fault (MeansAccept q) (λ m. m) (λ m. accept_result q)
+accept_seen q m left n y h =
+    let items = accept_of (request_values (codes "accept") q) in
+    let once = (gives_only (λ said. option_map (λ (header : Accept). header.0) said ≡ items) (accept_said items) (only_said items) m).1 left n y h in
+    (once.0, once.1, ap (converted_result (λ v. v) parse_fault) once.2 ∙ accept_value items)
+
+-- an argument whose refusal is no refusal
+
+option_value : {T : Type 0} (y : Result T Fault) → converted_result (λ v. v) never_fault (as_option y) ≡ or_none y
+option_value (Ok v) = refl
+option_value (Err e) = refl
+
+option_seen : (q : DemoRequest) → SeenAlone (λ v. v) never_fault (λ m rest. GivesOption (MeansJsonItem q m rest)) (json_item_rest q) (λ m. without_refusal (json_item_result q m))
+option_seen q m left n x h =
+    let once = json_seen q m left n h.0 h.1 in
+    (once.0, once.1, ap (converted_result (λ v. v) never_fault) h.2 ∙ option_value h.0 ∙ ap or_none (sym (converted_same h.0) ∙ once.2))
+
+result_value : {T : Type 0} (y : Result T Fault) (x : Result (Result T Fault) Never) → AsResult (By same_fault) y x
+    → converted_result (λ v. v) never_fault x ≡ Ok y
+result_value (Ok v) x h = rw h refl
+result_value (Err e) x h = rw (h.2, h.1) refl
+
+result_seen : (q : DemoRequest) → SeenAlone (λ v. v) never_fault (MeansItemOrRefusal q) (json_item_rest q) (λ m. as_value (json_item_result q m))
+result_seen q m left n x h =
+    let once = json_seen q m left n h.0 h.1 in
+    (once.0, once.1, result_value h.0 x h.2 ∙ ap Ok (sym (converted_same h.0) ∙ once.2))
+
+-- lists of arguments
+
+by_only : {E : Type 0} (error : E → Fault) (e : E) (f : Fault) → By error e f → f ≡ error e
+by_only error e f h = h
+
+listed : {T E V : Type 0} (f : T → V) (error : E → Fault) (means : Alone T E) (rest : List Mark → List Mark) (a : List Mark → DelayedResult V)
+    → SeenAlone f error means rest a → Seen f (InList (By error) means) rest a
+listed f error means rest a seen = listed_seen f (By error) error (by_only error) means rest a seen
+
+both_seen : (q : DemoRequest) → Seen (λ v. (string_bytes v.0, v.1)) (MeansBoth q) (text_rest q) (both_result q)
+both_seen q =
+    pair_seen string_bytes (λ v. v) (InList (By same_fault) (MeansText q)) (InList (By same_fault) (MeansLate q.params))
+    (text_rest q) (λ m. m) (text_result q) (λ m. delayed_late q.params)
+    (listed string_bytes same_fault (MeansText q) (text_rest q) (text_result q) (text_seen q))
+    (listed (λ v. v) same_fault (MeansLate q.params) (λ m. m) (λ m. delayed_late q.params) (late_seen q))
+
+optional_seen : (q : DemoRequest) → Seen (λ v. (v.0, v.1)) (MeansOptional q) (λ m. body_rest q (json_item_rest q m)) (optional_result q)
+optional_seen q =
+    pair_seen (λ v. v) (λ v. v) (InList (By never_fault) (λ m rest. GivesOption (MeansJsonItem q m rest))) (InList (By same_fault) (MeansBody q))
+    (json_item_rest q) (body_rest q) (λ m. without_refusal (json_item_result q m)) (body_result q)
+    (listed (λ v. v) never_fault (λ m rest. GivesOption (MeansJsonItem q m rest)) (json_item_rest q) (λ m. without_refusal (json_item_result q m)) (option_seen q))
+    (listed (λ v. v) same_fault (MeansBody q) (body_rest q) (body_result q) (body_seen q))
+
+data_seen : (q : DemoRequest) → Seen (λ v. (v.0, v.1, v.2.request)) (MeansData q) (λ m. m) (λ m. numbers_result q)
+data_seen q =
+    three_seen (λ v. v) (λ v. v) (λ r. r.request)
+    (InList (By same_fault) (MeansNumber q)) (InList (By same_fault) (MeansLocal q)) (InList (By same_fault) (MeansRequest q))
+    (λ m. m) (λ m. m) (λ m. m) (λ m. number_result q) (λ m. local_result q) (λ m. at_once (Ok q))
+    (listed (λ v. v) same_fault (MeansNumber q) (λ m. m) (λ m. number_result q) (number_seen q))
+    (listed (λ v. v) same_fault (MeansLocal q) (λ m. m) (λ m. local_result q) (local_seen q))
+    (listed (λ r. r.request) same_fault (MeansRequest q) (λ m. m) (λ m. at_once (Ok q)) (request_seen q))
+
+-- a list of one argument, as what was picked
+module _ {T E V : Type 0} (f : T → V) (converts : E → Fault → Type 0) (value : V → Picked) (means : Alone T E)
+    (rest : List Mark → List Mark) (a : List Mark → DelayedResult V) where
+  one_only : Seen f (InList converts means) rest a → (m left : List Mark)
+      → GivesOnly (λ n x. GivesConvertedBy (λ v. value (f v.0)) same_fault (ListOfOne converts means m left) n x)
+      (list1 (a m)).delay (map_value (λ v. value v.0) (list1 (a m)).result)
+  one_only seen m left =
+      chosen_only (λ v. record { 0 = f v.0 }) (λ v. value v.0) (ListOfOne converts means) rest (λ m. list1 (a m))
+      (alone_seen f (InList converts means) rest a seen) m left
+
+pick_one : {T E V : Type 0} (f : T → V) (error : E → Fault) (value : V → Picked) (means : Alone T E)
+    (rest : List Mark → List Mark) (a : List Mark → DelayedResult V) → SeenAlone f error means rest a → (m left : List Mark)
+    → GivesOnly (λ n x. GivesConvertedBy (λ v. value (f v.0)) same_fault (ListOfOne (By error) means m left) n x)
+    (list1 (a m)).delay (map_value (λ v. value v.0) (list1 (a m)).result)
+pick_one f error value means rest a seen = one_only f (By error) value means rest a (listed f error means rest a seen)
+
+-- one delay and one result for each choice
+
+decoded_only : (c : DecodedChoice) (q : DemoRequest) (m rest : List Mark)
+    → GivesOnly (λ n x. MeansDecoded c q m rest n x) (decoded_result c q m).delay (decoded_result c q m).result
+decoded_only decoded.Json q m rest = pick_one (λ v. v) same_fault (λ v. picked.Json v) (MeansJsonItem q) (json_item_rest q) (json_item_result q) (json_seen q) m rest
+decoded_only decoded.Form q m rest = pick_one (λ v. v) same_fault (λ v. picked.Form v) (MeansFormItem q) (form_item_rest q) (form_item_result q) (form_seen q) m rest
+decoded_only decoded.Either q m rest = one_only (λ v. v) ByEither (λ v. picked.Either v) (MeansEitherItem q) (body_rest q) (either_item_result q) (either_seen q) m rest
+decoded_only decoded.Option q m rest =
+    chosen_only (λ v. (v.0, v.1)) (λ v. picked.Option v.0 v.1) (MeansOptional q) (λ m. body_rest q (json_item_rest q m)) (optional_result q) (optional_seen q) m rest
+decoded_only decoded.Result q m rest = pick_one (λ v. v) never_fault (λ v. picked.Result v) (MeansItemOrRefusal q) (json_item_rest q) (λ m. as_value (json_item_result q m)) (result_seen q) m rest
+
+immediate_only : (c : ImmediateChoice) (q : DemoRequest) (m rest : List Mark)
+    → GivesOnly (λ n x. MeansImmediate c q m rest n x) (immediate_result c q m).delay (immediate_result c q m).result
+immediate_only immediate.Path q m rest = pick_one (λ v. v) same_fault (λ v. picked.Path v) (MeansPathItem q) (λ m. m) (λ m. path_item_result q) (path_seen q) m rest
+immediate_only immediate.Query q m rest = pick_one (λ v. v) same_fault (λ v. picked.Query v) (MeansQueryItem q) (λ m. m) (λ m. query_item_result q) (query_seen q) m rest
+immediate_only immediate.Header q m rest = pick_one (λ v. v) parse_fault (λ v. picked.Header v) (MeansAccept q) (λ m. m) (λ m. accept_result q) (accept_seen q) m rest
+immediate_only immediate.Data q m rest = chosen_only (λ v. (v.0, v.1, v.2.request)) (λ v. picked.Data (seen_data v)) (MeansData q) (λ m. m) (λ m. numbers_result q) (data_seen q) m rest
+immediate_only immediate.Raw q m rest = pick_one raw_view same_fault (λ v. picked.Raw v) MeansRaw (λ m. []) payload_result raw_seen m rest
+
+service_only : (c : ServiceChoice) (q : DemoRequest) (m rest : List Mark)
+    → GivesOnly (λ n x. MeansService c q m rest n x) (service_result c q m).delay (service_result c q m).result
+service_only service.Who q m rest = pick_one (λ v. v) never_fault (λ v. picked.Who v) (MeansWho q) (λ m. m) (λ m. who_result q) (who_seen q) m rest
+service_only service.Cookies q m rest = pick_one known_cookies same_fault (λ v. picked.Cookies v) (MeansRequest q) (λ m. m) (λ m. cookies_result q) (cookies_seen q) m rest
+service_only service.Lines q m rest = pick_one (λ v. v) same_fault (λ v. picked.Lines v) (MeansLines q) (lines_rest q) (lines_result q) (lines_seen q) m rest
+
+choice_only : (c : Choice) (q : DemoRequest) (m rest : List Mark)
+    → GivesOnly (λ n x. MeansChoice c q m rest n x) (choice_result c q m).delay (choice_result c q m).result
+choice_only choice.Bytes q m rest = pick_one (λ v. v) same_fault (λ v. picked.Bytes v) (MeansBody q) (body_rest q) (body_result q) (body_seen q) m rest
+choice_only choice.Text q m rest = pick_one string_bytes same_fault (λ v. picked.Text v) (MeansText q) (text_rest q) (text_result q) (text_seen q) m rest
+choice_only choice.Both q m rest = chosen_only (λ v. (string_bytes v.0, v.1)) (λ v. picked.Both v.0 v.1) (MeansBoth q) (text_rest q) (both_result q) (both_seen q) m rest
+choice_only choice.Wait q m rest =
+    converted_only (λ v. picked.Wait v) never_fault (MeansWait q.params m rest) _ _ (λ k y g. (g.1, g.2))
+choice_only choice.Other q m rest =
+    converted_only (λ v. picked.Other) never_fault (MeansUnit m rest) _ _ (λ k y g. (g.1, g.2))
+choice_only (choice.Decoded c) q m rest = decoded_only c q m rest
+choice_only (choice.Immediate c) q m rest = immediate_only c q m rest
+choice_only (choice.Service c) q m rest = service_only c q m rest
+
+-- the future of a choice's arguments, where this choice was made
+pub extracts_decoded : (q : DemoRequest) (made : DecodedChoice) (c : DecodedChoice)
+    (gives : ℕ → Result Picked Fault → Type 0) (old new : Option (List Mark))
+    → made ≡ c
+    → Extracts (λ m rest n x. MeansDecoded c q m rest n x) gives old new
+    → Extracts (λ m rest n x. MeansDecoded made q m rest n x) gives old new
+extracts_decoded q made c gives old new e h = rw e h
+
+pub extracts_immediate : (q : DemoRequest) (made : ImmediateChoice) (c : ImmediateChoice)
+    (gives : ℕ → Result Picked Fault → Type 0) (old new : Option (List Mark))
+    → made ≡ c
+    → Extracts (λ m rest n x. MeansImmediate c q m rest n x) gives old new
+    → Extracts (λ m rest n x. MeansImmediate made q m rest n x) gives old new
+extracts_immediate q made c gives old new e h = rw e h
+
+pub extracts_service : (q : DemoRequest) (made : ServiceChoice) (c : ServiceChoice)
+    (gives : ℕ → Result Picked Fault → Type 0) (old new : Option (List Mark))
+    → made ≡ c
+    → Extracts (λ m rest n x. MeansService c q m rest n x) gives old new
+    → Extracts (λ m rest n x. MeansService made q m rest n x) gives old new
+extracts_service q made c gives old new e h = rw e h
+
+-- the future of a choice's arguments, for a request that makes this choice
+pub extracts_choice : (q : DemoRequest) (c : Choice)
+    (gives : ℕ → Result Picked Fault → Type 0) (old new : Option (List Mark))
+    → choice_of (head_path q.head) ≡ c
+    → Extracts (λ m rest n x. MeansChoice c q m rest n x) gives old new
+    → Extracts (λ m rest n x. MeansPicked q m rest n x) gives old new
+extracts_choice q c gives old new e h = rw e h
+
+-- one delay and one result for a request and its marks
+pub picked_only : (q : DemoRequest) (m rest : List Mark)
+    → GivesOnly (λ n x. MeansPicked q m rest n x) (picked_delay q m) (picked_result q m)
+picked_only q m rest n x h = choice_only (choice_of (head_path q.head)) q m rest n x h

@@ -1,0 +1,151 @@
+-- Arguments that allow one rest, one delay and one result, where the value is seen by a function.
+use Rattle.std.proofs.Common.{◌≡◌, ℕ, suc, List, refl, subst, ap, ◌∙◌, inl, inr}
+use Rattle.std.specs.Prelude.{Result, Ok, Err}
+use Rattle.web_request.specs.declared.source.Mark.{Mark}
+use Rattle.web_reply.specs.Replies.{Fault}
+use Rattle.web_extract.specs.ArgumentLists.{Gives, Joins2, One, RefusedBefore, map_value, nested3}
+use Rattle.web_extract.specs.ConvertedFutures.{ConvertsResult, GivesConvertedBy, converted_result}
+use Rattle.web_extract.specs.ListResults.{DelayedResult, Exactly, list1, list2, list3}
+use Rattle.web_extract.specs.ListMeanings.{Meaning, Means1, Means2, Means3}
+use Rattle.web_extract.proofs.ConvertedFuturesLemmas.{GivesOnly}
+use Rattle.web_extract.proofs.HandedMarksLemmas.{decides1, decides2, decides3}
+use Rattle.web_demo_picked.specs.ArgumentMeanings.{InList, same_fault}
+use Rattle.web_demo_picked.specs.BodyArguments.{Alone}
+
+-- Of each list of marks the argument leaves these, and its result, seen by f, is this one.
+abbrev pub Seen : {T V : Type 0} → (T → V) → Meaning T → (List Mark → List Mark)
+    → (List Mark → DelayedResult V) → Type 0
+Seen {T} f means rest a =
+    (m left : List Mark) (n : ℕ) (x : Result T Fault) → means m left n x
+    → (left ≡ rest m) × (n ≡ (a m).delay) × (map_value f x ≡ (a m).result)
+
+-- the same of an argument with an error of its own
+abbrev pub SeenAlone : {T E V : Type 0} → (T → V) → (E → Fault)
+    → Alone T E → (List Mark → List Mark) → (List Mark → DelayedResult V) → Type 0
+SeenAlone {T} {E} f error means rest a =
+    (m left : List Mark) (n : ℕ) (y : Result T E) → means m left n y
+    → (left ≡ rest m) × (n ≡ (a m).delay) × (converted_result f error y ≡ (a m).result)
+
+pub converted_same : {T : Type 0} (r : Result T Fault) → converted_result (λ v. v) same_fault r ≡ r
+converted_same (Ok v) = refl
+converted_same (Err e) = refl
+
+-- the rest and the result, as a meaning
+abbrev As : {V : Type 0} → (List Mark → List Mark) → (List Mark → DelayedResult V) → Meaning V
+As rest a m left n y = (left ≡ rest m) × (n ≡ (a m).delay) × (y ≡ (a m).result)
+
+exactly : {V : Type 0} (rest : List Mark → List Mark) (a : List Mark → DelayedResult V) (m : List Mark)
+    → Exactly (As rest a) m (rest m) (a m)
+exactly rest a m left n y = (λ h. h, λ h. h)
+
+-- an argument as a place of a list, whose refusals convert as a function says
+pub listed_seen : {T E V : Type 0} (f : T → V) (converts : E → Fault → Type 0) (error : E → Fault)
+    → ((e : E) (x : Fault) → converts e x → x ≡ error e)
+    → (means : Alone T E) (rest : List Mark → List Mark) (a : List Mark → DelayedResult V)
+    → SeenAlone f error means rest a → Seen f (InList converts means) rest a
+listed_seen f converts error only means rest a seen m left n (Ok v) h = seen m left n (Ok v) h
+listed_seen f converts error only means rest a seen m left n (Err e) h =
+    rw (only h.0 e h.2) (seen m left n (Err h.0) h.1)
+
+refused_seen : {T V : Type 0} (f : T → V) (n k : ℕ) (x : Result T Fault)
+    → RefusedBefore n k (map_value f x) → RefusedBefore n k x
+refused_seen f n k (Ok v) h = h
+refused_seen f n k (Err e) h = h
+
+-- two places, each seen by a function
+module _ {T U V W : Type 0} (f : T → V) (g : U → W)
+    (first : Gives T) (second : Gives U) (first_as : Gives V) (second_as : Gives W)
+    (to_first : (n : ℕ) (x : Result T Fault) → first n x → first_as n (map_value f x))
+    (to_second : (n : ℕ) (x : Result U Fault) → second n x → second_as n (map_value g x)) where
+  joins_seen : (n : ℕ) (x : Result (T × U) Fault) → Joins2 first second n x
+      → Joins2 first_as second_as n (map_value (λ v. (f v.0, g v.1)) x)
+  joins_seen n (Ok v) j = (j.0, j.1, to_first j.0 (Ok v.0) j.2, to_second j.1 (Ok v.1) j.3, j.4)
+  joins_seen n (Err e) (inl j) =
+      inl (to_first n (Err e) j.0, λ p. j.1 (λ k y h. refused_seen g n k y (p k (map_value g y) (to_second k y h))))
+  joins_seen n (Err e) (inr j) =
+      inr (to_second n (Err e) j.0, λ p. j.1 (λ k y h. refused_seen f (suc n) k y (p k (map_value f y) (to_first k y h))))
+
+module _ {T V : Type 0} (f : T → V) (first : Meaning T)
+    (rest : List Mark → List Mark) (a : List Mark → DelayedResult V) (seen : Seen f first rest a) where
+  alone_as : (m left : List Mark) (n : ℕ) (x : Result (One T) Fault) → Means1 first m left n x
+      → Means1 (As rest a) m left n (map_value (λ v. record { 0 = f v.0 }) x)
+  alone_as m left n (Ok v) h = seen m left n (Ok v.0) h
+  alone_as m left n (Err e) h = seen m left n (Err e) h
+
+  -- a list of one
+  pub alone_seen : Seen (λ v. record { 0 = f v.0 }) (Means1 first) rest (λ m. list1 (a m))
+  alone_seen m left n x h =
+      (decides1 (As rest a) m (rest m) (a m) (exactly rest a m) left n (map_value (λ v. record { 0 = f v.0 }) x)).0
+      (alone_as m left n x h)
+
+module _ {T U V W : Type 0} (f : T → V) (g : U → W) (first : Meaning T) (second : Meaning U)
+    (rest1 rest2 : List Mark → List Mark)
+    (a : List Mark → DelayedResult V) (b : List Mark → DelayedResult W)
+    (seen1 : Seen f first rest1 a) (seen2 : Seen g second rest2 b) where
+  pair_as : (m left : List Mark) (n : ℕ) (x : Result (T × U) Fault) → Means2 first second m left n x
+      → Means2 (As rest1 a) (As rest2 b) m left n (map_value (λ v. (f v.0, g v.1)) x)
+  pair_as m left n x h = (
+    h.0,
+    joins_seen f g (first m h.0) (second h.0 left) (As rest1 a m h.0) (As rest2 b h.0 left)
+        (λ k y. seen1 m h.0 k y) (λ k y. seen2 h.0 left k y) n x h.1,
+  )
+
+  -- a list of two, of which the second gets what the first leaves
+  pub pair_seen : Seen (λ v. (f v.0, g v.1)) (Means2 first second) (λ m. rest2 (rest1 m))
+      (λ m. list2 (a m) (b (rest1 m)))
+  pair_seen m left n x h =
+      (decides2 (As rest1 a) (As rest2 b) m (rest1 m) (rest2 (rest1 m)) (a m) (b (rest1 m))
+      (exactly rest1 a m) (exactly rest2 b (rest1 m)) left n (map_value (λ v. (f v.0, g v.1)) x)).0
+      (pair_as m left n x h)
+
+nested_seen : {T U X V W Y : Type 0} (f : T → V) (g : U → W) (h : X → Y) (x : Result (T × U × X) Fault)
+    → map_value (λ v. (f v.0, (g v.1.0, h v.1.1))) (nested3 x) ≡ nested3 (map_value (λ v. (f v.0, g v.1, h v.2)) x)
+nested_seen f g h (Ok v) = refl
+nested_seen f g h (Err e) = refl
+
+module _ {T U X V W Y : Type 0} (f : T → V) (g : U → W) (h : X → Y)
+    (first : Meaning T) (second : Meaning U) (third : Meaning X)
+    (rest1 rest2 rest3 : List Mark → List Mark)
+    (a : List Mark → DelayedResult V) (b : List Mark → DelayedResult W) (c : List Mark → DelayedResult Y)
+    (seen1 : Seen f first rest1 a) (seen2 : Seen g second rest2 b) (seen3 : Seen h third rest3 c) where
+  three_as : (m left : List Mark) (n : ℕ) (x : Result (T × U × X) Fault) → Means3 first second third m left n x
+      → Means3 (As rest1 a) (As rest2 b) (As rest3 c) m left n (map_value (λ v. (f v.0, g v.1, h v.2)) x)
+  three_as m left n x d = (
+    d.0,
+    d.1,
+    subst (λ (y : Result (V × (W × Y)) Fault).
+        Joins2 (As rest1 a m d.0) (Joins2 (As rest2 b d.0 d.1) (As rest3 c d.1 left)) n y) (nested_seen f g h x)
+        (joins_seen f (λ v. (g v.0, h v.1)) (first m d.0) (Joins2 (second d.0 d.1) (third d.1 left))
+        (As rest1 a m d.0) (Joins2 (As rest2 b d.0 d.1) (As rest3 c d.1 left))
+        (λ k y. seen1 m d.0 k y)
+        (joins_seen g h (second d.0 d.1) (third d.1 left) (As rest2 b d.0 d.1) (As rest3 c d.1 left)
+        (λ k y. seen2 d.0 d.1 k y) (λ k y. seen3 d.1 left k y))
+        n (nested3 x) d.2),
+  )
+
+  -- a list of three, each of which gets what the one before leaves
+  pub three_seen : Seen (λ v. (f v.0, g v.1, h v.2)) (Means3 first second third)
+      (λ m. rest3 (rest2 (rest1 m))) (λ m. list3 (a m) (b (rest1 m)) (c (rest2 (rest1 m))))
+  three_seen m left n x d =
+      (decides3 (As rest1 a) (As rest2 b) (As rest3 c) m (rest1 m) (rest2 (rest1 m)) (rest3 (rest2 (rest1 m)))
+      (a m) (b (rest1 m)) (c (rest2 (rest1 m)))
+      (exactly rest1 a m) (exactly rest2 b (rest1 m)) (exactly rest3 c (rest2 (rest1 m)))
+      left n (map_value (λ v. (f v.0, g v.1, h v.2)) x)).0
+      (three_as m left n x d)
+
+-- values that are seen by a function, and then converted
+module _ {T V P : Type 0} (f : T → V) (value : V → P) where
+  converted_seen : (y : Result T Fault) (x : Result P Fault)
+      → ConvertsResult (λ v w. w ≡ value (f v)) (λ e w. w ≡ same_fault e) y x
+      → x ≡ map_value value (map_value f y)
+  converted_seen (Ok v) x h = h.2 ∙ ap Ok h.1
+  converted_seen (Err e) x h = h.2 ∙ ap Err h.1
+
+  -- one delay and one result, converted
+  pub chosen_only : (means : Meaning T) (rest : List Mark → List Mark) (a : List Mark → DelayedResult V)
+      → Seen f means rest a → (m left : List Mark)
+      → GivesOnly (λ n x. GivesConvertedBy (λ v. value (f v)) same_fault (means m left) n x)
+      (a m).delay (map_value value (a m).result)
+  chosen_only means rest a seen m left n x h =
+      let once = seen m left n h.0 h.1 in
+      (once.1, converted_seen h.0 x h.2 ∙ ap (map_value value) once.2)

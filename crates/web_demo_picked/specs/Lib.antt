@@ -1,0 +1,6 @@
+pub mod ArgumentMeanings
+pub mod BodyArguments
+pub mod BoxedFutures
+pub mod ItemArguments
+pub mod PickedArguments
+pub mod ServiceArguments
