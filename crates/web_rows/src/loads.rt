@@ -81,17 +81,16 @@ fn assert_written(rt: &impl Abort, alloc: Global, arguments: &[&str], text: &str
     assert_run(rt, "a load", (found, is_text && is_left), status);
 }
 
-/// Runs these arguments with a write of seven bytes, and one that fails. Asserts that a prefix of
-/// the text is written.
-fn assert_cut(rt: &impl Abort, alloc: Global, arguments: &[&str], text: &str) {
+/// Runs these arguments with a write of seven bytes, and one that fails. Compares what is written.
+fn assert_cut(rt: &impl Abort, alloc: Global, arguments: &[&str], written: &str) {
     let mut input = MemInput::new(b"", 3, &[]);
     let mut output = MemOutput::new(alloc, 7, &[2]);
     let found = run_demo(rt, alloc, arguments, &mut input, &mut output);
-    let is_prefix = output.as_slice() == &text.as_bytes()[..7];
+    let is_written = output.as_slice() == written.as_bytes();
     assert_run(
         rt,
         "a load that is cut off",
-        (found, is_prefix),
+        (found, is_written),
         Status::WriteFault,
     );
 }
@@ -119,6 +118,6 @@ fn loads_without_a_seed_or_a_count_have_the_usage_written(rt: HostRuntime) {
 
 #[test]
 fn a_write_that_fails_cuts_a_load_off(rt: HostRuntime) {
-    assert_cut(&rt, rt.alloc(), &["generate", "1", "1"], "exchange POST");
-    assert_cut(&rt, rt.alloc(), &["replay", "1", "1"], "script 118");
+    assert_cut(&rt, rt.alloc(), &["generate", "1", "1"], "exchang");
+    assert_cut(&rt, rt.alloc(), &["replay", "1", "1"], "script ");
 }
