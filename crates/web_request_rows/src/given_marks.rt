@@ -45,6 +45,7 @@ impl Source for GivenMarks {
     } };
 
     fn next(&mut self) -> Turn {
+        let given = self.given;
         let Some((mark, rest)) = self.left.split_first() else {
             return Turn::End;
         };
@@ -59,9 +60,9 @@ impl Source for GivenMarks {
                 self.faults = self.faults.saturating_add(1);
                 Turn::Fault
             }
-            Given::Piece(piece) => match total(self.given, piece) {
-                Some(given) => {
-                    self.given = given;
+            Given::Piece(piece) => match total(given, piece) {
+                Some(sum) => {
+                    self.given = sum;
                     Turn::Piece(Bytes::from_static(piece))
                 }
                 None => {

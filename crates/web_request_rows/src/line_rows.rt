@@ -9,26 +9,139 @@ const NO_TEXT: Result<&str, ReadlinesError> = Err(ReadlinesError::EncodingError)
 
 const FAILED: Result<&str, ReadlinesError> = Err(ReadlinesError::Payload(PayloadError::Io));
 
-pub(crate) const LINES: &[LinesRow] = &[
+/// Bodies whose lines are answered to the end.
+pub(crate) const WHOLE: &[LinesRow] = &[
     LinesRow {
-        marks: &[Stall, Stall, Piece(b"line")],
-        limit: 2,
-        answers: &[(2, TOO_LONG)],
-        stalls: 2,
+        marks: &[Stall],
+        limit: 3,
+        answers: &[],
+        stalls: 1,
+    },
+    LinesRow {
+        marks: &[],
+        limit: 1,
+        answers: &[],
+        stalls: 0,
+    },
+    LinesRow {
+        marks: &[Piece(b"a"), Piece(b"b")],
+        limit: 3,
+        answers: &[(0, Ok("ab"))],
+        stalls: 0,
+    },
+    LinesRow {
+        marks: &[],
+        limit: 0,
+        answers: &[],
+        stalls: 0,
     },
     LinesRow {
         marks: &[
             Stall,
+            Piece(b"\xc3"),
             Stall,
-            Piece(b"\nlineab\r\n\n\xc3\xafa"),
+            Piece(b"\xaf"),
             Stall,
-            Piece(b"b\n"),
+            Stall,
+            Piece(b"|"),
+            Stall,
+            Piece(b"\r"),
+            Stall,
+            Stall,
+            Piece(b"\n"),
             Stall,
         ],
+        limit: 5,
+        answers: &[(7, Ok("ï|\r\n"))],
+        stalls: 8,
+    },
+    LinesRow {
+        marks: &[
+            Piece(b"|"),
+            Piece(b"c"),
+            Piece(b"\r"),
+            Piece(b"\n"),
+            Piece(b"a"),
+            Piece(b"b"),
+            Piece(b"\xc3"),
+            Piece(b"\xaf"),
+            Piece(b"\n"),
+            Piece(b"a"),
+            Piece(b"b"),
+            Piece(b"\r"),
+            Piece(b"\n"),
+        ],
+        limit: 5,
+        answers: &[(0, Ok("|c\r\n")), (0, Ok("abï\n")), (0, Ok("ab\r\n"))],
+        stalls: 0,
+    },
+    LinesRow {
+        marks: &[Piece(b"c|ab")],
+        limit: 262_144,
+        answers: &[(0, Ok("c|ab"))],
+        stalls: 0,
+    },
+    LinesRow {
+        marks: &[],
+        limit: 262_144,
+        answers: &[],
+        stalls: 0,
+    },
+    LinesRow {
+        marks: &[Piece(b"\n\xc3\xafli"), Piece(b"ne|ab|c")],
+        limit: 262_144,
+        answers: &[(0, Ok("\n")), (0, Ok("ïline|ab|c"))],
+        stalls: 0,
+    },
+    LinesRow {
+        marks: &[Piece(b"\r\n")],
+        limit: 5,
+        answers: &[(0, Ok("\r\n"))],
+        stalls: 0,
+    },
+    LinesRow {
+        marks: &[Stall],
         limit: 1,
-        answers: &[(2, Ok("\n")), (2, TOO_LONG)],
+        answers: &[],
+        stalls: 1,
+    },
+    LinesRow {
+        marks: &[Piece(b"\n\r\n")],
+        limit: 2,
+        answers: &[(0, Ok("\n")), (0, Ok("\r\n"))],
+        stalls: 0,
+    },
+    LinesRow {
+        marks: &[Stall, Stall],
+        limit: 262_144,
+        answers: &[],
         stalls: 2,
     },
+    LinesRow {
+        marks: &[Piece(b"\n")],
+        limit: 3,
+        answers: &[(0, Ok("\n"))],
+        stalls: 0,
+    },
+    LinesRow {
+        marks: &[
+            Stall,
+            Piece(b"a"),
+            Stall,
+            Piece(b"b"),
+            Stall,
+            Stall,
+            Piece(b"|"),
+            Stall,
+        ],
+        limit: 262_144,
+        answers: &[(5, Ok("ab|"))],
+        stalls: 5,
+    },
+];
+
+/// Bodies that end at bytes that are no text, or at a fault.
+pub(crate) const UNREADABLE: &[LinesRow] = &[
     LinesRow {
         marks: &[Piece(b"\xff")],
         limit: 2,
@@ -74,6 +187,131 @@ pub(crate) const LINES: &[LinesRow] = &[
         limit: 5,
         answers: &[(6, Ok("ï\r\n")), (18, NO_TEXT)],
         stalls: 18,
+    },
+    LinesRow {
+        marks: &[Piece(b"\r\n\r\nline"), Piece(b"ab\n\xff|\xff"), Fault],
+        limit: 262_144,
+        answers: &[
+            (0, Ok("\r\n")),
+            (0, Ok("\r\n")),
+            (0, Ok("lineab\n")),
+            (0, FAILED),
+        ],
+        stalls: 0,
+    },
+    LinesRow {
+        marks: &[Piece(b"line\n|c|\xc3\xaf\xff")],
+        limit: 262_144,
+        answers: &[(0, Ok("line\n")), (0, NO_TEXT)],
+        stalls: 0,
+    },
+    LinesRow {
+        marks: &[Piece(b"line\n\xffline\nlinec\xc3\xaf")],
+        limit: 262_144,
+        answers: &[(0, Ok("line\n")), (0, NO_TEXT)],
+        stalls: 0,
+    },
+    LinesRow {
+        marks: &[Piece(b"|\r\n\xff\r\n")],
+        limit: 3,
+        answers: &[(0, Ok("|\r\n")), (0, NO_TEXT)],
+        stalls: 0,
+    },
+    LinesRow {
+        marks: &[Piece(b"|\xc3\xaf\xff\xff")],
+        limit: 5,
+        answers: &[(0, NO_TEXT)],
+        stalls: 0,
+    },
+    LinesRow {
+        marks: &[Piece(b"\xc3\xaf\r\nc"), Piece(b"\r"), Piece(b"\n"), Fault],
+        limit: 5,
+        answers: &[(0, Ok("ï\r\n")), (0, Ok("c\r\n")), (0, FAILED)],
+        stalls: 0,
+    },
+    LinesRow {
+        marks: &[Piece(b"ab\nab\n\xffc")],
+        limit: 262_144,
+        answers: &[(0, Ok("ab\n")), (0, Ok("ab\n")), (0, NO_TEXT)],
+        stalls: 0,
+    },
+    LinesRow {
+        marks: &[Fault],
+        limit: 3,
+        answers: &[(0, FAILED)],
+        stalls: 0,
+    },
+    LinesRow {
+        marks: &[Fault],
+        limit: 5,
+        answers: &[(0, FAILED)],
+        stalls: 0,
+    },
+    LinesRow {
+        marks: &[Piece(b"c"), Piece(b"\xffc")],
+        limit: 3,
+        answers: &[(0, NO_TEXT)],
+        stalls: 0,
+    },
+    LinesRow {
+        marks: &[Stall, Piece(b"\r\n\n"), Stall, Piece(b"\nc\xff"), Stall],
+        limit: 5,
+        answers: &[(1, Ok("\r\n")), (1, Ok("\n")), (2, Ok("\n")), (3, NO_TEXT)],
+        stalls: 3,
+    },
+    LinesRow {
+        marks: &[Stall, Piece(b"|\n|ab\xff"), Stall],
+        limit: 262_144,
+        answers: &[(1, Ok("|\n")), (2, NO_TEXT)],
+        stalls: 2,
+    },
+    LinesRow {
+        marks: &[
+            Stall,
+            Piece(b"\xff"),
+            Stall,
+            Piece(b"\r"),
+            Stall,
+            Piece(b"\n"),
+            Stall,
+            Piece(b"a"),
+            Stall,
+            Piece(b"b"),
+            Stall,
+            Stall,
+        ],
+        limit: 5,
+        answers: &[(3, NO_TEXT)],
+        stalls: 3,
+    },
+    LinesRow {
+        marks: &[Piece(b"\xff"), Stall],
+        limit: 3,
+        answers: &[(1, NO_TEXT)],
+        stalls: 1,
+    },
+];
+
+/// Bodies that end at a line above the limit, in three parts.
+pub(crate) const FIRST_TOO_LONG: &[LinesRow] = &[
+    LinesRow {
+        marks: &[Stall, Stall, Piece(b"line")],
+        limit: 2,
+        answers: &[(2, TOO_LONG)],
+        stalls: 2,
+    },
+    LinesRow {
+        marks: &[
+            Stall,
+            Stall,
+            Piece(b"\nlineab\r\n\n\xc3\xafa"),
+            Stall,
+            Piece(b"b\n"),
+            Stall,
+        ],
+        limit: 1,
+        answers: &[(2, Ok("\n")), (2, TOO_LONG)],
+        stalls: 2,
     },
     LinesRow {
         marks: &[Piece(b"\nc")],
@@ -123,12 +361,6 @@ pub(crate) const LINES: &[LinesRow] = &[
         stalls: 1,
     },
     LinesRow {
-        marks: &[Stall],
-        limit: 3,
-        answers: &[],
-        stalls: 1,
-    },
-    LinesRow {
         marks: &[Piece(b"ab\nline\r\nlineab\xc3"), Piece(b"\xaf")],
         limit: 5,
         answers: &[(0, Ok("ab\n")), (0, TOO_LONG)],
@@ -138,23 +370,6 @@ pub(crate) const LINES: &[LinesRow] = &[
         marks: &[Piece(b"\n\nline")],
         limit: 2,
         answers: &[(0, Ok("\n")), (0, Ok("\n")), (0, TOO_LONG)],
-        stalls: 0,
-    },
-    LinesRow {
-        marks: &[Piece(b"\r\n\r\nline"), Piece(b"ab\n\xff|\xff"), Fault],
-        limit: 262_144,
-        answers: &[
-            (0, Ok("\r\n")),
-            (0, Ok("\r\n")),
-            (0, Ok("lineab\n")),
-            (0, FAILED),
-        ],
-        stalls: 0,
-    },
-    LinesRow {
-        marks: &[Piece(b"line\n|c|\xc3\xaf\xff")],
-        limit: 262_144,
-        answers: &[(0, Ok("line\n")), (0, NO_TEXT)],
         stalls: 0,
     },
     LinesRow {
@@ -170,12 +385,6 @@ pub(crate) const LINES: &[LinesRow] = &[
         stalls: 1,
     },
     LinesRow {
-        marks: &[Piece(b"line\n\xffline\nlinec\xc3\xaf")],
-        limit: 262_144,
-        answers: &[(0, Ok("line\n")), (0, NO_TEXT)],
-        stalls: 0,
-    },
-    LinesRow {
         marks: &[
             Piece(b"ab\xc3"),
             Piece(b"\xaf\xc3"),
@@ -187,54 +396,16 @@ pub(crate) const LINES: &[LinesRow] = &[
         stalls: 0,
     },
     LinesRow {
-        marks: &[],
-        limit: 1,
-        answers: &[],
-        stalls: 0,
-    },
-    LinesRow {
         marks: &[Stall, Piece(b"\xffabc\r\n"), Stall],
         limit: 3,
         answers: &[(1, TOO_LONG)],
         stalls: 1,
     },
     LinesRow {
-        marks: &[Piece(b"a"), Piece(b"b")],
-        limit: 3,
-        answers: &[(0, Ok("ab"))],
-        stalls: 0,
-    },
-    LinesRow {
         marks: &[Stall, Stall, Piece(b"c\ncab\n\n")],
         limit: 2,
         answers: &[(2, Ok("c\n")), (2, TOO_LONG)],
         stalls: 2,
-    },
-    LinesRow {
-        marks: &[],
-        limit: 0,
-        answers: &[],
-        stalls: 0,
-    },
-    LinesRow {
-        marks: &[
-            Stall,
-            Piece(b"\xc3"),
-            Stall,
-            Piece(b"\xaf"),
-            Stall,
-            Stall,
-            Piece(b"|"),
-            Stall,
-            Piece(b"\r"),
-            Stall,
-            Stall,
-            Piece(b"\n"),
-            Stall,
-        ],
-        limit: 5,
-        answers: &[(7, Ok("ï|\r\n"))],
-        stalls: 8,
     },
     LinesRow {
         marks: &[
@@ -252,18 +423,10 @@ pub(crate) const LINES: &[LinesRow] = &[
         answers: &[(1, TOO_LONG)],
         stalls: 1,
     },
-    LinesRow {
-        marks: &[Piece(b"|\r\n\xff\r\n")],
-        limit: 3,
-        answers: &[(0, Ok("|\r\n")), (0, NO_TEXT)],
-        stalls: 0,
-    },
-    LinesRow {
-        marks: &[Piece(b"|\xc3\xaf\xff\xff")],
-        limit: 5,
-        answers: &[(0, NO_TEXT)],
-        stalls: 0,
-    },
+];
+
+/// The second part.
+pub(crate) const SECOND_TOO_LONG: &[LinesRow] = &[
     LinesRow {
         marks: &[Stall, Piece(b"\n"), Stall, Piece(b"\xff"), Stall],
         limit: 0,
@@ -349,44 +512,6 @@ pub(crate) const LINES: &[LinesRow] = &[
         stalls: 3,
     },
     LinesRow {
-        marks: &[Piece(b"\xc3\xaf\r\nc"), Piece(b"\r"), Piece(b"\n"), Fault],
-        limit: 5,
-        answers: &[(0, Ok("ï\r\n")), (0, Ok("c\r\n")), (0, FAILED)],
-        stalls: 0,
-    },
-    LinesRow {
-        marks: &[Piece(b"ab\nab\n\xffc")],
-        limit: 262_144,
-        answers: &[(0, Ok("ab\n")), (0, Ok("ab\n")), (0, NO_TEXT)],
-        stalls: 0,
-    },
-    LinesRow {
-        marks: &[
-            Piece(b"|"),
-            Piece(b"c"),
-            Piece(b"\r"),
-            Piece(b"\n"),
-            Piece(b"a"),
-            Piece(b"b"),
-            Piece(b"\xc3"),
-            Piece(b"\xaf"),
-            Piece(b"\n"),
-            Piece(b"a"),
-            Piece(b"b"),
-            Piece(b"\r"),
-            Piece(b"\n"),
-        ],
-        limit: 5,
-        answers: &[(0, Ok("|c\r\n")), (0, Ok("abï\n")), (0, Ok("ab\r\n"))],
-        stalls: 0,
-    },
-    LinesRow {
-        marks: &[Fault],
-        limit: 3,
-        answers: &[(0, FAILED)],
-        stalls: 0,
-    },
-    LinesRow {
         marks: &[Piece(b"\r\n\nclineabline\xc3\xaf\xc3\xaf")],
         limit: 5,
         answers: &[(0, Ok("\r\n")), (0, Ok("\n")), (0, TOO_LONG)],
@@ -406,12 +531,6 @@ pub(crate) const LINES: &[LinesRow] = &[
         limit: 5,
         answers: &[(5, TOO_LONG)],
         stalls: 5,
-    },
-    LinesRow {
-        marks: &[Fault],
-        limit: 5,
-        answers: &[(0, FAILED)],
-        stalls: 0,
     },
     LinesRow {
         marks: &[
@@ -488,12 +607,6 @@ pub(crate) const LINES: &[LinesRow] = &[
         stalls: 0,
     },
     LinesRow {
-        marks: &[Piece(b"c"), Piece(b"\xffc")],
-        limit: 3,
-        answers: &[(0, NO_TEXT)],
-        stalls: 0,
-    },
-    LinesRow {
         marks: &[Piece(b"\n"), Piece(b"\r"), Piece(b"\n|\r"), Piece(b"\n\nc")],
         limit: 0,
         answers: &[(0, TOO_LONG)],
@@ -518,16 +631,14 @@ pub(crate) const LINES: &[LinesRow] = &[
         answers: &[(2, TOO_LONG)],
         stalls: 2,
     },
+];
+
+/// The third part.
+pub(crate) const THIRD_TOO_LONG: &[LinesRow] = &[
     LinesRow {
         marks: &[Piece(b"\r\n\xc3\xaf\xc3\xafcc")],
         limit: 0,
         answers: &[(0, TOO_LONG)],
-        stalls: 0,
-    },
-    LinesRow {
-        marks: &[Piece(b"c|ab")],
-        limit: 262_144,
-        answers: &[(0, Ok("c|ab"))],
         stalls: 0,
     },
     LinesRow {
@@ -537,21 +648,9 @@ pub(crate) const LINES: &[LinesRow] = &[
         stalls: 0,
     },
     LinesRow {
-        marks: &[],
-        limit: 262_144,
-        answers: &[],
-        stalls: 0,
-    },
-    LinesRow {
         marks: &[Piece(b"|ab\xffab")],
         limit: 1,
         answers: &[(0, TOO_LONG)],
-        stalls: 0,
-    },
-    LinesRow {
-        marks: &[Piece(b"\n\xc3\xafli"), Piece(b"ne|ab|c")],
-        limit: 262_144,
-        answers: &[(0, Ok("\n")), (0, Ok("ïline|ab|c"))],
         stalls: 0,
     },
     LinesRow {
@@ -607,18 +706,6 @@ pub(crate) const LINES: &[LinesRow] = &[
         stalls: 1,
     },
     LinesRow {
-        marks: &[Piece(b"\r\n")],
-        limit: 5,
-        answers: &[(0, Ok("\r\n"))],
-        stalls: 0,
-    },
-    LinesRow {
-        marks: &[Stall, Piece(b"\r\n\n"), Stall, Piece(b"\nc\xff"), Stall],
-        limit: 5,
-        answers: &[(1, Ok("\r\n")), (1, Ok("\n")), (2, Ok("\n")), (3, NO_TEXT)],
-        stalls: 3,
-    },
-    LinesRow {
         marks: &[
             Stall,
             Piece(b"\xff"),
@@ -668,12 +755,6 @@ pub(crate) const LINES: &[LinesRow] = &[
         stalls: 0,
     },
     LinesRow {
-        marks: &[Stall, Piece(b"|\n|ab\xff"), Stall],
-        limit: 262_144,
-        answers: &[(1, Ok("|\n")), (2, NO_TEXT)],
-        stalls: 2,
-    },
-    LinesRow {
         marks: &[Stall, Stall, Stall, Piece(b"\r"), Stall, Fault],
         limit: 0,
         answers: &[(3, TOO_LONG)],
@@ -686,80 +767,16 @@ pub(crate) const LINES: &[LinesRow] = &[
         stalls: 0,
     },
     LinesRow {
-        marks: &[Stall],
-        limit: 1,
-        answers: &[],
-        stalls: 1,
-    },
-    LinesRow {
         marks: &[Piece(b"|ab|c")],
         limit: 2,
         answers: &[(0, TOO_LONG)],
         stalls: 0,
     },
     LinesRow {
-        marks: &[Piece(b"\n\r\n")],
-        limit: 2,
-        answers: &[(0, Ok("\n")), (0, Ok("\r\n"))],
-        stalls: 0,
-    },
-    LinesRow {
-        marks: &[Stall, Stall],
-        limit: 262_144,
-        answers: &[],
-        stalls: 2,
-    },
-    LinesRow {
-        marks: &[Piece(b"\n")],
-        limit: 3,
-        answers: &[(0, Ok("\n"))],
-        stalls: 0,
-    },
-    LinesRow {
-        marks: &[
-            Stall,
-            Piece(b"\xff"),
-            Stall,
-            Piece(b"\r"),
-            Stall,
-            Piece(b"\n"),
-            Stall,
-            Piece(b"a"),
-            Stall,
-            Piece(b"b"),
-            Stall,
-            Stall,
-        ],
-        limit: 5,
-        answers: &[(3, NO_TEXT)],
-        stalls: 3,
-    },
-    LinesRow {
-        marks: &[
-            Stall,
-            Piece(b"a"),
-            Stall,
-            Piece(b"b"),
-            Stall,
-            Stall,
-            Piece(b"|"),
-            Stall,
-        ],
-        limit: 262_144,
-        answers: &[(5, Ok("ab|"))],
-        stalls: 5,
-    },
-    LinesRow {
         marks: &[Piece(b"|abcab\xff")],
         limit: 3,
         answers: &[(0, TOO_LONG)],
         stalls: 0,
-    },
-    LinesRow {
-        marks: &[Piece(b"\xff"), Stall],
-        limit: 3,
-        answers: &[(1, NO_TEXT)],
-        stalls: 1,
     },
     LinesRow {
         marks: &[Piece(b"|line"), Stall],

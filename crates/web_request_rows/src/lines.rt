@@ -1,7 +1,7 @@
 //! The lines of bodies, one by one.
 use crate::compare::assert_same;
 use crate::given_marks::{Given, GivenMarks};
-use crate::line_rows::LINES;
+use crate::line_rows::{FIRST_TOO_LONG, SECOND_TOO_LONG, THIRD_TOO_LONG, UNREADABLE, WHOLE};
 use crate::requests::request_of;
 use std::alloc::Global;
 use std::process::Abort;
@@ -93,7 +93,35 @@ fn assert_lines(rt: &impl Abort, alloc: Global, row: &LinesRow) {
 
 #[test]
 fn lines_are_answered_one_by_one(rt: HostRuntime) {
-    for row in LINES {
+    for row in WHOLE {
+        assert_lines(&rt, rt.alloc(), row);
+    }
+}
+
+#[test]
+fn lines_end_at_bad_text_and_at_a_fault(rt: HostRuntime) {
+    for row in UNREADABLE {
+        assert_lines(&rt, rt.alloc(), row);
+    }
+}
+
+#[test]
+fn lines_end_above_their_limit(rt: HostRuntime) {
+    for row in FIRST_TOO_LONG {
+        assert_lines(&rt, rt.alloc(), row);
+    }
+}
+
+#[test]
+fn lines_end_above_their_limit_in_the_second_part(rt: HostRuntime) {
+    for row in SECOND_TOO_LONG {
+        assert_lines(&rt, rt.alloc(), row);
+    }
+}
+
+#[test]
+fn lines_end_above_their_limit_in_the_third_part(rt: HostRuntime) {
+    for row in THIRD_TOO_LONG {
         assert_lines(&rt, rt.alloc(), row);
     }
 }

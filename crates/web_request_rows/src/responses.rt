@@ -36,41 +36,78 @@ fn the_parts_of_a_response_are_read_and_changed(rt: HostRuntime) {
     assert_same(&rt, response.status().as_u16(), 201);
 }
 
+/// Another response takes the place.
+fn assert_replaced(rt: &impl Abort, alloc: Global) {
+    let other = HttpResponse::new(alloc, StatusCode::NO_CONTENT);
+    let response = answered(rt, alloc).into_response(other);
+    assert_same(rt, response.status().as_u16(), 204);
+}
+
+/// The reply to an error takes the place.
+fn assert_error_response(rt: &impl Abort, alloc: Global) {
+    let error = Error::from(PayloadError::Overflow);
+    let response = answered(rt, alloc)
+        .error_response(alloc, error)
+        .expect(rt, "memory");
+    assert_same(rt, response.status().as_u16(), 413);
+}
+
+/// An error becomes the response to a request.
+fn assert_from_err(rt: &impl Abort, alloc: Global) {
+    let error = Error::from(PayloadError::Io);
+    let request: HttpRequest<Site> = request_of(rt, alloc, "/a", &[]);
+    let response = ServiceResponse::from_err(alloc, error, request).expect(rt, "memory");
+    assert_same(rt, response.status().as_u16(), 400);
+    assert_same(rt, response.request().path(), "/a");
+}
+
 #[test]
 fn another_response_takes_the_place(rt: HostRuntime) {
     let alloc = rt.alloc();
-    let other = HttpResponse::new(alloc, StatusCode::NO_CONTENT);
-    let response = answered(&rt, alloc).into_response(other);
-    assert_same(&rt, response.status().as_u16(), 204);
-    let error = Error::from(PayloadError::Overflow);
-    let response = answered(&rt, alloc)
-        .error_response(alloc, error)
-        .expect(&rt, "memory");
-    assert_same(&rt, response.status().as_u16(), 413);
-    let error = Error::from(PayloadError::Io);
-    let request: HttpRequest<Site> = request_of(&rt, alloc, "/a", &[]);
-    let response = ServiceResponse::from_err(alloc, error, request).expect(&rt, "memory");
-    assert_same(&rt, response.status().as_u16(), 400);
-    assert_same(&rt, response.request().path(), "/a");
+    assert_replaced(&rt, alloc);
+    assert_error_response(&rt, alloc);
+    assert_from_err(&rt, alloc);
+}
+
+/// A function maps the head and the body.
+fn assert_mapped(rt: &impl Abort, alloc: Global) {
+    let mapped = answered(rt, alloc).map_body(|head: &mut ResponseHead, body: Bytes| -> usize {
+        head.status = StatusCode::CREATED;
+        body.len()
+    });
+    assert_same(rt, mapped.status().as_u16(), 201);
+    assert_same(rt, mapped.into_body(), 2);
+}
+
+fn assert_left(rt: &impl Abort, alloc: Global) {
+    let left = answered(rt, alloc).map_into_left_body::<WholeBody>();
+    assert_same(rt, matches!(left.into_body(), EitherBody::Left(_)), true);
+}
+
+fn assert_right(rt: &impl Abort, alloc: Global) {
+    let right = answered(rt, alloc).map_into_right_body::<WholeBody>();
+    assert_same(rt, matches!(right.into_body(), EitherBody::Right(_)), true);
+}
+
+fn assert_boxed(rt: &impl Abort, alloc: Global) {
+    let boxed = answered(rt, alloc)
+        .map_into_boxed_body(alloc)
+        .expect(rt, "memory");
+    assert_same(rt, matches!(boxed.into_body(), BoxBody::Bytes(_)), true);
+}
+
+/// The response stays where the request is let go.
+fn assert_response_alone(rt: &impl Abort, alloc: Global) {
+    let response = HttpResponse::from(answered(rt, alloc));
+    assert_same(rt, response.body().len(), 2);
 }
 
 #[test]
 fn bodies_are_mapped(rt: HostRuntime) {
     let alloc = rt.alloc();
-    let mapped = answered(&rt, alloc).map_body(|head: &mut ResponseHead, body: Bytes| -> usize {
-        head.status = StatusCode::CREATED;
-        body.len()
-    });
-    assert_same(&rt, mapped.status().as_u16(), 201);
-    assert_same(&rt, mapped.into_body(), 2);
-    let left = answered(&rt, alloc).map_into_left_body::<WholeBody>();
-    assert_same(&rt, matches!(left.into_body(), EitherBody::Left(_)), true);
-    let right = answered(&rt, alloc).map_into_right_body::<WholeBody>();
-    assert_same(&rt, matches!(right.into_body(), EitherBody::Right(_)), true);
-    let boxed = answered(&rt, alloc)
-        .map_into_boxed_body(alloc)
-        .expect(&rt, "memory");
-    assert_same(&rt, matches!(boxed.into_body(), BoxBody::Bytes(_)), true);
-    let response = HttpResponse::from(answered(&rt, alloc));
-    assert_same(&rt, response.body().len(), 2);
+    assert_mapped(&rt, alloc);
+    assert_left(&rt, alloc);
+    assert_right(&rt, alloc);
+    assert_boxed(&rt, alloc);
+    assert_response_alone(&rt, alloc);
 }

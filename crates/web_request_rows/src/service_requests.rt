@@ -8,10 +8,10 @@ use std::alloc::Global;
 use std::process::Abort;
 use std::rc::Rc;
 use web_body::{Marks, Payload, PayloadError, Poll, Step, TakePayload};
-use web_reply::{Error, HttpResponse};
+use web_reply::{Error, HttpResponse, WholeBody};
 use web_request::cookies::Cookie;
 use web_request::{HttpMessage, HttpRequest, NoData};
-use web_service::ServiceRequest;
+use web_service::{ServiceRequest, ServiceResponse};
 
 /// A request for `/a?b=c` with the body `hello`.
 fn service(rt: &impl Abort, alloc: Global) -> ServiceRequest<Site> {
@@ -79,26 +79,48 @@ fn what_is_computed_of_a_request_is_read(rt: HostRuntime) {
     assert_same(&rt, found.is_none(), true);
 }
 
+/// Puts a Host into the head, from which the connection information is computed.
+fn set_host(rt: &impl Abort, alloc: Global, service: &mut ServiceRequest<Site>) {
+    let value = HeaderValue::from_static("i");
+    let headers = service.headers_mut().expect(rt, "memory");
+    headers.insert(HOST, value).expect(rt, "room");
+    let info = service.connection_info(alloc).expect(rt, "memory");
+    assert_same(rt, info.host(), "i");
+}
+
+fn set_extensions(rt: &impl Abort, service: &mut ServiceRequest<Site>) {
+    *service.extensions_mut() = Some(NoData);
+    assert_same(rt, service.extensions().is_some(), true);
+}
+
+fn add_container(rt: &impl Abort, alloc: Global, service: &mut ServiceRequest<Site>) {
+    let layer = Rc::new(alloc, NoData).expect(rt, "memory");
+    assert_same(rt, service.add_data_container(layer).is_ok(), true);
+}
+
+/// Takes the payload away, and puts another one there by the parts.
+fn set_payloads(rt: &impl Abort, alloc: Global, service: &mut ServiceRequest<Site>) {
+    service.set_payload(Payload::None);
+    assert_same(rt, is_stream(service.parts().1), false);
+    let (_, payload) = service.parts_mut();
+    *payload = payload_of(rt, alloc, b"ab");
+    assert_same(rt, is_stream(service.parts().1), true);
+}
+
+fn take_payload(rt: &impl Abort, service: &mut ServiceRequest<Site>) {
+    assert_same(rt, is_stream(&service.take_payload()), true);
+    assert_same(rt, is_stream(service.parts().1), false);
+}
+
 #[test]
 fn the_parts_of_a_request_are_changed(rt: HostRuntime) {
     let alloc = rt.alloc();
     let mut service = service(&rt, alloc);
-    let value = HeaderValue::from_static("i");
-    let headers = service.headers_mut().expect(&rt, "memory");
-    headers.insert(HOST, value).expect(&rt, "room");
-    let info = service.connection_info(alloc).expect(&rt, "memory");
-    assert_same(&rt, info.host(), "i");
-    *service.extensions_mut() = Some(NoData);
-    assert_same(&rt, service.extensions().is_some(), true);
-    let layer = Rc::new(alloc, NoData).expect(&rt, "memory");
-    assert_same(&rt, service.add_data_container(layer).is_ok(), true);
-    service.set_payload(Payload::None);
-    assert_same(&rt, is_stream(service.parts().1), false);
-    let (_, payload) = service.parts_mut();
-    *payload = payload_of(&rt, alloc, b"ab");
-    assert_same(&rt, is_stream(service.parts().1), true);
-    assert_same(&rt, is_stream(&service.take_payload()), true);
-    assert_same(&rt, is_stream(service.parts().1), false);
+    set_host(&rt, alloc, &mut service);
+    set_extensions(&rt, &mut service);
+    add_container(&rt, alloc, &mut service);
+    set_payloads(&rt, alloc, &mut service);
+    take_payload(&rt, &mut service);
 }
 
 #[test]
@@ -131,17 +153,25 @@ fn an_argument_takes_the_payload(rt: HostRuntime) {
     assert_same(&rt, empty.len(), 0);
 }
 
+/// Compares the path of the request, which stays, and the status of the response.
+fn assert_answered(rt: &impl Abort, answered: ServiceResponse<Site, WholeBody>, status: u16) {
+    assert_same(rt, answered.request().path(), "/a");
+    assert_same(rt, answered.status().as_u16(), status);
+}
+
+fn answer_with_response(rt: &impl Abort, alloc: Global) {
+    let response = HttpResponse::new(alloc, StatusCode::CREATED);
+    assert_answered(rt, service(rt, alloc).into_response(response), 201);
+}
+
+fn answer_with_error(rt: &impl Abort, alloc: Global) {
+    let error = Error::from(PayloadError::Overflow);
+    let answered = service(rt, alloc).error_response(alloc, error);
+    assert_answered(rt, answered.expect(rt, "memory"), 413);
+}
+
 #[test]
 fn a_request_becomes_its_response(rt: HostRuntime) {
-    let alloc = rt.alloc();
-    let response = HttpResponse::new(alloc, StatusCode::CREATED);
-    let answered = service(&rt, alloc).into_response(response);
-    assert_same(&rt, answered.request().path(), "/a");
-    assert_same(&rt, answered.status().as_u16(), 201);
-    let error = Error::from(PayloadError::Overflow);
-    let answered = service(&rt, alloc)
-        .error_response(alloc, error)
-        .expect(&rt, "memory");
-    assert_same(&rt, answered.request().path(), "/a");
-    assert_same(&rt, answered.status().as_u16(), 413);
+    answer_with_response(&rt, rt.alloc());
+    answer_with_error(&rt, rt.alloc());
 }
