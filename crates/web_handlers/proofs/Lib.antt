@@ -8,4 +8,3 @@ mod HelloLemmas
 mod ListingLemmas
 mod RelayLemmas
 mod ToldBodiesLemmas
-mod UntoldArgumentsLemmas

@@ -1,4 +1,4 @@
-//! Handlers as a user of the library writes them, and tests of arguments, handlers and plans.
+//! Handlers as a user of the library writes them.
 //!
 //! Each file is an example by itself: one request from end to end (`hello`), a handler that keeps
 //! its calls (`echo`), a future of one's own (`second_poll`), an argument of one's own
@@ -21,8 +21,6 @@ mod request_path;
 mod second_poll;
 mod served_host;
 mod serving;
-#[cfg(test)]
-mod tests;
 
 pub use booking::Booking;
 pub use booking_handlers::{serve_form_bookings, serve_json_bookings};

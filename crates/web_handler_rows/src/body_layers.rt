@@ -1,7 +1,7 @@
 //! Bodies as arguments, under the configurations of layers.
-use crate::tests::bodies::value_of;
-use crate::tests::compare::assert_same;
-use crate::tests::requests::{config, head};
+use crate::bodies::value_of;
+use crate::compare::assert_same;
+use crate::requests::{config, head};
 use bytes::Bytes;
 use std::alloc::Global;
 use std::process::Abort;

@@ -1,17 +1,15 @@
 //! Bookings that are read from JSON bodies and from forms, and written as both.
 ghost use Rattle.std.specs.Prelude.{◌≡◌};
 
-use crate::booking_handlers::{serve_form_bookings, serve_json_bookings};
-use crate::booking_layer::{BookingLayer, Bookings};
-use crate::serving::Outcomes;
-use crate::tests::compare::assert_same;
-use crate::tests::requests::{config, head};
+use crate::compare::assert_same;
+use crate::requests::{config, head};
 use bytes::Bytes;
 use http_header::{CONTENT_TYPE, HeaderValue};
 use std::alloc::Global;
 use std::process::Abort;
 use std::rc::Rc;
 use web_body::Payload;
+use web_handlers::{BookingLayer, Bookings, Outcomes, serve_form_bookings, serve_json_bookings};
 use web_reply::BoxBody;
 use web_request::RequestHead;
 use web_worker::{Exchange, Outcome, Worker};

@@ -1,8 +1,8 @@
 //! The order in which sources are asked and handlers are called.
 ghost use Rattle.std.specs.Prelude.{◌≡◌, ◌<◌, length, ⊤};
 
-use crate::tests::compare::assert_same;
-use crate::tests::requests::{config, head};
+use crate::compare::assert_same;
+use crate::requests::{config, head};
 use bytes::Bytes;
 use std::alloc::Global;
 use std::cell::Cell;

@@ -1,16 +1,15 @@
 //! Bodies that are handed on unread.
 ghost use Rattle.std.specs.Prelude.{◌≡◌};
 
-use crate::relay::serve_relay;
-use crate::serving::Outcomes;
-use crate::tests::bodies::hello;
-use crate::tests::compare::assert_same;
-use crate::tests::requests::{Site, config, head};
+use crate::bodies::hello;
+use crate::compare::assert_same;
+use crate::requests::{Site, config, head};
 use http_header::{ACCEPT, CONTENT_ENCODING, CONTENT_TYPE, HeaderMap, HeaderName, HeaderValue};
 use std::alloc::Global;
 use std::process::Abort;
 use std::rc::Rc;
 use web_body::{Marks, Payload};
+use web_handlers::{Outcomes, serve_relay};
 use web_reply::{BoxBody, HttpResponse};
 use web_request::{App, NoData, Turn};
 use web_worker::{Exchange, Outcome, Worker};

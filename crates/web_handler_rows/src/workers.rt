@@ -1,19 +1,16 @@
 //! Workers, their flights and their plans.
 ghost use Rattle.std.specs.Prelude.{◌≡◌, ◌<◌, length};
 
-use crate::echo::Echo;
-use crate::flight_rounds::poll_rounds;
-use crate::hello::serve_hello;
-use crate::serving::{serve_by_closure, serve_echo, serve_greeting};
-use crate::tests::bodies::{failing, hello};
-use crate::tests::compare::{assert_holds, assert_same};
-use crate::tests::requests::{Site, config, head};
+use crate::bodies::{failing, hello};
+use crate::compare::{assert_holds, assert_same};
+use crate::requests::{Site, config, head};
 use bytes::Bytes;
 use std::alloc::Global;
 use std::process::Abort;
 use std::rc::Rc;
 use web_body::{Marks, Payload};
 use web_extract::FromRequest;
+use web_handlers::{Echo, poll_rounds, serve_by_closure, serve_echo, serve_greeting, serve_hello};
 use web_reply::{BoxBody, Responder};
 use web_request::{App, NoData};
 use web_worker::{Exchange, Flight, Handler, Outcome, Worker, poll_one, serve_all};

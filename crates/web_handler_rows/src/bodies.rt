@@ -1,6 +1,6 @@
 //! Bodies of requests as arguments.
-use crate::tests::compare::{assert_holds, assert_same};
-use crate::tests::requests::{Site, new_request};
+use crate::compare::{assert_holds, assert_same};
+use crate::requests::{Site, new_request};
 use bytes::Bytes;
 use std::alloc::Global;
 use std::process::Abort;

@@ -1,13 +1,13 @@
 //! Arguments, alone and in lists.
-use crate::request_path::RequestPath;
-use crate::tests::bodies::{argument_alone, argument_of, hello, value_of};
-use crate::tests::compare::assert_same;
-use crate::tests::requests::{Site, new_request};
+use crate::bodies::{argument_alone, argument_of, hello, value_of};
+use crate::compare::assert_same;
+use crate::requests::{Site, new_request};
 use bytes::Bytes;
 use std::alloc::Global;
 use std::process::Abort;
 use web_body::{Marks, Payload};
 use web_extract::{EitherFuture, Error, FromRequest, MapInto, Never, Ready, from_request_into};
+use web_handlers::RequestPath;
 use web_request::Mark;
 
 /// `hello` with a stall.
