@@ -1,6 +1,6 @@
 //! Scripts of a load, drawn from a seed, and the summary of serving one.
 use crate::serving::{Flight, Stage};
-use crate::text::{number, put_number};
+use crate::text::{number, put_line, put_number};
 use std::collections::BTreeMap;
 
 /// The most exchanges of a load.
@@ -85,11 +85,4 @@ pub fn summary(script_len: usize, flights: &[Flight<'_>], made: u64) -> Vec<u8> 
     }
     put_line(&mut out, b"made ", made);
     out
-}
-
-/// A word with a space, and a number.
-fn put_line(out: &mut Vec<u8>, word: &[u8], number: u64) {
-    out.extend_from_slice(word);
-    put_number(out, number);
-    out.push(b'\n');
 }

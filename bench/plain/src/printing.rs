@@ -2,7 +2,7 @@
 use crate::reply::{Body, Reply};
 use crate::script::Mark;
 use crate::serving::{Flight, Stage};
-use crate::text::{put_hex, put_number};
+use crate::text::{put_hex, put_line};
 
 /// The replies in the order of the exchanges, then the pool, which keeps nothing, and how many records were made.
 pub fn printed(flights: &mut [Flight<'_>], made: u64) -> Vec<u8> {
@@ -17,13 +17,6 @@ pub fn printed(flights: &mut [Flight<'_>], made: u64) -> Vec<u8> {
     out.extend_from_slice(b"pool\n");
     put_line(&mut out, b"made ", made);
     out
-}
-
-/// A word with a space, and a number.
-fn put_line(out: &mut Vec<u8>, word: &[u8], number: u64) {
-    out.extend_from_slice(word);
-    put_number(out, number);
-    out.push(b'\n');
 }
 
 fn put_reply(out: &mut Vec<u8>, reply: &mut Reply<'_>) {

@@ -96,6 +96,13 @@ pub fn put_number(out: &mut Vec<u8>, number: u64) {
     out.extend_from_slice(&digits[start..]);
 }
 
+/// Adds a word, a number behind it, and the end of the line.
+pub fn put_line(out: &mut Vec<u8>, word: &[u8], number: u64) {
+    out.extend_from_slice(word);
+    put_number(out, number);
+    out.push(b'\n');
+}
+
 fn is_blank(byte: u8) -> bool {
     matches!(byte, b' ' | b'\t')
 }
