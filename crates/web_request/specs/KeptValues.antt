@@ -9,15 +9,16 @@ use Rattle.http_header.specs.HeaderMap.{get_all}
 use Rattle.web_cookies.specs.declared.cookie_parse_error.CookieParseError.{CookieParseError}
 use Rattle.web_cookies.specs.CookieFields.{CookieFields}
 use Rattle.web_cookies.specs.HeaderCookies.{cookies_said}
-use Rattle.web_request.specs.declared.kept_values.KeptValues.{KeptValues}
+use Rattle.web_request.specs.declared.kept_values.ComputedValues.{ComputedValues}
 use Rattle.web_request.specs.Connections.{Connection, connection_of}
-use Rattle.web_request.specs.Request.{Kept, Record}
+use Rattle.web_request.specs.Request.{Kept, Record, nothing_kept}
 
-abbrev pub kept_view : KeptValues → Kept
-kept_view k = record {
-  connection = k.connection;
-  decoded = option_map (λ cookies. cookies.items) k.decoded;
-  raw = option_map (λ cookies. cookies.items) k.raw;
+abbrev pub kept_view : Option ComputedValues → Kept
+kept_view None = nothing_kept
+kept_view (Some computed) = record {
+  connection = computed.connection;
+  decoded = option_map (λ cookies. cookies.items) computed.decoded;
+  raw = option_map (λ cookies. cookies.items) computed.raw;
 }
 
 abbrev pub CookiesSaid : Type 0

@@ -25,8 +25,9 @@ impl<A: App> HttpRequest<A> {
         ensures ok { OnOk result (self.new ≡ with_connection self.old) }
         ensures err { OnErr result (self.new ≡ self.old) }
     {
-        if self.kept.connection.is_none() {
-            self.kept.connection = Some(ConnectionInfo::new(alloc, &self.head, &self.config)?);
+        if self.kept.connection().is_none() {
+            let info = ConnectionInfo::new(alloc, &self.head, &self.config)?;
+            self.kept.keep_connection(alloc, info)?;
         }
         Ok(())
     }
@@ -34,7 +35,7 @@ impl<A: App> HttpRequest<A> {
     fn kept_connection(&self) -> Option<&ConnectionInfo>
         ensures { option_copied result ≡ self.now.kept.connection }
     {
-        self.kept.connection.as_ref()
+        self.kept.connection()
     }
 
     /// Where the request came from and was sent to, by its head at the first call of this or of
@@ -64,14 +65,14 @@ impl<A: App> HttpRequest<A> {
         ensures value { ReadsUrl result (url_said self.old) }
         ensures after { KeepsUrlConnection self.old result self.new }
     {
-        if let Some(info) = &self.kept.connection {
+        if let Some(info) = self.kept.connection() {
             return read_full_url(alloc, info, &self.head.uri);
         }
         let info = ConnectionInfo::new(alloc, &self.head, &self.config)?;
         match read_full_url(alloc, &info, &self.head.uri) {
             Err(Fail::NoMemory) => Err(Fail::NoMemory),
             result => {
-                self.kept.connection = Some(info);
+                self.kept.keep_connection(alloc, info)?;
                 result
             }
         }
@@ -85,8 +86,9 @@ impl<A: App> HttpRequest<A> {
         } }
         ensures err { OnErr result (self.new ≡ self.old) }
     {
-        if self.kept.decoded.is_none() {
-            self.kept.decoded = Some(decoded_cookies(alloc, &self.head.headers)?);
+        if self.kept.decoded().is_none() {
+            let cookies = decoded_cookies(alloc, &self.head.headers)?;
+            self.kept.keep_decoded(alloc, cookies)?;
         }
         Ok(())
     }
@@ -94,10 +96,7 @@ impl<A: App> HttpRequest<A> {
     fn kept_cookies(&self) -> Option<&[Cookie]>
         ensures { option_copied result ≡ self.now.kept.decoded }
     {
-        match &self.kept.decoded {
-            Some(cookies) => Some(cookies.as_slice()),
-            None => None,
-        }
+        self.kept.decoded()
     }
 
     /// The cookies of the request, with names and values percent-decoded, in their order, by its
@@ -129,13 +128,13 @@ impl<A: App> HttpRequest<A> {
         ensures after { OnOk result (self.new ≡ with_cookies (known_cookies self.old) self.old) }
         ensures err { OnErr result (self.new ≡ self.old) }
     {
-        if let Some(cookies) = &self.kept.decoded {
-            return cookie_named(alloc, cookies.as_slice(), name);
+        if let Some(cookies) = self.kept.decoded() {
+            return cookie_named(alloc, cookies, name);
         }
         match decoded_cookies(alloc, &self.head.headers) {
             Ok(cookies) => {
                 let found = cookie_named(alloc, cookies.as_slice(), name)?;
-                self.kept.decoded = Some(cookies);
+                self.kept.keep_decoded(alloc, cookies)?;
                 Ok(found)
             }
             Err(Fail::NoMemory) => Err(NoMemory),
@@ -151,8 +150,9 @@ impl<A: App> HttpRequest<A> {
         } }
         ensures err { OnErr result (self.new ≡ self.old) }
     {
-        if self.kept.raw.is_none() {
-            self.kept.raw = Some(raw_cookies(alloc, &self.head.headers)?);
+        if self.kept.raw().is_none() {
+            let cookies = raw_cookies(alloc, &self.head.headers)?;
+            self.kept.keep_raw(alloc, cookies)?;
         }
         Ok(())
     }
@@ -160,10 +160,7 @@ impl<A: App> HttpRequest<A> {
     fn kept_raw_cookies(&self) -> Option<&[Cookie]>
         ensures { option_copied result ≡ self.now.kept.raw }
     {
-        match &self.kept.raw {
-            Some(cookies) => Some(cookies.as_slice()),
-            None => None,
-        }
+        self.kept.raw()
     }
 
     /// As `cookies`, with names and values as they are. The two lists are kept apart.
@@ -189,13 +186,13 @@ impl<A: App> HttpRequest<A> {
             (self.new ≡ with_raw_cookies (known_raw_cookies self.old) self.old) }
         ensures err { OnErr result (self.new ≡ self.old) }
     {
-        if let Some(cookies) = &self.kept.raw {
-            return cookie_named(alloc, cookies.as_slice(), name);
+        if let Some(cookies) = self.kept.raw() {
+            return cookie_named(alloc, cookies, name);
         }
         match raw_cookies(alloc, &self.head.headers) {
             Ok(cookies) => {
                 let found = cookie_named(alloc, cookies.as_slice(), name)?;
-                self.kept.raw = Some(cookies);
+                self.kept.keep_raw(alloc, cookies)?;
                 Ok(found)
             }
             Err(Fail::NoMemory) => Err(NoMemory),

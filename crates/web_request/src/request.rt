@@ -54,8 +54,6 @@ impl<A: App> Model for HttpRequest<A> {
 
     ghost Value = { Record A.Layer A.Local A.Conn };
 
-    ghost use Rattle.web_request.specs.KeptValues.{kept_view};
-
     ghost view = { λ r. record {
       request = record {
         head = head_view r.head.value;
@@ -66,7 +64,7 @@ impl<A: App> Model for HttpRequest<A> {
         config = r.config.value;
       };
       serial = r.serial;
-      kept = kept_view r.kept;
+      kept = r.kept;
     } };
 
     ghost invariant = { λ r. AllReady A.Layer.ready (values_behind r.root r.layers.items) };
