@@ -1,66 +1,128 @@
 //! Reading the header Forwarded.
 ghost use Rattle.std.specs.Prelude.{◌≡◌, codes, option_copied};
 ghost use Rattle.std.specs.List.{slice_split};
-ghost use Rattle.web_connection.specs.ForwardedPairs.{first_said, is_comma, named_value, pairs_of};
-ghost use Rattle.web_connection.specs.ForwardedPairs.{unquoted, unquoted_end, unquoted_front};
-ghost use Rattle.web_connection.specs.ForwardedPairs.{value_of_pair};
-ghost use Rattle.web_connection.specs.Origins.{forwarded_value};
+ghost use Rattle.std.specs.Option.{option_or};
+ghost use Rattle.http_header.specs.HeaderMap.{get_all};
+ghost use Rattle.web_connection.specs.ForwardedPairs.{forwarded_pairs, is_comma, nothing_said};
+ghost use Rattle.web_connection.specs.ForwardedPairs.{or_said, pairs_of, said_by, said_by_pair};
+ghost use Rattle.web_connection.specs.ForwardedPairs.{said_under, unquoted, unquoted_end};
+ghost use Rattle.web_connection.specs.ForwardedPairs.{unquoted_front, value_under};
 
 use crate::fields::header_text;
 use http_header::{FORWARDED, HeaderMap, HeaderValue};
+use std::marker::Model;
 use web_texts::{cut_at, first_part, trim};
 
-/// The value of the first pair of this name in the header Forwarded (RFC 7239, section 4).
-pub fn forwarded_value<'a>(headers: &'a HeaderMap<HeaderValue>, name: &str) -> Option<&'a str>
-    ensures { option_copied result ≡ forwarded_value headers.now name.now }
-{
-    for value in headers.get_all(FORWARDED) {
-        if let Some(text) = header_text(value) {
-            if let Some(found) = value_in_text(name, text) {
-                return Some(found);
+/// What the header Forwarded says (RFC 7239, section 4): of each name the value of its first pair.
+#[derive(Drop)]
+pub struct Forwarded<'a> {
+    /// `for`: the node that sent the request to the first proxy.
+    pub client: Option<&'a str>,
+    /// `host`: the Host field as the proxy received it.
+    pub host: Option<&'a str>,
+    /// `proto`: the scheme of the request that the proxy received.
+    pub scheme: Option<&'a str>,
+}
+
+impl<'a> Model for Forwarded<'a> {
+    ghost use Rattle.std.specs.Prelude.{option_copied};
+    ghost use Rattle.web_connection.specs.ForwardedPairs.{ForwardedFields};
+
+    ghost Value = { ForwardedFields };
+
+    ghost view = { λ f. record {
+      client = option_copied f.client;
+      host = option_copied f.host;
+      scheme = option_copied f.scheme;
+    } };
+}
+
+impl<'a> Forwarded<'a> {
+    fn nothing() -> Forwarded<'a>
+        ensures { result ≡ nothing_said }
+    {
+        Forwarded {
+            client: None,
+            host: None,
+            scheme: None,
+        }
+    }
+
+    /// Reads the values of the header, in their order. One that is no header text is left out.
+    pub fn read(headers: &'a HeaderMap<HeaderValue>) -> Forwarded<'a>
+        ensures { result ≡ said_by (forwarded_pairs (get_all headers.now (codes "forwarded"))) }
+    {
+        let mut said = Forwarded::nothing();
+        for value in headers.get_all(FORWARDED) {
+            if let Some(text) = header_text(value) {
+                said = said.or_text(text);
+            }
+        }
+        said
+    }
+
+    /// What is said so far, else by a text of the header.
+    fn or_text(self, text: &'a str) -> Forwarded<'a>
+        ensures { result ≡ or_said self.entry (said_by (pairs_of text.now)) }
+    {
+        let mut said = self;
+        let mut rest = text;
+        'parts: loop {
+            let (part, behind) = first_part(rest, b';');
+            said = said.or_part(part);
+            match behind {
+                Some(behind) => rest = behind,
+                None => return said,
             }
         }
     }
-    None
-}
 
-/// The value of the first pair of this name in a text of the header.
-fn value_in_text<'a>(name: &str, text: &'a str) -> Option<&'a str>
-    ensures { option_copied result ≡ first_said (value_of_pair name.now) (pairs_of text.now) }
-{
-    let mut rest = text;
-    'parts: loop {
-        let (part, behind) = first_part(rest, b';');
-        if let Some(value) = value_in_part(name, part) {
-            return Some(value);
+    /// What is said so far, else by a part of the header without semicolons.
+    fn or_part(self, text: &'a str) -> Forwarded<'a>
+        ensures { result ≡ or_said self.entry (said_by (slice_split is_comma text.now)) }
+    {
+        let mut said = self;
+        let mut rest = text;
+        'pairs: loop {
+            let (pair, behind) = first_part(rest, b',');
+            said = said.or_pair(pair);
+            match behind {
+                Some(behind) => rest = behind,
+                None => return said,
+            }
         }
-        rest = behind?;
+    }
+
+    /// What is said so far, else by a pair.
+    fn or_pair(self, pair: &'a str) -> Forwarded<'a>
+        ensures { result ≡ or_said self.entry (said_by_pair pair.now) }
+    {
+        match cut_at(pair, b'=') {
+            Some((name, value)) => self.or_named(trim(name), value),
+            None => self,
+        }
+    }
+
+    fn or_named(self, name: &str, value: &'a str) -> Forwarded<'a>
+        ensures { result ≡ or_said self.entry (said_under name.now value.now) }
+    {
+        Forwarded {
+            client: or_named(self.client, "for", name, value),
+            host: or_named(self.host, "host", name, value),
+            scheme: or_named(self.scheme, "proto", name, value),
+        }
     }
 }
 
-/// The value of the first pair of this name in a part of the header without semicolons.
-fn value_in_part<'a>(name: &str, text: &'a str) -> Option<&'a str>
+/// What was found, else the value where it has this name.
+fn or_named<'a>(found: Option<&'a str>, wanted: &str, name: &str, value: &'a str) -> Option<&'a str>
     ensures { option_copied result
-        ≡ first_said (value_of_pair name.now) (slice_split is_comma text.now) }
+        ≡ option_or (option_copied found.entry) (value_under wanted.now name.now value.now) }
 {
-    let mut rest = text;
-    'pairs: loop {
-        let (pair, behind) = first_part(rest, b',');
-        if let Some(value) = value_of_pair(name, pair) {
-            return Some(value);
-        }
-        rest = behind?;
-    }
-}
-
-fn value_of_pair<'a>(name: &str, pair: &'a str) -> Option<&'a str>
-    ensures { option_copied result ≡ value_of_pair name.now pair.now }
-{
-    let (found, value) = cut_at(pair, b'=')?;
-    if trim(found).eq_ignore_ascii_case(name) {
-        Some(unquoted(trim(value)))
-    } else {
-        None
+    match found {
+        Some(text) => Some(text),
+        None if name.eq_ignore_ascii_case(wanted) => Some(unquoted(trim(value))),
+        None => None,
     }
 }
 

@@ -8,4 +8,4 @@ mod forwarded_pairs;
 mod origin;
 
 pub use fields::header_text;
-pub use origin::{client_address, host_name, scheme_name};
+pub use origin::{Origin, read_origin};

@@ -2,24 +2,66 @@
 ghost use Rattle.std.specs.Prelude.{◌≡◌, codes, option_copied};
 ghost use Rattle.std.specs.Option.{option_or};
 ghost use Rattle.web_connection.specs.HeaderTexts.{first_item, first_text};
-ghost use Rattle.web_connection.specs.Origins.{client_of, default_scheme, host_of, scheme_of};
+ghost use Rattle.web_connection.specs.Origins.{client_by, client_of, default_scheme, host_by};
+ghost use Rattle.web_connection.specs.Origins.{host_of, scheme_by, scheme_of};
 
 use crate::addresses::bare_address;
 use crate::fields::{first_item, first_text};
-use crate::forwarded_pairs::forwarded_value;
+use crate::forwarded_pairs::Forwarded;
 use http_header::{HOST, HeaderMap, HeaderName, HeaderValue};
 
-/// The scheme with which a client sent the request: `proto` of Forwarded; else X-Forwarded-Proto;
-/// else the scheme of the target; else `https` where the worker's connections are encrypted, and
-/// `http` where they are not.
-pub fn scheme_name<'a>(
+/// Where a request came from and was sent to, as its header fields say it.
+#[derive(Drop)]
+pub struct Origin<'a> {
+    /// The host to which the client sent the request.
+    pub host: &'a str,
+    /// The scheme with which the client sent the request.
+    pub scheme: &'a str,
+    /// The address of the client behind the proxies, as they say it.
+    pub client: Option<&'a str>,
+}
+
+/// Reads the fields that proxies set, Forwarded once and the others where it says nothing.
+///
+/// The host is `host` of Forwarded; else X-Forwarded-Host; else Host; else the authority of the
+/// target; else the host that the worker serves. The scheme is `proto` of Forwarded; else
+/// X-Forwarded-Proto; else the scheme of the target; else `https` where the worker's connections
+/// are encrypted, and `http` where they are not. The client is `for` of Forwarded without its port;
+/// else X-Forwarded-For, with the port that stands there.
+pub fn read_origin<'a>(
+    headers: &'a HeaderMap<HeaderValue>,
+    authority: Option<&'a str>,
+    scheme: Option<&'a str>,
+    host: &'a str,
+    secure: bool,
+) -> Origin<'a>
+    ensures host { result.host.now
+        ≡ host_of headers.now (option_copied authority.entry) host.now }
+    ensures scheme { result.scheme.now
+        ≡ scheme_of headers.now (option_copied scheme.entry) secure }
+    ensures client { option_copied result.client ≡ client_of headers.now }
+{
+    let said = Forwarded::read(headers);
+    Origin {
+        host: host_name(said.host, headers, authority, host),
+        scheme: scheme_name(said.scheme, headers, scheme, secure),
+        client: client_address(said.client, headers),
+    }
+}
+
+fn scheme_name<'a>(
+    forwarded: Option<&'a str>,
     headers: &'a HeaderMap<HeaderValue>,
     scheme: Option<&'a str>,
     secure: bool,
 ) -> &'a str
-    ensures { result.now ≡ scheme_of headers.now (option_copied scheme.entry) secure }
+    ensures { result.now ≡ scheme_by (option_copied forwarded.entry) headers.now
+        (option_copied scheme.entry) secure }
 {
-    let said = either(forwarded_value(headers, "proto"), forwarded_proto(headers));
+    let said = match forwarded {
+        Some(text) => Some(text),
+        None => forwarded_proto(headers),
+    };
     either(said, scheme).unwrap_or(default_scheme(secure))
 }
 
@@ -29,26 +71,31 @@ fn default_scheme(secure: bool) -> &'static str
     if secure { "https" } else { "http" }
 }
 
-/// The host to which a client sent the request: `host` of Forwarded; else X-Forwarded-Host; else
-/// Host; else the authority of the target; else the host that the worker serves.
-pub fn host_name<'a>(
+fn host_name<'a>(
+    forwarded: Option<&'a str>,
     headers: &'a HeaderMap<HeaderValue>,
     authority: Option<&'a str>,
     host: &'a str,
 ) -> &'a str
-    ensures { result.now ≡ host_of headers.now (option_copied authority.entry) host.now }
+    ensures { result.now ≡ host_by (option_copied forwarded.entry) headers.now
+        (option_copied authority.entry) host.now }
 {
-    let said = either(forwarded_value(headers, "host"), forwarded_host(headers));
-    let named = either(host_field(headers), authority);
-    either(said, named).unwrap_or(host)
+    if let Some(text) = forwarded {
+        return text;
+    }
+    if let Some(text) = forwarded_host(headers) {
+        return text;
+    }
+    either(host_field(headers), authority).unwrap_or(host)
 }
 
-/// The address of the client behind the proxies, as they say it: `for` of Forwarded without its
-/// port; else X-Forwarded-For, with the port that stands there.
-pub fn client_address(headers: &HeaderMap<HeaderValue>) -> Option<&str>
-    ensures { option_copied result ≡ client_of headers.now }
+fn client_address<'a>(
+    forwarded: Option<&'a str>,
+    headers: &'a HeaderMap<HeaderValue>,
+) -> Option<&'a str>
+    ensures { option_copied result ≡ client_by (option_copied forwarded.entry) headers.now }
 {
-    match forwarded_value(headers, "for") {
+    match forwarded {
         Some(node) => Some(bare_address(node)),
         None => forwarded_for(headers),
     }

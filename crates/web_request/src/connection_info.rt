@@ -12,8 +12,9 @@ use crate::config::AppConfig;
 use crate::head::RequestHead;
 use http_uri::Uri;
 use std::alloc::Global;
+use std::fmt::Write;
 use std::marker::Model;
-use web_connection::{client_address, host_name, scheme_name};
+use web_connection::read_origin;
 use web_texts::{Duplicate, NoMemory, Text};
 
 /// The host and the scheme with which a client sent a request, and the addresses that it came from.
@@ -53,13 +54,20 @@ impl ConnectionInfo {
         ensures { IfOk result (λ info. info ≡ connection_of (head_view head.now) config.now) }
     {
         let headers = &head.headers;
-        let host = host_name(headers, authority_text(&head.uri), config.host.as_str());
-        let scheme = scheme_name(headers, head.uri.scheme_str(), config.secure);
+        let uri = &head.uri;
+        let worker = config.host.as_str();
+        let origin = read_origin(
+            headers,
+            authority_text(uri),
+            uri.scheme_str(),
+            worker,
+            config.secure,
+        );
         Ok(ConnectionInfo {
-            host: Text::of(alloc, host)?,
-            scheme: Text::of(alloc, scheme)?,
+            host: Text::of(alloc, origin.host)?,
+            scheme: Text::of(alloc, origin.scheme)?,
             peer: peer_text(alloc, head.peer_addr)?,
-            client: client_text(alloc, client_address(headers))?,
+            client: client_text(alloc, origin.client)?,
         })
     }
 
@@ -116,10 +124,15 @@ fn authority_text(uri: &Uri) -> Option<&str>
     }
 }
 
+/// The length of the longest text of an address: eight groups of four digits, and colons between.
+const LONGEST_ADDRESS: usize = 39;
+
 fn ip_text(alloc: Global, ip: IpAddr) -> Result<Text, NoMemory>
     ensures { IfOk result (λ text. text ≡ ip_text ip) }
 {
-    Ok(Text::from(format!(in alloc; "{ip}")?))
+    let mut text = String::with_capacity(alloc, LONGEST_ADDRESS)?;
+    write!(text, "{ip}")?;
+    Ok(Text::from(text))
 }
 
 fn peer_text(alloc: Global, peer: Option<SocketAddr>) -> Result<Option<Text>, NoMemory>
