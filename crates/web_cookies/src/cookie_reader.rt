@@ -7,6 +7,7 @@ ghost use Rattle.web_cookies.specs.CookieReaders.{pair_said, utf8_text};
 use crate::attributes::read_attributes;
 use crate::cookie_parse_error::CookieParseError;
 use crate::response_cookie::Cookie;
+use memchr::memchr;
 use percent_encoding::{DecodeError, percent_decode};
 use std::alloc::Global;
 use web_texts::{Fail, Text, cut_at, trim};
@@ -89,7 +90,11 @@ fn decoded(alloc: Global, text: &str, encoded: bool) -> Result<Text, Fail<Cookie
 fn percent_decoded(alloc: Global, text: &str) -> Result<Text, Fail<CookieParseError>>
     ensures { Says result (utf8_text (percent_decode text.now)) }
 {
-    match percent_decode(text.as_bytes()).decode_utf8(alloc) {
+    let bytes = text.as_bytes();
+    if memchr(b'%', bytes).is_none() {
+        return Ok(Text::of(alloc, text)?);
+    }
+    match percent_decode(bytes).decode_utf8(alloc) {
         Ok(text) => Ok(Text::from(text.into_owned(alloc)?)),
         Err(DecodeError::Utf8(_)) => Err(Fail::Of(CookieParseError::Utf8)),
         Err(DecodeError::OutOfMemory) => Err(Fail::NoMemory),
