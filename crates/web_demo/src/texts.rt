@@ -7,6 +7,7 @@ ghost use Rattle.web_demo_layers.specs.Items.{item_text};
 
 use std::alloc::Global;
 use std::fmt;
+use std::fmt::Write;
 use web_arguments::Header;
 use web_demo_arguments::DataArguments;
 use web_demo_layers::Item;
@@ -17,6 +18,9 @@ use web_request::cookies::Cookie;
 use web_request::{ConnectionInfo, NoMemory};
 use web_texts::{Mime, Text};
 use web_types::{Either, Form, Json};
+
+/// Room for most lists of cookies and most origins, in bytes, so that their texts need not grow.
+const ROOM: usize = 128;
 
 /// The name and the number of an item.
 pub(crate) fn item_text(alloc: Global, item: &Item) -> Result<Text, NoMemory>
@@ -85,7 +89,12 @@ pub(crate) fn who_text(alloc: Global, info: &ConnectionInfo) -> Result<Text, NoM
     let scheme = info.scheme();
     let peer = info.peer_addr().unwrap_or("-");
     let client = info.realip_remote_addr().unwrap_or("-");
-    Ok(Text::from(format!(in alloc; "host={host} scheme={scheme} peer={peer} realip={client}")?))
+    let mut text = String::with_capacity(alloc, ROOM)?;
+    write!(
+        text,
+        "host={host} scheme={scheme} peer={peer} realip={client}"
+    )?;
+    Ok(Text::from(text))
 }
 
 fn push_pair(text: &mut String, cookie: &Cookie) -> Result<(), NoMemory>
@@ -134,7 +143,7 @@ fn push_pairs(text: &mut String, cookies: &[Cookie]) -> Result<(), NoMemory>
 pub(crate) fn cookies_text(alloc: Global, cookies: &[Cookie]) -> Result<Text, NoMemory>
     ensures { IfOk result (λ text. text ≡ cookies_text cookies.now) }
 {
-    let mut text = String::new(alloc);
+    let mut text = String::with_capacity(alloc, ROOM)?;
     push_pairs(&mut text, cookies)?;
     Ok(Text::from(text))
 }
