@@ -88,13 +88,17 @@ fn a_refused_url_keeps_connection_information(rt: HostRuntime) {
     assert_host(&rt, alloc, &mut request, "a b");
 }
 
+fn set_method(rt: &impl Abort, request: &mut HttpRequest<Site>) {
+    request.head_mut().expect(rt, "memory").method = Method::PUT;
+    assert_same(rt, request.method().as_str(), "PUT");
+}
+
 #[test]
 fn a_changed_head_is_not_that_of_a_duplicate(rt: HostRuntime) {
     let alloc = rt.alloc();
     let mut request: HttpRequest<Site> = request_of(&rt, alloc, "/", &[]);
     let copy = request.duplicate(alloc).expect(&rt, "memory");
-    request.head_mut().expect(&rt, "memory").method = Method::PUT;
-    assert_same(&rt, request.method().as_str(), "PUT");
+    set_method(&rt, &mut request);
     assert_same(&rt, copy.method().as_str(), "GET");
 }
 

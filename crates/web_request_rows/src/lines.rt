@@ -155,6 +155,19 @@ const REFUSED: &[(&[u8], ContentTypeError)] = &[
     ),
 ];
 
+/// The reader answers with this error, and then with nothing.
+fn assert_refused(
+    rt: &impl Abort,
+    alloc: Global,
+    reader: &mut Readlines<GivenMarks>,
+    error: ReadlinesError,
+) {
+    let (_, answer) = next_answer(rt, alloc, reader);
+    assert_answer(rt, &answer, Some(Err(error)));
+    let (_, answer) = next_answer(rt, alloc, reader);
+    assert_answer(rt, &answer, None);
+}
+
 #[test]
 fn a_refused_content_type_leaves_the_payload(rt: HostRuntime) {
     let alloc = rt.alloc();
@@ -165,13 +178,7 @@ fn a_refused_content_type_leaves_the_payload(rt: HostRuntime) {
             payload_with(&[Given::Piece(b"a\n")]),
         );
         let mut reader = Readlines::new(alloc, &mut service).expect(&rt, "memory");
-        let refusal = ReadlinesError::from(*error);
-        assert_answer(
-            &rt,
-            &next_answer(&rt, alloc, &mut reader).1,
-            Some(Err(refusal)),
-        );
-        assert_answer(&rt, &next_answer(&rt, alloc, &mut reader).1, None);
+        assert_refused(&rt, alloc, &mut reader, ReadlinesError::from(*error));
         assert_same(&rt, matches!(service.parts().1, Payload::Stream(_)), true);
     }
 }
@@ -202,13 +209,19 @@ const ERRORS: &[(ReadlinesError, u16, &str)] = &[
     ),
 ];
 
+fn assert_status(rt: &impl Abort, error: ReadlinesError, status: u16) {
+    assert_same(rt, Cause::Lines(error).status_code().as_u16(), status);
+}
+
+fn assert_text(rt: &impl Abort, alloc: Global, error: ReadlinesError, expected: &str) {
+    let text = Error::from(error).to_string(alloc).expect(rt, "memory");
+    assert_same(rt, text.as_str(), expected);
+}
+
 #[test]
 fn errors_have_their_status_and_text(rt: HostRuntime) {
-    let alloc = rt.alloc();
     for (error, status, expected) in ERRORS {
-        let cause = Cause::Lines(*error);
-        assert_same(&rt, cause.status_code().as_u16(), *status);
-        let text = Error::from(*error).to_string(alloc).expect(&rt, "memory");
-        assert_same(&rt, text.as_str(), *expected);
+        assert_status(&rt, *error, *status);
+        assert_text(&rt, rt.alloc(), *error, expected);
     }
 }

@@ -18,17 +18,26 @@ fn answered(rt: &impl Abort, alloc: Global) -> ServiceResponse<Site, Bytes> {
     ServiceResponse::new(request_of(rt, alloc, "/a", &[]), response)
 }
 
+fn set_status(rt: &impl Abort, answered: &mut ServiceResponse<Site, Bytes>) {
+    *answered.response_mut().status_mut() = StatusCode::CREATED;
+    assert_same(rt, answered.status().as_u16(), 201);
+}
+
+fn set_host(rt: &impl Abort, answered: &mut ServiceResponse<Site, Bytes>) {
+    let value = HeaderValue::from_static("h");
+    answered
+        .headers_mut()
+        .insert(HOST, value)
+        .expect(rt, "room");
+    assert_same(rt, answered.headers().len(), 1);
+}
+
 #[test]
 fn the_parts_of_a_response_are_read_and_changed(rt: HostRuntime) {
     let alloc = rt.alloc();
     let mut answered = answered(&rt, alloc);
-    *answered.response_mut().status_mut() = StatusCode::CREATED;
-    assert_same(&rt, answered.status().as_u16(), 201);
-    let headers = answered.headers_mut();
-    headers
-        .insert(HOST, HeaderValue::from_static("h"))
-        .expect(&rt, "room");
-    assert_same(&rt, answered.headers().len(), 1);
+    set_status(&rt, &mut answered);
+    set_host(&rt, &mut answered);
     assert_same(&rt, answered.response().body().len(), 2);
     assert_same(&rt, answered.request().path(), "/a");
     let (request, response) = answered.into_parts();

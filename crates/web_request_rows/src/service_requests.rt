@@ -28,23 +28,31 @@ fn is_stream(payload: &Payload<Marks>) -> bool {
     }
 }
 
+fn assert_head(rt: &impl Abort, service: &ServiceRequest<Site>) {
+    assert_same(rt, service.head().method.as_str(), "GET");
+    assert_same(rt, service.method().as_str(), "GET");
+    assert_same(rt, service.uri().path(), "/a");
+    assert_same(rt, service.version() == service.request().version(), true);
+    assert_same(rt, (service.path(), service.query_string()), ("/a", "b=c"));
+    assert_same(rt, service.headers().len(), 2);
+    assert_same(rt, HttpMessage::headers(service).len(), 2);
+    assert_same(rt, service.peer_addr().is_none(), true);
+}
+
+fn assert_other_parts(rt: &impl Abort, service: &ServiceRequest<Site>) {
+    assert_same(rt, service.match_info().len(), 0);
+    assert_same(rt, service.app_config().host.as_str(), "localhost:8080");
+    assert_same(rt, service.extensions().is_none(), true);
+    let (request, payload) = service.parts();
+    assert_same(rt, (request.path(), is_stream(payload)), ("/a", true));
+}
+
 #[test]
 fn the_parts_of_a_request_are_read(rt: HostRuntime) {
     let alloc = rt.alloc();
     let service = service(&rt, alloc);
-    assert_same(&rt, service.head().method.as_str(), "GET");
-    assert_same(&rt, service.method().as_str(), "GET");
-    assert_same(&rt, service.uri().path(), "/a");
-    assert_same(&rt, service.version() == service.request().version(), true);
-    assert_same(&rt, (service.path(), service.query_string()), ("/a", "b=c"));
-    assert_same(&rt, service.headers().len(), 2);
-    assert_same(&rt, HttpMessage::headers(&service).len(), 2);
-    assert_same(&rt, service.peer_addr().is_none(), true);
-    assert_same(&rt, service.match_info().len(), 0);
-    assert_same(&rt, service.app_config().host.as_str(), "localhost:8080");
-    assert_same(&rt, service.extensions().is_none(), true);
-    let (request, payload) = service.parts();
-    assert_same(&rt, (request.path(), is_stream(payload)), ("/a", true));
+    assert_head(&rt, &service);
+    assert_other_parts(&rt, &service);
     let (request, payload) = service.into_parts();
     assert_same(&rt, (request.path(), is_stream(&payload)), ("/a", true));
 }
@@ -57,26 +65,32 @@ fn assert_first(rt: &impl Abort, cookies: &[Cookie], expected: (&str, &str)) {
     }
 }
 
+fn assert_host(rt: &impl Abort, alloc: Global, service: &mut ServiceRequest<Site>, host: &str) {
+    let info = service.connection_info(alloc).expect(rt, "memory");
+    assert_same(rt, info.host(), host);
+}
+
+fn assert_lists(rt: &impl Abort, alloc: Global, service: &mut ServiceRequest<Site>) {
+    let cookies = service.cookies(alloc).expect(rt, "cookies");
+    assert_first(rt, cookies, ("a", "1"));
+    let cookies = service.cookies_raw(alloc).expect(rt, "cookies");
+    assert_first(rt, cookies, ("a", "%31"));
+}
+
+fn assert_found(rt: &impl Abort, alloc: Global, service: &mut ServiceRequest<Site>) {
+    let found = service.cookie(alloc, "a").expect(rt, "memory");
+    assert_same(rt, found.is_some(), true);
+    let found = service.cookie_raw(alloc, "b").expect(rt, "memory");
+    assert_same(rt, found.is_none(), true);
+}
+
 #[test]
 fn what_is_computed_of_a_request_is_read(rt: HostRuntime) {
     let alloc = rt.alloc();
     let mut service = service(&rt, alloc);
-    let info = service.connection_info(alloc).expect(&rt, "memory");
-    assert_same(&rt, info.host(), "h");
-    assert_first(
-        &rt,
-        service.cookies(alloc).expect(&rt, "cookies"),
-        ("a", "1"),
-    );
-    assert_first(
-        &rt,
-        service.cookies_raw(alloc).expect(&rt, "cookies"),
-        ("a", "%31"),
-    );
-    let found = service.cookie(alloc, "a").expect(&rt, "memory");
-    assert_same(&rt, found.is_some(), true);
-    let found = service.cookie_raw(alloc, "b").expect(&rt, "memory");
-    assert_same(&rt, found.is_none(), true);
+    assert_host(&rt, alloc, &mut service, "h");
+    assert_lists(&rt, alloc, &mut service);
+    assert_found(&rt, alloc, &mut service);
 }
 
 /// Puts a Host into the head, from which the connection information is computed.
@@ -84,8 +98,7 @@ fn set_host(rt: &impl Abort, alloc: Global, service: &mut ServiceRequest<Site>) 
     let value = HeaderValue::from_static("i");
     let headers = service.headers_mut().expect(rt, "memory");
     headers.insert(HOST, value).expect(rt, "room");
-    let info = service.connection_info(alloc).expect(rt, "memory");
-    assert_same(rt, info.host(), "i");
+    assert_host(rt, alloc, service, "i");
 }
 
 fn set_extensions(rt: &impl Abort, service: &mut ServiceRequest<Site>) {
@@ -123,14 +136,18 @@ fn the_parts_of_a_request_are_changed(rt: HostRuntime) {
     take_payload(&rt, &mut service);
 }
 
+fn set_method(rt: &impl Abort, service: &mut ServiceRequest<Site>) {
+    service.head_mut().expect(rt, "memory").method = Method::PUT;
+    assert_same(rt, service.method().as_str(), "PUT");
+}
+
 #[test]
 fn a_changed_head_is_not_that_of_a_duplicate(rt: HostRuntime) {
     let alloc = rt.alloc();
     let request: HttpRequest<Site> = request_of(&rt, alloc, "/", &[]);
     let copy = request.duplicate(alloc).expect(&rt, "memory");
     let mut service = ServiceRequest::from_request(request);
-    service.head_mut().expect(&rt, "memory").method = Method::PUT;
-    assert_same(&rt, service.method().as_str(), "PUT");
+    set_method(&rt, &mut service);
     assert_same(&rt, copy.method().as_str(), "GET");
 }
 
