@@ -17,7 +17,6 @@ use Rattle.web_worker.specs.Outcomes.{OutcomeView}
 use Rattle.web_worker.specs.OutcomeFunctions.{AnswersOnce, DeterministicOutcomes, IsOutcome}
 use Rattle.web_worker.specs.PlanCalls.{DeterministicCalls}
 use Rattle.web_worker.specs.PlanOutcomes.{EachFrom, lacks_memory, outcome_of, poll_count}
-use Rattle.web_worker.specs.PlanOutcomes.{named_count}
 use Rattle.web_worker.specs.RecordsMade.{is_waiting, waiting_count}
 use Rattle.web_worker.specs.Setting.{Setting}
 use Rattle.web_worker.proofs.CallsFunctionLemmas.{calls_of_map}

@@ -1,5 +1,5 @@
 -- What the parts of a run say of its status.
-use Rattle.std.proofs.Common.{◌≡◌, ℕ, true, List, inl, inr, ◌⊎◌, ◌∙◌, ap}
+use Rattle.std.proofs.Common.{◌≡◌, ℕ, true, List, inl, inr, ◌⊎◌, ◌∙◌}
 use Rattle.std.specs.Prelude.{Some}
 use Rattle.web_io.specs.IoState.{InputState, OutputState}
 use Rattle.web_io.specs.WholeReading.{IsAll}

@@ -1,5 +1,5 @@
 -- A future behind a pointer gives what the future inside gives.
-use Rattle.std.proofs.Common.{◌≡◌, ◌⊎◌, ℕ, suc, List, inl, inr}
+use Rattle.std.proofs.Common.{◌≡◌, ℕ, suc, List, inl, inr}
 use Rattle.std.specs.Prelude.{Bool, false, Option, None, Some}
 use Rattle.web_request.specs.declared.source.Mark.{Mark}
 use Rattle.web_body.specs.PollSteps.{Ends, GivesSome, IfReady, Shifts}

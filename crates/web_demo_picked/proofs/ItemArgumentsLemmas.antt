@@ -20,7 +20,6 @@ use Rattle.web_types.proofs.EitherLawLemmas.{either_decides}
 use Rattle.web_types.proofs.TypeFunctionsLemmas.{decides_form, decides_json}
 use Rattle.web_arguments.specs.PathArgument.{PathRefused, decoded_parameters}
 use Rattle.web_arguments.specs.QueryArgument.{QueryRefused}
-use Rattle.web_arguments.specs.declared.query_argument.Query.{Query}
 use Rattle.web_arguments.proofs.ReadArgumentsLemmas.{only_read}
 use Rattle.web_demo_layers.specs.DemoLayers.{demo_configurations}
 use Rattle.web_demo_layers.specs.Items.{item_of_json, item_of_pairs}
@@ -29,7 +28,7 @@ use Rattle.web_demo_layers.specs.Teapots.{path_teapot, query_teapot}
 use Rattle.web_demo_layers.specs.declared.item.Item.{Item}
 use Rattle.web_demo_layers.specs.declared.teapot.Teapot.{Teapot}
 use Rattle.web_demo_picked.specs.ArgumentMeanings.{By, ByEither, InList, same_fault}
-use Rattle.web_demo_picked.specs.BodyArguments.{Alone, MeansBody, body_rest, body_result}
+use Rattle.web_demo_picked.specs.BodyArguments.{MeansBody, body_rest, body_result}
 use Rattle.web_demo_flights.specs.DemoExchanges.{DemoRequest}
 use Rattle.web_demo_picked.specs.ItemArguments.{ByHandler, IsVendorType, ItemOfJson, ItemOfPairs}
 use Rattle.web_demo_picked.specs.ItemArguments.{MeansEitherItem, MeansFormItem, MeansJsonItem}

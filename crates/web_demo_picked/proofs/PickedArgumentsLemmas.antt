@@ -4,7 +4,6 @@ use Rattle.std.specs.Prelude.{Option, None, Some, Result, Ok, Err, String, strin
 use Rattle.std.specs.Global.{Global}
 use Rattle.std.specs.Option.{option_map}
 use Rattle.web_texts.specs.MediaTypes.{MediaType}
-use Rattle.web_texts.specs.declared.errors.ParseError.{ParseError}
 use Rattle.web_texts.specs.declared.quality_item.QualityItem.{QualityItem}
 use Rattle.web_headers.specs.ListHeaders.{accept_of}
 use Rattle.web_headers.specs.declared.accept_header.Accept.{Accept}
@@ -21,7 +20,7 @@ use Rattle.web_extract.specs.ArgumentLists.{map_value}
 use Rattle.web_extract.specs.ConvertedFutures.{GivesConvertedBy, converted_result}
 use Rattle.web_extract.specs.Extracts.{Extracts}
 use Rattle.web_extract.specs.HeadArguments.{IsRequest, immediate as at_once, seen_request}
-use Rattle.web_extract.specs.ListResults.{DelayedResult, list1, list2, list3}
+use Rattle.web_extract.specs.ListResults.{DelayedResult, list1}
 use Rattle.web_extract.specs.OptionArgument.{GivesOption, as_option}
 use Rattle.web_extract.specs.PayloadArgument.{payload_result, seen_payload}
 use Rattle.web_extract.specs.ReadyFuture.{MeansUnit}
@@ -31,13 +30,12 @@ use Rattle.web_extract.specs.declared.never.Never.{Never}
 use Rattle.web_extract.proofs.ConvertedFuturesLemmas.{GivesOnly, converted_only}
 use Rattle.web_extract.proofs.HeadArgumentsLemmas.{only_payload, only_request}
 use Rattle.web_arguments.specs.HeaderArgument.{SaysOnly, header_result, request_values}
-use Rattle.web_arguments.specs.declared.header_argument.Header.{Header}
 use Rattle.web_arguments.proofs.HeaderArgumentLemmas.{gives_only}
 use Rattle.web_demo_layers.specs.declared.app.DemoConn.{DemoConn}
 use Rattle.web_demo_layers.specs.declared.app.DemoLocal.{DemoLocal}
 use Rattle.web_demo_layers.specs.declared.layer.DemoLayer.{DemoLayer}
 use Rattle.web_demo_arguments.specs.Choices.{choice_of}
-use Rattle.web_demo_arguments.specs.DemoArguments.{data_view, raw_view, seen_data}
+use Rattle.web_demo_arguments.specs.DemoArguments.{raw_view, seen_data}
 use Rattle.web_demo_flights.specs.DemoExchanges.{DemoRequest}
 use Rattle.web_demo_arguments.specs.LateAndWait.{MeansLate, MeansWait}
 use Rattle.web_demo_picked.specs.BodyArguments.{Alone, MeansBody, MeansRaw, MeansText, body_rest, body_result}
@@ -70,7 +68,6 @@ use Rattle.web_demo_arguments.specs.declared.choice.ServiceChoice.TheVariants as
 use Rattle.web_demo_arguments.specs.LinesArgument.{MeansLines, lines_rest, lines_result}
 use Rattle.web_demo_picked.specs.ServiceArguments.{MeansService, MeansWho, cookies_result, demo_cookies}
 use Rattle.web_demo_picked.specs.ServiceArguments.{service_result, who_result}
-use Rattle.web_demo_arguments.specs.declared.late.Late.{Late}
 use Rattle.web_demo_picked.specs.declared.picked.Picked.{Picked}
 use Rattle.web_demo_picked.specs.declared.picked.Picked.TheVariants as picked
 use Rattle.web_demo_picked.proofs.ItemArgumentsLemmas.{either_seen, form_seen, json_seen, path_seen, query_seen}

@@ -1,5 +1,5 @@
 -- What the demo's arguments mean, alone and in lists.
-use Rattle.std.specs.Prelude.{◌≡◌, ℕ, List, [], Option, None, Some, Result, Ok, Err, String}
+use Rattle.std.specs.Prelude.{◌≡◌, ℕ, List, Option, None, Some, Result, Ok, Err, String}
 use Rattle.std.specs.Prelude.{codes, refl}
 use Rattle.std.specs.Global.{Global}
 use Rattle.std.specs.Option.{option_map}

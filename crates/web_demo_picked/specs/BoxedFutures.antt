@@ -1,5 +1,5 @@
 -- What a future behind a pointer gives.
-use Rattle.std.specs.Prelude.{◌≡◌, ◌⊎◌, ℕ}
+use Rattle.std.specs.Prelude.{◌⊎◌, ℕ}
 use Rattle.std.proofs.Common.{inl, inr}
 use Rattle.web_body.specs.PollSteps.{GivesSome}
 

@@ -1,11 +1,7 @@
 -- The demo's arguments that read an item.
-use Rattle.std.specs.Prelude.{◌≡◌, ℕ, List, Option, Result}
+use Rattle.std.specs.Prelude.{◌≡◌, List, Option}
 use Rattle.web_request.specs.declared.source.Mark.{Mark}
 use Rattle.web_request.specs.Head.{Head, head_query}
-use Rattle.web_body.specs.declared.form_error.UrlencodedError.{UrlencodedError}
-use Rattle.web_body.specs.declared.json_error.JsonPayloadError.{JsonPayloadError}
-use Rattle.web_body.specs.declared.path_error.PathError.{PathError}
-use Rattle.web_body.specs.declared.query_error.QueryPayloadError.{QueryPayloadError}
 use Rattle.web_decoders.specs.DecoderSettings.{FormSettings, JsonSettings}
 use Rattle.web_decoders.specs.TypePredicates.{Predicate}
 use Rattle.web_values.specs.DecodedForms.{PairReader}

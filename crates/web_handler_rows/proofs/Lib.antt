@@ -1,3 +1,2 @@
 -- Lemmas of the tests.
-mod FlightLemmas
 mod UntoldArgumentsLemmas

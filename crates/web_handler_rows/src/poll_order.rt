@@ -249,7 +249,7 @@ fn flights(
 }
 
 /// Serves flights by a plan of 32-bit entries, and compares the order of the handler's calls.
-#[tactic(auto, using(crate::proofs::FlightLemmas::waiting_count_most))]
+#[tactic(auto, using(web_handlers::proofs::FlightLemmas::waiting_count_most))]
 fn serve_waiting_flights(rt: &impl Abort, alloc: Global, log: &Log) {
     let mut flights = flights(rt, alloc, log);
     assert!(rt; flights.len() < 9);

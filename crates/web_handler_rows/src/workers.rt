@@ -137,7 +137,7 @@ fn flights<A: App, Args: FromRequest<A>, H: Handler<Args>>(
 }
 
 /// Polls one flight, and compares how many records the worker has made then.
-#[tactic(auto, using(crate::proofs::FlightLemmas::may_make_most))]
+#[tactic(auto, using(web_handlers::proofs::FlightLemmas::may_make_most))]
 fn poll<A: App, Args: FromRequest<A>, H: Handler<Args>>(
     rt: &impl Abort,
     alloc: Global,

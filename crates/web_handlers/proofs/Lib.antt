@@ -2,7 +2,7 @@
 mod BookingLemmas
 mod EchoLemmas
 mod ExactLemmas
-mod FlightLemmas
+pub mod FlightLemmas
 mod GreeterLemmas
 mod HelloLemmas
 mod ListingLemmas

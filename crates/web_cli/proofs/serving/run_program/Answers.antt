@@ -1,4 +1,3 @@
-use Rattle.std.proofs.Common.{◌≡◌}
 use Rattle.std.specs.Prelude.{None, ⊤}
 use Rattle.web_demo.specs.DemoFunctions.{demo_handler}
 use Rattle.web_demo.specs.DemoReplies.{HandlerAnswers}
