@@ -12,7 +12,7 @@ use web_texts::NoMemory;
 /// What is computed of a request once and then kept, whatever its head is later.
 ///
 /// It stands in memory of its own, which the first value takes, so that a request of which nothing
-/// is computed is no larger for it.
+/// is computed is larger by a word or two alone.
 #[derive(Drop)]
 pub struct KeptValues {
     computed: Option<Box<ComputedValues>>,
@@ -73,8 +73,8 @@ impl KeptValues {
         }
     }
 
-    /// Keeps where the request came from and was sent to. Returns `NoMemory` where allocation failed;
-    /// what is kept is then as before.
+    /// Keeps where the request came from and was sent to. Returns `NoMemory` where allocation
+    /// failed; what is kept is then as before.
     pub fn keep_connection(&mut self, alloc: Global, info: ConnectionInfo) -> Result<(), NoMemory>
         ensures ok { OnOk result (self.new ≡ record self.old { connection = Some info }) }
         ensures err { OnErr result (self.new ≡ self.old) }
