@@ -1,12 +1,10 @@
 //! One poll of one exchange.
-ghost use Rattle.std.specs.Prelude.{◌≡◌, ◌+◌, ◌<◌, ◌^◌, IfOk, IfSome, IsNone, IsSome, List, Ok};
-ghost use Rattle.std.specs.Prelude.{Option, Some, false, slice_get};
-ghost use Rattle.web_request.specs.declared.source.Mark.{Mark};
+ghost use Rattle.std.specs.Prelude.{◌≡◌, ◌+◌, ◌<◌, ◌^◌, IfSome, IsNone, IsSome, Ok, Some};
+ghost use Rattle.std.specs.Prelude.{slice_get};
 ghost use Rattle.web_request.specs.Pool.{Pool, after_start, new_record, next_serial};
 ghost use Rattle.web_request.specs.Request.{Record};
-ghost use Rattle.web_body.specs.Payload.{payload_feed};
-ghost use Rattle.web_extract.specs.Extracts.{Extracts};
 ghost use Rattle.web_worker.specs.Exchanges.{ExchangeView, FlightView, IsUnfinished, flight_view};
+ghost use Rattle.web_worker.specs.Exchanges.{request_of};
 ghost use Rattle.web_worker.specs.HandlerPromises.{SamePromises};
 ghost use Rattle.web_worker.specs.PollOne.{CallEffectAt, EffectAt, FlightPoll, IsIdle, PollsAt};
 ghost use Rattle.web_worker.specs.RecordsMade.{KeepsNone, Makes, may_make};
@@ -14,6 +12,7 @@ ghost use Rattle.web_worker.specs.StagePolls.{ArgumentsPoll, HandlerPoll, IsStar
 ghost use Rattle.web_worker.specs.Stages.{request_in};
 
 use crate::answering::{error_outcome, response_outcome};
+use crate::exchange::Exchange;
 use crate::flight::{Flight, Stage, StageOf, Work, store_outcome};
 use crate::handler::Handler;
 use crate::outcome::Outcome;
@@ -24,7 +23,21 @@ use std::mem;
 use web_body::{Payload, Poll, Step};
 use web_extract::FromRequest;
 use web_reply::Responder;
-use web_request::{App, HttpRequest, HttpRequestPool, NoMemory, RequestParts};
+use web_request::{App, HttpRequest, HttpRequestPool, RequestParts};
+
+/// Answers an exchange for which an allocation failed.
+///
+/// It stands apart, so that a poll that returns `Pending` does not clear an outcome.
+fn store_no_memory<A: App, U: Drop, W: Drop>(
+    pool: &mut HttpRequestPool<A>,
+    stage: &mut Stage<Exchange<A>, HttpRequest<A>, U, W, Outcome<A>>,
+)
+    requires { KeepsNone pool.old }
+    ensures pool { pool.new ≡ pool.old }
+    ensures stage { stage.new ≡ Stage.Answered Outcome.NoMemory }
+{
+    store_outcome(pool, stage, Outcome::NoMemory);
+}
 
 /// Polls the handler's future of an exchange that waits for it.
 fn poll_handler<A: App, Args: FromRequest<A>, H: Handler<Args>>(
@@ -52,7 +65,7 @@ where
                     let outcome = response_outcome(alloc, value, request);
                     store_outcome(pool, stage, outcome);
                 }
-                Step::NoMemory => store_outcome(pool, stage, Outcome::NoMemory),
+                Step::NoMemory => store_no_memory(pool, stage),
             },
             Work::Extracting(_) => {}
         },
@@ -90,7 +103,7 @@ where
             stage.start_handling(future);
             poll_handler::<A, Args, H>(alloc, pool, stage);
         }
-        Err(_) => store_outcome(pool, stage, Outcome::NoMemory),
+        Err(_) => store_no_memory(pool, stage),
     }
 }
 
@@ -128,7 +141,7 @@ where
                 Step::Ready(Err(error)) => {
                     store_outcome(pool, stage, error_outcome(alloc, error));
                 }
-                Step::NoMemory => store_outcome(pool, stage, Outcome::NoMemory),
+                Step::NoMemory => store_no_memory(pool, stage),
             },
             Work::Handling(_) => {}
         },
@@ -154,18 +167,32 @@ fn make_record<A: App>(
     }
 }
 
-/// The future of the arguments of this request.
-fn make_arguments<A: App, Args: FromRequest<A>>(
+/// Makes the future of the arguments of a request. Where an allocation fails, the request is given
+/// back.
+fn begin_arguments<A: App, Args: FromRequest<A>, H: Handler<Args>>(
     alloc: Global,
-    request: &HttpRequest<A>,
+    pool: &mut HttpRequestPool<A>,
+    stage: &mut StageOf<A, Args, H>,
+    request: HttpRequest<A>,
     mut payload: Payload<A::Source>,
-) -> Result<Args::Future, NoMemory>
-    ensures fresh { IfOk result (λ f. Args.Future.is_finished f ≡ false) }
-    ensures extracts { IfOk result (λ f. (left : Option (List Mark)) × Extracts
-        (Args.means request.now.request) (Args.Future.gives f)
-        (payload_feed A.Source.feed payload).marks left) }
+)
+where
+    H::Output: Responder<A>,
+    requires none_kept { KeepsNone pool.old }
+    requires no_memory { stage.old ≡ Stage.Answered Outcome.NoMemory }
+    ensures pool { pool.new ≡ pool.old }
+    ensures unfinished { IsUnfinished Args.Future.is_finished H.Future.is_finished
+        (flight_view A.Source.feed stage.new) }
+    ensures starts { (handler : H) (worker : Pool A.Layer)
+        (x : ExchangeView A.Source A.Layer A.Local A.Conn)
+        → request.request ≡ request_of worker x → x.body ≡ payload
+        → IsStart (⟦<H as Serves<A, Args>>⟧.setting handler worker) x
+        (flight_view A.Source.feed stage.new) }
 {
-    Args::from_request(alloc, request, &mut payload)
+    match Args::from_request(alloc, &request, &mut payload) {
+        Ok(future) => stage.put(Stage::InFlight(request, Work::Extracting(future))),
+        Err(_) => pool.give_back(request),
+    }
 }
 
 /// Takes a record for an exchange that waits for its first poll, and makes the future of its
@@ -193,10 +220,7 @@ where
     if let Some(exchange) = waiting.into_waiting() {
         let (parts, payload) = exchange.into_parts();
         if let Some(request) = make_record(alloc, pool, parts) {
-            match make_arguments::<A, Args>(alloc, &request, payload) {
-                Ok(future) => stage.put(Stage::InFlight(request, Work::Extracting(future))),
-                Err(_) => pool.give_back(request),
-            }
+            begin_arguments::<A, Args, H>(alloc, pool, stage, request, payload);
         }
     }
 }

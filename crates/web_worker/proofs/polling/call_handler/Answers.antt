@@ -16,7 +16,7 @@ returns-in-Ok-clause-called g c = λ worker q f e a.
 
 pub returns-in-Err-clause-called : goal.returns-in-Err-clause-called
 returns-in-Err-clause-called g c = λ worker q f e a.
-    rw c.store_outcome.ensures.stage
+    rw c.store_no_memory.ensures.stage
     (call_failed (setting_of g.Args.FromRequest.means g.Args.Error.Into.converts
     (g.H.Handler.answers c.args.handler.now) g.H.Output.Responder.responds
     g.A.Source.Source.feed g.Args.Future.Poll.gives g.H.Future.Poll.gives worker)
