@@ -4,12 +4,7 @@ use Rattle.std.specs.Prelude.{Some}
 use Rattle.web_io.specs.IoState.{InputState, OutputState}
 use Rattle.web_io.specs.WholeReading.{IsAll}
 use Rattle.web_demo.specs.DemoFunctions.{demo_handler}
-use Rattle.web_reply.specs.ResponseBodies.{Plain, box_plain}
-use Rattle.web_reply.specs.Replies.{Reply, plain_reply}
-use Rattle.web_types.specs.EitherReplies.{RespondsEither}
-use Rattle.web_demo_flights.specs.DemoExchanges.{DemoRequest}
-use Rattle.web_demo.specs.DemoReplies.{HandlerAnswers, Output, answer_reply}
-use Rattle.web_demo.proofs.RepliesLemmas.{reply_only}
+use Rattle.web_demo.specs.DemoReplies.{HandlerAnswers, output_reply}
 use Rattle.web_demo.specs.ServiceFunctions.{HandlerMeets}
 use Rattle.web_cli.specs.ScriptAnswers.{is_valid_script}
 use Rattle.web_cli.specs.Run.{HasNoMemory, Headline, IsRefused, ServeResult, WritesAlone, WritesReplies}
@@ -123,12 +118,6 @@ module _ (P Q : List ℕ → Type 0) (c d : Type 0) (f : (text : List ℕ) → P
       → WritesAlone P c a i j o p → WritesAlone Q d a i j o p
   alone_as a i j o p h = record { input = h.input; text_written = text_as a o p h.text_written }
 
--- what an output responds with
-abbrev pub OutputResponds : Output → DemoRequest → Reply Plain → Type 0
-OutputResponds =
-    RespondsEither (λ answer p x. x ≡ answer_reply answer)
-    (λ v p x. x ≡ plain_reply (λ b. box_plain (λ feed. feed) b) v)
-
 -- the program's handler meets its functions
-pub demo_meets : HandlerMeets (λ p n y. HandlerAnswers p n y) (λ y q r. OutputResponds y q r) demo_handler
-demo_meets v n y answers = (answers.0, λ q r responds. reply_only q y r responds ∙ answers.1)
+pub demo_meets : HandlerMeets (λ p n y. HandlerAnswers p n y) (λ y q r. r ≡ output_reply y) demo_handler
+demo_meets v n y answers = (answers.0, λ q r responds. responds ∙ answers.1)

@@ -1,3 +1,2 @@
 pub mod DemoFunctionsLemmas
 pub mod NewlineLemmas
-pub mod RepliesLemmas

@@ -10,12 +10,9 @@ use Rattle.web_request.specs.declared.source.Mark.{Mark}
 use Rattle.web_values.specs.FormPairs.{pairs_text}
 use Rattle.web_reply.specs.ResponseBodies.{Plain, Plain.Bytes, Plain.Stream, box_plain}
 use Rattle.web_reply.specs.ResponseBodies.{whole_plain}
-use Rattle.web_reply.specs.declared.body.BoxBody.{BoxBody}
 use Rattle.web_reply.specs.declared.cause.Cause.TheVariants.{Custom}
 use Rattle.web_reply.specs.Replies.{Fault, Reply, error_reply, fault_of, plain_reply, typed_reply}
 use Rattle.web_reply.specs.Responders.{bytes_reply, empty_reply, text_reply}
-use Rattle.web_types.specs.declared.either.Either.{Either}
-use Rattle.web_types.specs.declared.either.Either.TheVariants.{Left, Right}
 use Rattle.web_demo_layers.specs.Items.{item_text, json_of_item, pairs_of_item}
 use Rattle.web_demo_layers.specs.declared.item.Item.{Item}
 use Rattle.web_demo.specs.DemoTexts.{accept_text, data_text, either_text, option_text}
@@ -58,14 +55,16 @@ form_reply item =
 abbrev pub raw_reply : Option (List Mark) → Reply Plain
 raw_reply marks = typed_reply 200 (codes "application/octet-stream") (Stream marks)
 
--- 200 with the bytes, the text or the item, an empty 204, or an empty 404
-abbrev pub answer_reply : Answer → Reply Plain
-answer_reply (answer.Bytes bytes) = bytes_reply bytes
-answer_reply (answer.Text text) = text_reply text
-answer_reply (answer.Json item) = json_reply item
-answer_reply (answer.Form item) = form_reply item
-answer_reply answer.Done = empty_reply 204
-answer_reply answer.None = empty_reply 404
+-- 200 with the bytes, the text or the item, an empty 204, an empty 404, or the response that was
+-- made; `feed` says what a source states of itself
+abbrev pub answer_reply : {S : Type 0} → (S → Feed) → Answer S → Reply Plain
+answer_reply feed (answer.Bytes bytes) = bytes_reply bytes
+answer_reply feed (answer.Text text) = text_reply text
+answer_reply feed (answer.Json item) = json_reply item
+answer_reply feed (answer.Form item) = form_reply item
+answer_reply feed answer.Done = empty_reply 204
+answer_reply feed answer.None = empty_reply 404
+answer_reply feed (answer.Response response) = plain_reply (box_plain feed) response.value
 
 -- status 400 with the text of the error
 abbrev pub cookie_error : CookieParseError → Fault
@@ -82,19 +81,16 @@ text_or_refusal (Err error) = cookies_refusal error
 abbrev pub cookies_reply : CookiesSaid → Reply Plain
 cookies_reply said = text_or_refusal (printed_cookies said)
 
--- each but one with a body has a reply that allocates nothing
-abbrev pub AnswerNeedsNoMemory : Answer → Type 0
+-- an empty reply, and one that was made, allocate nothing
+abbrev pub AnswerNeedsNoMemory : {S : Type 0} → Answer S → Type 0
 AnswerNeedsNoMemory answer.Done = ⊤
 AnswerNeedsNoMemory answer.None = ⊤
+AnswerNeedsNoMemory (answer.Response response) = ⊤
 AnswerNeedsNoMemory _ = ⊥
 
--- an answer, or a response that was made
-abbrev pub Output : Type 0
-Output = Either Answer (Reply (BoxBody Feed))
-
-abbrev pub output_reply : Output → Reply Plain
-output_reply (Left answer) = answer_reply answer
-output_reply (Right response) = plain_reply (λ b. box_plain (λ feed. feed) b) response
+-- the reply of an answer of the handler
+abbrev pub output_reply : Answer Feed → Reply Plain
+output_reply = answer_reply (λ feed. feed)
 
 -- the reply for arguments of which nothing is printed
 abbrev pub unprinted_reply : Picked → Reply Plain
@@ -123,5 +119,5 @@ AnswersWithoutMemory (picked.Cookies said) = ⊥
 AnswersWithoutMemory p = printed_text p ≡ None
 
 -- an output of this reply alone, after this number of polls alone
-abbrev pub HandlerAnswers : Picked → ℕ → Output → Type 0
+abbrev pub HandlerAnswers : Picked → ℕ → Answer Feed → Type 0
 HandlerAnswers p n y = (n ≡ wait_of p) × (output_reply y ≡ demo_reply p)

@@ -1,8 +1,9 @@
 //! What the handler responds with.
-ghost use Rattle.std.specs.Prelude.{◌≡◌, ◌∷◌, [], IfOk, OnOk, codes};
+ghost use Rattle.std.specs.Prelude.{◌≡◌, ◌∷◌, [], IfOk, IsOk, OnOk, codes};
 ghost use Rattle.http_header.specs.FieldValue.{plain_value};
 ghost use Rattle.web_reply.specs.Replies.{plain_reply};
 ghost use Rattle.web_reply.specs.ResponseBodies.{box_plain};
+ghost use Rattle.web_reply.specs.Responders.{bytes_reply, empty_reply, text_reply};
 ghost use Rattle.web_request.specs.KeptValues.{known_cookies};
 ghost use Rattle.web_request.specs.Returns.{ReturnsBy};
 ghost use Rattle.web_demo.specs.DemoReplies.{cookie_error, cookies_refusal, cookies_reply};
@@ -21,11 +22,11 @@ use web_reply::{BoxBody, Cause, Done, Error, HttpResponse, Responder};
 use web_request::cookies::CookieParseError;
 use web_request::{App, Fail, HttpRequest, NoMemory};
 use web_texts::Text;
-use web_types::{Either, Form, Json};
+use web_types::{Form, Json};
 
-/// A value that the handler responds with.
+/// A value that the handler responds with. `S` is the source of bodies that are streams.
 #[derive(Drop)]
-pub enum Answer {
+pub enum Answer<S> {
     /// A 200 with these bytes.
     Bytes(Bytes),
     /// A 200 with this text.
@@ -38,10 +39,12 @@ pub enum Answer {
     Done,
     /// An empty 404, as `None` responds.
     None,
+    /// A response that was made. It stands behind a `Box`, so that the other answers stay small.
+    Response(Box<HttpResponse<BoxBody<S>>>),
 }
 
-/// The output of the handler: an answer, or a response that was made.
-pub type DemoOutput = Either<Answer, HttpResponse<BoxBody<Marks>>>;
+/// The output of the handler.
+pub type DemoOutput = Answer<Marks>;
 
 /// Puts the content type of bytes into an empty map.
 fn put_octet_stream(headers: &mut HeaderMap<HeaderValue>) -> Result<(), NoMemory>
@@ -59,10 +62,7 @@ fn put_octet_stream(headers: &mut HeaderMap<HeaderValue>) -> Result<(), NoMemory
 }
 
 /// A 200 with what is left of this body, as a stream of bytes.
-pub(crate) fn raw_response(
-    alloc: Global,
-    body: RawBody,
-) -> Result<HttpResponse<BoxBody<Marks>>, NoMemory>
+fn raw_response(alloc: Global, body: RawBody) -> Result<HttpResponse<BoxBody<Marks>>, NoMemory>
     ensures { IfOk result (λ reply.
         plain_reply (λ b. box_plain (λ feed. feed) b) reply ≡ raw_reply body) }
 {
@@ -73,6 +73,14 @@ pub(crate) fn raw_response(
         Ok(()) => Ok(reply),
         Err(e) => Err(e),
     }
+}
+
+/// A 200 with what is left of this body, as an answer.
+pub(crate) fn raw_answer(alloc: Global, body: RawBody) -> Result<DemoOutput, NoMemory>
+    ensures { IfOk result (λ output. output_reply output ≡ raw_reply body) }
+{
+    let response = raw_response(alloc, body)?;
+    Ok(Answer::Response(Box::new(alloc, response)?))
 }
 
 /// The error of cookies that cannot be read: status 400 with its text.
@@ -102,12 +110,12 @@ fn refused_cookies(alloc: Global, error: CookieParseError) -> Result<DemoOutput,
     ensures { IfOk result (λ output. output_reply output ≡ cookies_refusal error) }
 {
     let error = cookie_error(alloc, error)?;
-    let reply = HttpResponse::from_error(alloc, error)?;
-    Ok(Either::Right(reply.map_into_boxed_body(alloc)?))
+    let response = HttpResponse::from_error(alloc, error)?.map_into_boxed_body(alloc)?;
+    Ok(Answer::Response(Box::new(alloc, response)?))
 }
 
 /// The cookies of a request as a text, or the reply to the error where they cannot be read.
-pub(crate) fn cookies_output(
+pub(crate) fn cookies_answer(
     alloc: Global,
     arguments: CookieArguments,
 ) -> Result<DemoOutput, NoMemory>
@@ -115,10 +123,37 @@ pub(crate) fn cookies_output(
 {
     let CookieArguments { mut request } = arguments;
     match printed_cookies(alloc, &mut request) {
-        Ok(text) => Ok(Either::Left(Answer::Text(text))),
+        Ok(text) => Ok(Answer::Text(text)),
         Err(Fail::NoMemory) => Err(NoMemory),
         Err(Fail::Of(error)) => refused_cookies(alloc, error),
     }
+}
+
+// Each answer responds in a function of its own, since the variables of all of them would be
+// cleared for each.
+
+/// A 200 with these bytes.
+fn bytes_response<A: App>(
+    alloc: Global,
+    bytes: Bytes,
+    req: &HttpRequest<A>,
+) -> Result<HttpResponse<BoxBody<A::Source>>, NoMemory>
+    ensures { IfOk result (λ reply.
+        plain_reply (λ b. box_plain A.Source.feed b) reply ≡ bytes_reply bytes) }
+{
+    bytes.respond_to(alloc, req)?.map_into_boxed_body(alloc)
+}
+
+/// A 200 with this text.
+fn text_response<A: App>(
+    alloc: Global,
+    text: Text,
+    req: &HttpRequest<A>,
+) -> Result<HttpResponse<BoxBody<A::Source>>, NoMemory>
+    ensures { IfOk result (λ reply.
+        plain_reply (λ b. box_plain A.Source.feed b) reply ≡ text_reply text) }
+{
+    text.respond_to(alloc, req)?.map_into_boxed_body(alloc)
 }
 
 /// A 200 with this item as JSON.
@@ -149,12 +184,38 @@ fn form_response<A: App>(
         .map_into_boxed_body(alloc)
 }
 
-impl<A: App> Responder<A> for Answer {
+/// An empty 204.
+fn done_response<A: App>(
+    alloc: Global,
+    req: &HttpRequest<A>,
+) -> Result<HttpResponse<BoxBody<A::Source>>, NoMemory>
+    ensures value { IfOk result (λ reply.
+        plain_reply (λ b. box_plain A.Source.feed b) reply ≡ empty_reply 204) }
+    ensures memory { IsOk result }
+{
+    let done: Done<Error> = Done(Ok(()));
+    done.respond_to(alloc, req)?.map_into_boxed_body(alloc)
+}
+
+/// An empty 404.
+fn none_response<A: App>(
+    alloc: Global,
+    req: &HttpRequest<A>,
+) -> Result<HttpResponse<BoxBody<A::Source>>, NoMemory>
+    ensures value { IfOk result (λ reply.
+        plain_reply (λ b. box_plain A.Source.feed b) reply ≡ empty_reply 404) }
+    ensures memory { IsOk result }
+{
+    let none: Option<Bytes> = None;
+    none.respond_to(alloc, req)?.map_into_boxed_body(alloc)
+}
+
+impl<A: App> Responder<A> for Answer<A::Source> {
     ghost use Rattle.web_demo.specs.DemoReplies.{AnswerNeedsNoMemory, answer_reply};
 
     type Body = BoxBody<A::Source>;
 
-    ghost responds = { λ answer q r. r ≡ answer_reply answer };
+    ghost responds = { λ answer q r. r ≡ answer_reply A.Source.feed answer };
 
     ghost needs_no_memory = { λ answer. AnswerNeedsNoMemory answer };
 
@@ -164,18 +225,13 @@ impl<A: App> Responder<A> for Answer {
         req: &HttpRequest<A>,
     ) -> Result<HttpResponse<BoxBody<A::Source>>, NoMemory> {
         match self {
-            Answer::Bytes(bytes) => bytes.respond_to(alloc, req)?.map_into_boxed_body(alloc),
-            Answer::Text(text) => text.respond_to(alloc, req)?.map_into_boxed_body(alloc),
+            Answer::Bytes(bytes) => bytes_response(alloc, bytes, req),
+            Answer::Text(text) => text_response(alloc, text, req),
             Answer::Json(item) => json_response(alloc, item, req),
             Answer::Form(item) => form_response(alloc, item, req),
-            Answer::Done => {
-                let done: Done<Error> = Done(Ok(()));
-                done.respond_to(alloc, req)?.map_into_boxed_body(alloc)
-            }
-            Answer::None => {
-                let none: Option<Bytes> = None;
-                none.respond_to(alloc, req)?.map_into_boxed_body(alloc)
-            }
+            Answer::Done => done_response(alloc, req),
+            Answer::None => none_response(alloc, req),
+            Answer::Response(response) => Ok(Box::into_inner(response)),
         }
     }
 }

@@ -14,10 +14,11 @@ pub struct Answering {
 }
 
 impl Model for Answering {
+    ghost use Rattle.web_request.specs.Feed.{Feed};
     ghost use Rattle.web_demo_arguments.specs.DelayedValue.{DelayedView};
-    ghost use Rattle.web_demo.specs.DemoReplies.{Output};
+    ghost use Rattle.web_demo.specs.declared.answer.Answer.{Answer};
 
-    ghost Value = { DelayedView Output };
+    ghost Value = { DelayedView (Answer Feed) };
 
     ghost view = { λ f. f.delayed };
 }

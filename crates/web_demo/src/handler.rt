@@ -3,7 +3,7 @@ ghost use Rattle.std.specs.Prelude.{◌≡◌, IfOk, IsOk};
 ghost use Rattle.web_demo.specs.DemoReplies.{AnswersWithoutMemory, demo_reply, output_reply};
 ghost use Rattle.web_demo.specs.DemoReplies.{printed_text, unprinted_reply, wait_of};
 
-use crate::answer::{Answer, DemoOutput, cookies_output, raw_response};
+use crate::answer::{Answer, DemoOutput, cookies_answer, raw_answer};
 use crate::answering::Answering;
 use crate::texts::{
     accept_text, data_text, either_text, item_text, lines_text, option_text, result_text, who_text,
@@ -12,7 +12,6 @@ use std::alloc::Global;
 use web_demo_picked::Picked;
 use web_request::NoMemory;
 use web_texts::Text;
-use web_types::Either;
 use web_worker::Handler;
 
 /// The handler of the program. What it replies to the arguments of each segment stands in the
@@ -58,15 +57,15 @@ fn unprinted_output(alloc: Global, picked: Picked) -> Result<DemoOutput, NoMemor
     ensures memory { AnswersWithoutMemory picked → IsOk result }
 {
     match picked {
-        Picked::Bytes(bytes) => Ok(Either::Left(Answer::Bytes(bytes))),
-        Picked::Text(text) => Ok(Either::Left(Answer::Text(text))),
-        Picked::Json(json) => Ok(Either::Left(Answer::Json(json.into_inner()))),
-        Picked::Form(form) => Ok(Either::Left(Answer::Form(form.into_inner()))),
-        Picked::Raw(body) => Ok(Either::Right(raw_response(alloc, body)?)),
-        Picked::Cookies(arguments) => cookies_output(alloc, arguments),
-        Picked::Both(text, _) => Ok(Either::Left(Answer::Text(text))),
-        Picked::Wait(_) => Ok(Either::Left(Answer::Done)),
-        _ => Ok(Either::Left(Answer::None)),
+        Picked::Bytes(bytes) => Ok(Answer::Bytes(bytes)),
+        Picked::Text(text) => Ok(Answer::Text(text)),
+        Picked::Json(json) => Ok(Answer::Json(json.into_inner())),
+        Picked::Form(form) => Ok(Answer::Form(form.into_inner())),
+        Picked::Raw(body) => raw_answer(alloc, body),
+        Picked::Cookies(arguments) => cookies_answer(alloc, arguments),
+        Picked::Both(text, _) => Ok(Answer::Text(text)),
+        Picked::Wait(_) => Ok(Answer::Done),
+        _ => Ok(Answer::None),
     }
 }
 
@@ -84,7 +83,7 @@ fn output_of(alloc: Global, picked: Picked) -> Result<DemoOutput, NoMemory>
 {
     match printed_text(alloc, &picked) {
         Ok(None) => unprinted_output(alloc, picked),
-        Ok(Some(text)) => Ok(Either::Left(Answer::Text(instead_of(picked, text)))),
+        Ok(Some(text)) => Ok(Answer::Text(instead_of(picked, text))),
         Err(e) => Err(instead_of(picked, e)),
     }
 }

@@ -1,17 +1,17 @@
-use Rattle.std.specs.Prelude.{None, ⊤}
+use Rattle.std.specs.Prelude.{◌≡◌, None, ⊤}
 use Rattle.web_demo.specs.DemoFunctions.{demo_handler}
-use Rattle.web_demo.specs.DemoReplies.{HandlerAnswers}
+use Rattle.web_demo.specs.DemoReplies.{HandlerAnswers, output_reply}
 use Rattle.web_cli.specs.DemoScripts.{AppendsPickedCalls, ArePickedReplies, IsDemoSummary, IsDemoText}
 use Rattle.web_cli.specs.DemoScripts.{IsPickedSummary}
 use Rattle.web_cli.specs.LoadTexts.{load_script}
-use Rattle.web_cli.proofs.RunLemmas.{OutputResponds, alone_as, demo_meets, headline_as, result_as}
+use Rattle.web_cli.proofs.RunLemmas.{alone_as, demo_meets, headline_as, result_as}
 use Rattle.web_cli.proofs.serving.run_program.Goals as goal
 
 pub returns-clause-serves : goal.returns-clause-serves
 returns-clause-serves g c = λ words.
     let h = c.run.ensures.serves words in (
       h.0,
-      result_as (ArePickedReplies (λ p n y. HandlerAnswers p n y) (λ y q r. OutputResponds y q r))
+      result_as (ArePickedReplies (λ p n y. HandlerAnswers p n y) (λ y q r. r ≡ output_reply y))
           IsDemoText (AppendsPickedCalls None None) (λ came. ⊤)
           (λ came text replies. replies demo_handler demo_meets) (λ came calls. tt)
           _ ⊤ (λ same. tt) c.run.result h.0 _ _ _ _ h.1,
@@ -19,7 +19,7 @@ returns-clause-serves g c = λ words.
 
 pub returns-clause-headline : goal.returns-clause-headline
 returns-clause-headline g c = λ words.
-    headline_as (ArePickedReplies (λ p n y. HandlerAnswers p n y) (λ y q r. OutputResponds y q r))
+    headline_as (ArePickedReplies (λ p n y. HandlerAnswers p n y) (λ y q r. r ≡ output_reply y))
     IsDemoText (AppendsPickedCalls None None) (λ came. ⊤)
     (λ came text replies. replies demo_handler demo_meets) (λ came calls. tt)
     c.run.result (g.I.Input.state c.args.input.now) (g.I.Input.state c.run.new.input)
@@ -28,7 +28,7 @@ returns-clause-headline g c = λ words.
 
 pub returns-clause-replays : goal.returns-clause-replays
 returns-clause-replays g c = λ load words.
-    alone_as (IsPickedSummary (λ p n y. HandlerAnswers p n y) (λ y q r. OutputResponds y q r) (load_script load))
+    alone_as (IsPickedSummary (λ p n y. HandlerAnswers p n y) (λ y q r. r ≡ output_reply y) (load_script load))
     (IsDemoSummary (load_script load)) (AppendsPickedCalls None None (load_script load)) ⊤
     (λ text summary. summary demo_handler demo_meets) (λ calls. tt)
     c.run.result (g.I.Input.state c.args.input.now) (g.I.Input.state c.run.new.input)

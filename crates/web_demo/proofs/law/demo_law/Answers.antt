@@ -1,6 +1,5 @@
 use Rattle.std.proofs.Common.{◌∙◌}
 use Rattle.web_demo.proofs.DemoFunctionsLemmas.{picked_meets}
-use Rattle.web_demo.proofs.RepliesLemmas.{reply_only}
 use Rattle.web_demo.proofs.law.demo_law.Goals as goal
 
 pub returns-clause-arguments : goal.returns-clause-arguments
@@ -9,5 +8,5 @@ returns-clause-arguments c = picked_meets
 pub returns-clause-handler : goal.returns-clause-handler
 returns-clause-handler c = λ h v n y answers. (
   answers.0,
-  λ q r responds. reply_only q y r responds ∙ answers.1,
+  λ q r responds. responds ∙ answers.1,
 )
