@@ -7,7 +7,6 @@ ghost use Rattle.web_demo_layers.specs.Items.{item_text};
 
 use std::alloc::Global;
 use std::fmt;
-use std::fmt::Write;
 use web_arguments::Header;
 use web_demo_arguments::DataArguments;
 use web_demo_layers::Item;
@@ -81,18 +80,27 @@ pub(crate) fn data_text(alloc: Global, arguments: &DataArguments) -> Result<Text
     }
 }
 
+/// Adds a name with what stands before and behind it, and its value.
+fn push_named(text: &mut String, name: &str, value: &str) -> Result<(), NoMemory>
+    ensures { OnOk result
+        (string_bytes text.new ≡ string_bytes text.old ++ (name.now ++ value.now)) }
+{
+    text.push_str(name)?;
+    Ok(text.push_str(value)?)
+}
+
 /// Where a request came from and was sent to.
 pub(crate) fn who_text(alloc: Global, info: &ConnectionInfo) -> Result<Text, NoMemory>
     ensures { IfOk result (λ text. text ≡ who_text info.now) }
 {
-    let host = info.host();
-    let scheme = info.scheme();
-    let peer = info.peer_addr().unwrap_or("-");
-    let client = info.realip_remote_addr().unwrap_or("-");
     let mut text = String::with_capacity(alloc, ROOM)?;
-    write!(
-        text,
-        "host={host} scheme={scheme} peer={peer} realip={client}"
+    push_named(&mut text, "host=", info.host())?;
+    push_named(&mut text, " scheme=", info.scheme())?;
+    push_named(&mut text, " peer=", info.peer_addr().unwrap_or("-"))?;
+    push_named(
+        &mut text,
+        " realip=",
+        info.realip_remote_addr().unwrap_or("-"),
     )?;
     Ok(Text::from(text))
 }

@@ -1,4 +1,5 @@
 pub mod CountLemmas
+pub mod HeaderLinesLemmas
 pub mod HexadecimalLemmas
 pub mod MappedListsLemmas
 pub mod SortedNamesLemmas

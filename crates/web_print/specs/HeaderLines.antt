@@ -28,6 +28,9 @@ sorted_names (a ∷ names) = with_name a (sorted_names names)
 abbrev pub header_line : List ℕ → FieldValue → List ℕ
 header_line name value = line_text (name ++ codes ": ") value.bytes
 
+abbrev pub pair_line : List ℕ × FieldValue → List ℕ
+pair_line pair = header_line pair.0 pair.1
+
 -- the values of one name, in their order
 abbrev pub name_lines : Entries FieldValue → List ℕ → List ℕ
 name_lines headers name = flat_map (header_line name) (get_all headers name)

@@ -1,7 +1,8 @@
 //! The lines of the headers.
 ghost use Rattle.std.specs.Prelude.{◌≡◌, ◌++◌, IfOk, OnOk, flat_map, map};
-ghost use Rattle.http_header.specs.HeaderMap.{keys};
-ghost use Rattle.web_print.specs.HeaderLines.{header_line, header_lines, name_lines, sorted_names};
+ghost use Rattle.http_header.specs.HeaderMap.{keys, pairs};
+ghost use Rattle.web_print.specs.HeaderLines.{header_line, header_lines, name_lines, pair_line};
+ghost use Rattle.web_print.specs.HeaderLines.{sorted_names};
 
 use crate::lines::put;
 use http_header::{HeaderMap, HeaderName, HeaderValue};
@@ -63,12 +64,12 @@ fn put_names(
 }
 
 /// The lines of all headers, in the order of the map.
-fn put_keys(out: &mut Vec<u8>, headers: &HeaderMap<HeaderValue>) -> Result<(), NoMemory>
+fn put_unsorted(out: &mut Vec<u8>, headers: &HeaderMap<HeaderValue>) -> Result<(), NoMemory>
     ensures { OnOk result (out.new.items
-        ≡ out.old.items ++ flat_map (name_lines headers.now) (keys headers.now)) }
+        ≡ out.old.items ++ flat_map pair_line (pairs headers.now)) }
 {
-    for name in headers.keys() {
-        put_values(out, headers, name)?;
+    for (name, value) in headers.iter() {
+        put_value(out, name, value)?;
     }
     Ok(())
 }
@@ -83,7 +84,7 @@ pub(crate) fn put_headers(
     ensures { OnOk result (out.new.items ≡ out.old.items ++ header_lines headers.now) }
 {
     if headers.keys_len() < 2 {
-        return put_keys(out, headers);
+        return put_unsorted(out, headers);
     }
     let names = sorted_names(alloc, headers)?;
     put_names(out, headers, names)
