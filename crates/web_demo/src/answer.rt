@@ -3,11 +3,10 @@ ghost use Rattle.std.specs.Prelude.{◌≡◌, ◌∷◌, [], IfOk, IsOk, OnOk, 
 ghost use Rattle.http_header.specs.FieldValue.{plain_value};
 ghost use Rattle.web_reply.specs.Replies.{plain_reply};
 ghost use Rattle.web_reply.specs.ResponseBodies.{box_plain};
-ghost use Rattle.web_reply.specs.Responders.{bytes_reply, empty_reply, text_reply};
 ghost use Rattle.web_request.specs.KeptValues.{known_cookies};
 ghost use Rattle.web_request.specs.Returns.{ReturnsBy};
 ghost use Rattle.web_demo.specs.DemoReplies.{cookie_error, cookies_refusal, cookies_reply};
-ghost use Rattle.web_demo.specs.DemoReplies.{form_reply, json_reply, output_reply, raw_reply};
+ghost use Rattle.web_demo.specs.DemoReplies.{output_reply, raw_reply};
 ghost use Rattle.web_demo.specs.DemoTexts.{printed_cookies};
 
 use crate::texts::cookies_text;
@@ -129,85 +128,20 @@ pub(crate) fn cookies_answer(
     }
 }
 
-// Each answer responds in a function of its own, since the variables of all of them would be
-// cleared for each.
-
-/// A 200 with these bytes.
-fn bytes_response<A: App>(
+/// The response of a value, with its body in the common form.
+///
+/// It stands apart, since the variables of every answer would be cleared for each.
+fn boxed_response<A: App, R: Responder<A>>(
     alloc: Global,
-    bytes: Bytes,
-    req: &HttpRequest<A>,
-) -> Result<HttpResponse<BoxBody<A::Source>>, NoMemory>
-    ensures { IfOk result (λ reply.
-        plain_reply (λ b. box_plain A.Source.feed b) reply ≡ bytes_reply bytes) }
-{
-    bytes.respond_to(alloc, req)?.map_into_boxed_body(alloc)
-}
-
-/// A 200 with this text.
-fn text_response<A: App>(
-    alloc: Global,
-    text: Text,
-    req: &HttpRequest<A>,
-) -> Result<HttpResponse<BoxBody<A::Source>>, NoMemory>
-    ensures { IfOk result (λ reply.
-        plain_reply (λ b. box_plain A.Source.feed b) reply ≡ text_reply text) }
-{
-    text.respond_to(alloc, req)?.map_into_boxed_body(alloc)
-}
-
-/// A 200 with this item as JSON.
-fn json_response<A: App>(
-    alloc: Global,
-    item: Item,
-    req: &HttpRequest<A>,
-) -> Result<HttpResponse<BoxBody<A::Source>>, NoMemory>
-    ensures { IfOk result (λ reply.
-        plain_reply (λ b. box_plain A.Source.feed b) reply ≡ json_reply item) }
-{
-    Json(item)
-        .respond_to(alloc, req)?
-        .map_into_boxed_body(alloc)
-}
-
-/// A 200 with this item as a form.
-fn form_response<A: App>(
-    alloc: Global,
-    item: Item,
-    req: &HttpRequest<A>,
-) -> Result<HttpResponse<BoxBody<A::Source>>, NoMemory>
-    ensures { IfOk result (λ reply.
-        plain_reply (λ b. box_plain A.Source.feed b) reply ≡ form_reply item) }
-{
-    Form(item)
-        .respond_to(alloc, req)?
-        .map_into_boxed_body(alloc)
-}
-
-/// An empty 204.
-fn done_response<A: App>(
-    alloc: Global,
+    value: R,
     req: &HttpRequest<A>,
 ) -> Result<HttpResponse<BoxBody<A::Source>>, NoMemory>
     ensures value { IfOk result (λ reply.
-        plain_reply (λ b. box_plain A.Source.feed b) reply ≡ empty_reply 204) }
-    ensures memory { IsOk result }
+        R.responds value req.now.request (plain_reply (λ b. box_plain A.Source.feed b) reply)) }
+    ensures memory { R.needs_no_memory value
+        → ((body : R.Body) → R.Body.needs_no_memory body) → IsOk result }
 {
-    let done: Done<Error> = Done(Ok(()));
-    done.respond_to(alloc, req)?.map_into_boxed_body(alloc)
-}
-
-/// An empty 404.
-fn none_response<A: App>(
-    alloc: Global,
-    req: &HttpRequest<A>,
-) -> Result<HttpResponse<BoxBody<A::Source>>, NoMemory>
-    ensures value { IfOk result (λ reply.
-        plain_reply (λ b. box_plain A.Source.feed b) reply ≡ empty_reply 404) }
-    ensures memory { IsOk result }
-{
-    let none: Option<Bytes> = None;
-    none.respond_to(alloc, req)?.map_into_boxed_body(alloc)
+    value.respond_to(alloc, req)?.map_into_boxed_body(alloc)
 }
 
 impl<A: App> Responder<A> for Answer<A::Source> {
@@ -225,12 +159,18 @@ impl<A: App> Responder<A> for Answer<A::Source> {
         req: &HttpRequest<A>,
     ) -> Result<HttpResponse<BoxBody<A::Source>>, NoMemory> {
         match self {
-            Answer::Bytes(bytes) => bytes_response(alloc, bytes, req),
-            Answer::Text(text) => text_response(alloc, text, req),
-            Answer::Json(item) => json_response(alloc, item, req),
-            Answer::Form(item) => form_response(alloc, item, req),
-            Answer::Done => done_response(alloc, req),
-            Answer::None => none_response(alloc, req),
+            Answer::Bytes(bytes) => boxed_response(alloc, bytes, req),
+            Answer::Text(text) => boxed_response(alloc, text, req),
+            Answer::Json(item) => boxed_response(alloc, Json(item), req),
+            Answer::Form(item) => boxed_response(alloc, Form(item), req),
+            Answer::Done => {
+                let done: Done<Error> = Done(Ok(()));
+                boxed_response(alloc, done, req)
+            }
+            Answer::None => {
+                let none: Option<Bytes> = None;
+                boxed_response(alloc, none, req)
+            }
             Answer::Response(response) => Ok(Box::into_inner(response)),
         }
     }
