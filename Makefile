@@ -2,28 +2,44 @@
 SCRIPT ?= examples/pieces.script
 PLAIN = bench/target/release/plain
 
-.PHONY: help run prove test costs bench plain
+.PHONY: help run test rows gate prove wrong-bodies costs graphs bench plain
 
 help:
-	@echo "make run SCRIPT=FILE  serves a script and prints the replies (default: $(SCRIPT))"
-	@echo "make prove            proves and builds the program, and prints its path"
-	@echo "make test             the gate: proves everything, tries the wrong bodies, runs the tests"
-	@echo "make costs            lists for each crate what its proofs cost"
-	@echo "make bench            compares the program with one written in plain Rust"
-	@echo "make plain SCRIPT=F   serves a script by the program in plain Rust"
+	@echo "make run SCRIPT=FILE      serves a script and prints the replies (default: $(SCRIPT))"
+	@echo "make test                 runs all tests, examples and rows, in minutes; it proves nothing"
+	@echo "make rows                 runs the program over the rows of examples/"
+	@echo "make gate                 the gate: the same, and everything proved, in an hour or more"
+	@echo "make prove                proves and builds the program, and prints its path"
+	@echo "make wrong-bodies CRATE=N tries all wrong bodies of a crate that was checked"
+	@echo "make costs                prints what each crate cost the gate, beside what it cost before"
+	@echo "make graphs               lists the functions whose proofs cost most"
+	@echo "make bench                compares the program with one written in plain Rust"
+	@echo "make plain SCRIPT=F       serves a script by the program in plain Rust"
 
 # The proved program where there is one of these sources, else one that is built without proof.
 run:
 	@tools/run serve --pool=0 < $(SCRIPT)
 
+test:
+	@tools/quick-tests
+
+gate:
+	.ci/run
+
 prove:
 	@tools/prove
 
-test:
-	.ci/run
+wrong-bodies:
+	@tools/try-wrong-bodies $(CRATE)
+
+rows:
+	@tools/run-rows "$$(tools/program)"
 
 costs:
-	@tools/costs
+	@tools/gate-costs
+
+graphs:
+	@tools/graphs $(CRATE)
 
 bench:
 	bench/run

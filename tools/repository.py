@@ -5,20 +5,33 @@ import shutil
 
 TOP = os.path.dirname(os.path.dirname(os.path.abspath(__file__)))
 PROGRAM = "rothveng"
-PROVED = os.path.join(TOP, "crates", PROGRAM, "out", PROGRAM)
-# Holds the digest of the sources that PROVED was proved and built from.
-PROVED_FROM = PROVED + ".sources"
-UNPROVED = os.path.join(TOP, "out", "unproved", PROGRAM)
 
 
-def crates():
-    """The crates of crates.txt in its order, each with the libraries that it uses, without the kit's."""
+def proved(crate):
+    """Where a program of this crate lies that is proved. The file beside it, with `.sources` behind its name, names the
+    sources that it was built from, by their digest."""
+    return os.path.join(TOP, "crates", crate, "out", crate)
+
+
+def unproved(crate, is_optimised):
+    """Where a program of this crate lies that is built without proof, with its `.sources` beside it."""
+    return os.path.join(TOP, "out", "unproved", "optimised" if is_optimised else "quick", crate)
+
+
+def listed_crates():
+    """The crates of crates.txt in its order, each with all libraries that it uses."""
     listed = {}
     with open(os.path.join(TOP, "crates.txt"), encoding="utf-8") as lines:
         for line in lines:
             name, colon, uses = line.partition("#")[0].partition(":")
             if colon:
                 listed[name.split()[0]] = uses.split()
+    return listed
+
+
+def crates():
+    """The crates of crates.txt in its order, each with the libraries that it uses, without the kit's."""
+    listed = listed_crates()
     return {name: [it for it in uses if it in listed] for name, uses in listed.items()}
 
 
@@ -45,10 +58,10 @@ def sources(name, parts=("src", "specs", "proofs"), ends=(".rt", ".antt")):
     return sorted(found)
 
 
-def digest(parts=("src", "specs", "proofs")):
-    """One text that changes where a source of the program changes, or the toolchain's folder."""
+def digest(crate=PROGRAM, parts=("src", "specs", "proofs")):
+    """One text that changes where a source of a program changes, or the toolchain's folder."""
     whole = hashlib.sha256(os.path.realpath(shutil.which("rt") or "").encode())
-    files = [it for name in below(PROGRAM) for it in sources(name, parts)]
+    files = [it for name in below(crate) for it in sources(name, parts)]
     for path in [os.path.join(TOP, "crates.txt"), *files]:
         with open(path, "rb") as opened:
             content = opened.read()
@@ -56,10 +69,15 @@ def digest(parts=("src", "specs", "proofs")):
     return whole.hexdigest()
 
 
-def is_built_from(program, record, wanted):
+def is_built_from(program, wanted):
     """Whether the program is there, and the file beside it names these sources."""
     try:
-        with open(record, encoding="utf-8") as opened:
+        with open(program + ".sources", encoding="utf-8") as opened:
             return os.access(program, os.X_OK) and opened.read().strip() == wanted
     except OSError:
         return False
+
+
+def note_built_from(program, wanted):
+    with open(program + ".sources", "w", encoding="utf-8") as it:
+        it.write(wanted + "\n")

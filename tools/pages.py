@@ -1,0 +1,57 @@
+"""The pages of the repository and the blocks of code in them."""
+import collections
+import os
+import re
+
+import repository
+
+FENCE = re.compile(r"^(?P<ticks>```+)(?P<kind>\w*)\s*$")
+COMMENT = re.compile(r"^<!-- (?:from (?P<path>\S+)|crate:?(?P<uses>[\w ]*)) -->$")
+
+# A fenced block: the number of its first line, its kind, whether it has an end, the file that it is from or None, the
+# libraries that it uses where it is an example that stands in no file or None, and its lines.
+Block = collections.namedtuple("Block", "number kind has_end source uses lines")
+
+
+def lines_of(path):
+    with open(os.path.join(repository.TOP, path), encoding="utf-8") as opened:
+        return opened.read().splitlines()
+
+
+def blocks(page):
+    """Each fenced block of a page."""
+    said, opened, kind, number, content = None, None, "", 0, []
+    for at, line in enumerate(lines_of(page), 1):
+        fence = FENCE.match(line)
+        if opened is None and fence:
+            opened, kind, number, content = fence["ticks"], fence["kind"], at, []
+        elif opened is None:
+            said = COMMENT.match(line) or (said if not line.strip() else None)
+        elif line.rstrip() == opened:
+            yield block_of(number, kind, True, said, content)
+            opened, said = None, None
+        else:
+            content.append(line.rstrip())
+    if opened is not None:
+        yield block_of(number, kind, False, None, content)
+
+
+def block_of(number, kind, has_end, said, lines):
+    source = said["path"] if said else None
+    uses = said["uses"].split() if said and said["uses"] is not None else None
+    return Block(number, kind, has_end, source, uses, lines)
+
+
+def documents():
+    """The pages of docs/."""
+    return sorted(f"docs/{it}" for it in os.listdir(os.path.join(repository.TOP, "docs")) if it.endswith(".md"))
+
+
+def example(page):
+    """The source of the examples that stand in this page alone, in their order, and the libraries that they use."""
+    source, uses = [], {}
+    for block in blocks(page):
+        if block.uses is not None:
+            source += [*block.lines, ""]
+            uses.update(dict.fromkeys(block.uses))
+    return "\n".join(source), list(uses)
