@@ -92,7 +92,6 @@ pub(crate) fn started<A: App>(
     let mut pool = HttpRequestPool::with_capacity(alloc, root, config(rt, alloc), 0).expect(
         rt, "memory",
     );
-    assert!(rt; pool.made() < 9);
     pool.start(alloc, parts).ok().expect(rt, "memory")
 }
 

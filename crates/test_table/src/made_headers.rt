@@ -14,8 +14,12 @@ pub(crate) fn answer(alloc: Global, name: &str, fields: &[&str]) -> Answer {
             printed_header(alloc, ContentType::form_url_encoded(alloc)?)
         }
         ("Date::now", [seconds]) => date(alloc, seconds),
-        ("ETag::weak", [tag]) => weak_tag(alloc, tag),
-        ("ETag::strong", [tag]) => strong_tag(alloc, tag),
+        ("ETag::weak", [tag]) => {
+            printed_header(alloc, ETag(EntityTag::new_weak(Text::of(alloc, tag)?)))
+        }
+        ("ETag::strong", [tag]) => {
+            printed_header(alloc, ETag(EntityTag::new_strong(Text::of(alloc, tag)?)))
+        }
         ("ContentDisposition::attachment", [filename]) => {
             printed_header(alloc, ContentDisposition::attachment(alloc, filename)?)
         }
@@ -25,20 +29,6 @@ pub(crate) fn answer(alloc: Global, name: &str, fields: &[&str]) -> Answer {
         }
         _ => no_such_call(alloc),
     }
-}
-
-fn weak_tag(alloc: Global, tag: &str) -> Answer {
-    if !EntityTag::is_tag_text(tag) {
-        return text(alloc, "no tag");
-    }
-    printed_header(alloc, ETag(EntityTag::new_weak(Text::of(alloc, tag)?)))
-}
-
-fn strong_tag(alloc: Global, tag: &str) -> Answer {
-    if !EntityTag::is_tag_text(tag) {
-        return text(alloc, "no tag");
-    }
-    printed_header(alloc, ETag(EntityTag::new_strong(Text::of(alloc, tag)?)))
 }
 
 /// The header of a moment, in seconds since 1970.

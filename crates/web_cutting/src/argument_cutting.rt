@@ -8,8 +8,8 @@ use web_extract::{Configs, FromRequest, IntoSome};
 use web_request::App;
 
 /// `Bytes` and `String` allow the same results in every cutting of the body, and leave the same of
-/// it; and so do `Option` and `Result` of an argument that does. Only the number of polls may
-/// differ.
+/// it; and so do `Option` and `Result` of an argument that does, and such an argument as a place in
+/// a list. Only the number of polls may differ.
 ///
 /// The contract is a law, for callers to cite in proofs; a call of it has no effect.
 pub fn argument_cutting_law<P: App, A: FromRequest<P>, E: Drop>()
@@ -24,13 +24,6 @@ where
         → CutFree (A.means q) → CutFree (⟦<Option<A> as FromRequest<P>>⟧.means q) }
     ensures result { (q : Request P.Layer P.Local P.Conn)
         → CutFree (A.means q) → CutFree (⟦<Result<A, E> as FromRequest<P>>⟧.means q) }
-{}
-
-/// An argument that allows the same results in every cutting of the body does so as a place in a
-/// list.
-///
-/// The contract is a law, for callers to cite in proofs; a call of it has no effect.
-pub fn place_cutting_law<P: App, A: FromRequest<P>>()
-    ensures { (q : Request P.Layer P.Local P.Conn)
+    ensures place { (q : Request P.Layer P.Local P.Conn)
         → CutFree (A.means q) → CutFree (Member A.Error.converts (A.means q)) }
 {}

@@ -4,5 +4,5 @@
 mod argument_cutting;
 mod decoder_cutting;
 
-pub use argument_cutting::{argument_cutting_law, place_cutting_law};
+pub use argument_cutting::argument_cutting_law;
 pub use decoder_cutting::decoder_cutting_law;

@@ -1,5 +1,5 @@
 use Rattle.web_extract.specs.LayerConfigurations.{payload_settings}
-use Rattle.web_cutting.proofs.CutFreeLemmas.{bytes_cut, option_cut, result_cut, string_cut}
+use Rattle.web_cutting.proofs.CutFreeLemmas.{bytes_cut, member_cut, option_cut, result_cut, string_cut}
 use Rattle.web_cutting.proofs.argument_cutting.argument_cutting_law.Goals as goal
 
 pub returns-clause-bytes : goal.returns-clause-bytes
@@ -13,3 +13,6 @@ returns-clause-option g c = λ q free. option_cut (g.A.FromRequest.means q) free
 
 pub returns-clause-result : goal.returns-clause-result
 returns-clause-result g c = λ q free. result_cut _ (g.A.FromRequest.means q) free
+
+pub returns-clause-place : goal.returns-clause-place
+returns-clause-place g c = λ q free. member_cut _ _ free
