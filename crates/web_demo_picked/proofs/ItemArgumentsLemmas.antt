@@ -27,7 +27,8 @@ use Rattle.web_demo_layers.specs.Teapots.{form_teapot, is_vendor_type, json_teap
 use Rattle.web_demo_layers.specs.Teapots.{path_teapot, query_teapot}
 use Rattle.web_demo_layers.specs.declared.item.Item.{Item}
 use Rattle.web_demo_layers.specs.declared.teapot.Teapot.{Teapot}
-use Rattle.web_demo_picked.specs.ArgumentMeanings.{By, ByEither, InList, same_fault}
+use Rattle.web_demo_picked.specs.ArgumentMeanings.{InList}
+use Rattle.web_demo_picked.specs.Picking.{By, ByEither, same_fault}
 use Rattle.web_demo_picked.specs.BodyArguments.{MeansBody, body_rest, body_result}
 use Rattle.web_demo_layers.specs.DemoRequests.{DemoRequest}
 use Rattle.web_demo_picked.specs.ItemArguments.{ByHandler, IsVendorType, ItemOfJson, ItemOfPairs}

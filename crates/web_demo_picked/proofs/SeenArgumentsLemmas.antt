@@ -4,13 +4,14 @@ use Rattle.std.specs.Prelude.{Result, Ok, Err}
 use Rattle.web_request.specs.declared.source.Mark.{Mark}
 use Rattle.web_reply.specs.Replies.{Fault}
 use Rattle.web_extract.specs.ArgumentLists.{Gives, Joins2, nested3}
-use Rattle.web_extract.specs.CollectedResults.{One, collected2, map_value}
+use Rattle.web_extract.specs.CollectedResults.{collected2, map_value}
 use Rattle.web_extract.specs.ConvertedFutures.{ConvertsResult, GivesConvertedBy, converted_result}
-use Rattle.web_extract.specs.ListResults.{DelayedResult, Exactly, list1, list2, list3}
-use Rattle.web_extract.specs.ListMeanings.{Meaning, Means1, Means2, Means3}
+use Rattle.web_extract.specs.ListResults.{DelayedResult, Exactly, list2, list3}
+use Rattle.web_extract.specs.ListMeanings.{Meaning, Means2, Means3}
 use Rattle.web_extract.proofs.ConvertedFuturesLemmas.{GivesOnly}
-use Rattle.web_extract.proofs.HandedMarksLemmas.{decides1, decides2, decides3}
-use Rattle.web_demo_picked.specs.ArgumentMeanings.{InList, same_fault}
+use Rattle.web_extract.proofs.HandedMarksLemmas.{decides2, decides3}
+use Rattle.web_demo_picked.specs.ArgumentMeanings.{InList}
+use Rattle.web_demo_picked.specs.Picking.{same_fault}
 use Rattle.web_demo_picked.specs.BodyArguments.{Alone}
 
 -- Of each list of marks the argument leaves these, and its result, seen by f, is this one.
@@ -72,19 +73,6 @@ module _ {T U V W : Type 0} (f : T → V) (g : U → W)
     delay = j.delay;
     result = ap (map_value (λ v. (f v.0, g v.1))) j.result ∙ collected_seen f g j.x1 j.x2;
   }
-
-module _ {T V : Type 0} (f : T → V) (first : Meaning T)
-    (rest : List Mark → List Mark) (a : List Mark → DelayedResult V) (seen : Seen f first rest a) where
-  alone_as : (m left : List Mark) (n : ℕ) (x : Result (One T) Fault) → Means1 first m left n x
-      → Means1 (As rest a) m left n (map_value (λ v. record { 0 = f v.0 }) x)
-  alone_as m left n (Ok v) h = seen m left n (Ok v.0) h
-  alone_as m left n (Err e) h = seen m left n (Err e) h
-
-  -- a list of one
-  pub alone_seen : Seen (λ v. record { 0 = f v.0 }) (Means1 first) rest (λ m. list1 (a m))
-  alone_seen m left n x h =
-      (decides1 (As rest a) m (rest m) (a m) (exactly rest a m) left n (map_value (λ v. record { 0 = f v.0 }) x)).0
-      (alone_as m left n x h)
 
 module _ {T U V W : Type 0} (f : T → V) (g : U → W) (first : Meaning T) (second : Meaning U)
     (rest1 rest2 : List Mark → List Mark)
