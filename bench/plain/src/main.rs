@@ -22,11 +22,18 @@ mod text;
 
 use load::Load;
 use script::Fault;
+use serving::Pool;
 use std::io::{Read, Write};
 use std::process::ExitCode;
 
 /// The most bytes that a script may have.
 const SCRIPT_LIMIT: u64 = 16_777_216;
+
+/// The most records that a pool may keep.
+const MOST_KEPT: usize = 1_024;
+
+/// How many records `replay` keeps.
+const REPLAY_CAPACITY: usize = 128;
 
 const USAGE: &[u8] = b"usage: serve --pool=N | generate SEED COUNT | replay SEED COUNT\n";
 
@@ -34,7 +41,10 @@ fn main() -> ExitCode {
     let words: Vec<String> = std::env::args().skip(1).collect();
     let words: Vec<&str> = words.iter().map(String::as_str).collect();
     match words[..] {
-        ["serve", "--pool=0"] => serve(),
+        ["serve", pool] => match capacity(pool) {
+            Some(capacity) => serve(capacity),
+            None => say(USAGE, 64),
+        },
         ["generate", seed, count] => match Load::read(seed, count) {
             Some(load) => say(&load.script(), 0),
             None => say(USAGE, 64),
@@ -47,8 +57,15 @@ fn main() -> ExitCode {
     }
 }
 
+/// The capacity that a word `--pool=N` asks for.
+fn capacity(word: &str) -> Option<usize> {
+    let digits = word.strip_prefix("--pool=")?;
+    let is_number = digits.bytes().all(|digit| digit.is_ascii_digit());
+    digits.parse().ok().filter(|&number| is_number && number <= MOST_KEPT)
+}
+
 /// Reads a script, serves it and writes the replies.
-fn serve() -> ExitCode {
+fn serve(capacity: usize) -> ExitCode {
     let mut bytes = Vec::new();
     if std::io::stdin()
         .lock()
@@ -63,8 +80,9 @@ fn serve() -> ExitCode {
     }
     match script::read(&bytes) {
         Ok(script) => {
-            let (mut flights, made) = serving::serve(script);
-            say(&printing::printed(&mut flights, made), 0)
+            let mut pool = Pool::new(capacity);
+            let mut flights = serving::serve(script, &mut pool);
+            say(&printing::printed(&mut flights, &pool), 0)
         }
         Err(fault) => refuse(&fault),
     }
@@ -75,8 +93,9 @@ fn replay(load: &Load) -> ExitCode {
     let bytes = load.script();
     match script::read(&bytes) {
         Ok(script) => {
-            let (flights, made) = serving::serve(script);
-            say(&load::summary(bytes.len(), &flights, made), 0)
+            let mut pool = Pool::new(REPLAY_CAPACITY);
+            let flights = serving::serve(script, &mut pool);
+            say(&load::summary(bytes.len(), &flights, pool.made), 0)
         }
         Err(fault) => refuse(&fault),
     }

@@ -1,11 +1,11 @@
 //! The text of the replies.
 use crate::reply::{Body, Reply};
 use crate::script::Mark;
-use crate::serving::{Flight, Stage};
-use crate::text::{put_hex, put_line};
+use crate::serving::{Flight, Pool, Stage};
+use crate::text::{put_hex, put_line, put_number};
 
-/// The replies in the order of the exchanges, then the pool, which keeps nothing, and how many records were made.
-pub fn printed(flights: &mut [Flight<'_>], made: u64) -> Vec<u8> {
+/// The replies in the order of the exchanges, then the records that are kept, and how many were made.
+pub fn printed(flights: &mut [Flight<'_>], pool: &Pool) -> Vec<u8> {
     let mut out = Vec::new();
     for (number, flight) in flights.iter_mut().enumerate() {
         put_line(&mut out, b"exchange ", number as u64);
@@ -14,8 +14,13 @@ pub fn printed(flights: &mut [Flight<'_>], made: u64) -> Vec<u8> {
             _ => out.extend_from_slice(b"unfinished\n"),
         }
     }
-    out.extend_from_slice(b"pool\n");
-    put_line(&mut out, b"made ", made);
+    out.extend_from_slice(b"pool");
+    for &record in &pool.kept {
+        out.push(b' ');
+        put_number(&mut out, record);
+    }
+    out.push(b'\n');
+    put_line(&mut out, b"made ", pool.made);
     out
 }
 

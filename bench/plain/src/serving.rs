@@ -10,7 +10,40 @@ use crate::text::put_number;
 pub struct Flight<'a> {
     /// Arguments and handlers may read it until the answer.
     request: Request<'a>,
+    /// The number of the record that it holds.
+    record: Option<u64>,
     pub stage: Stage<'a>,
+}
+
+/// The numbers of the records that are kept to be used again.
+pub struct Pool {
+    capacity: usize,
+    pub kept: Vec<u64>,
+    pub made: u64,
+}
+
+impl Pool {
+    pub fn new(capacity: usize) -> Pool {
+        Pool {
+            capacity,
+            kept: Vec::with_capacity(capacity),
+            made: 0,
+        }
+    }
+
+    /// The record that was kept last, or a new one.
+    fn take(&mut self) -> u64 {
+        self.kept.pop().unwrap_or_else(|| {
+            self.made += 1;
+            self.made - 1
+        })
+    }
+
+    fn give_back(&mut self, record: u64) {
+        if self.kept.len() < self.capacity {
+            self.kept.push(record);
+        }
+    }
 }
 
 pub enum Stage<'a> {
@@ -23,31 +56,34 @@ pub enum Stage<'a> {
     Answered(Reply<'a>),
 }
 
-/// Polls each exchange as often as the plan names it, and counts those that were begun.
-pub fn serve(script: Script<'_>) -> (Vec<Flight<'_>>, u64) {
+/// Polls each exchange as often as the plan names it. Then the exchanges without an answer give their records back.
+pub fn serve<'a>(script: Script<'a>, pool: &mut Pool) -> Vec<Flight<'a>> {
     let mut flights: Vec<Flight> = script
         .exchanges
         .into_iter()
         .map(|exchange| Flight {
             request: exchange.request,
+            record: None,
             stage: Stage::Waiting(exchange.marks),
         })
         .collect();
-    let mut made = 0;
     for entry in script.plan {
         if let Some(flight) = flights.get_mut(entry as usize) {
-            flight.poll(&mut made);
+            flight.poll(pool);
         }
     }
-    (flights, made)
+    for record in flights.iter_mut().filter_map(|flight| flight.record.take()) {
+        pool.give_back(record);
+    }
+    flights
 }
 
 impl<'a> Flight<'a> {
     /// Polls what the exchange waits for.
-    fn poll(&mut self, made: &mut u64) {
+    fn poll(&mut self, pool: &mut Pool) {
         match &mut self.stage {
             Stage::Waiting(marks) => {
-                *made += 1;
+                self.record = Some(pool.take());
                 let mut arguments = Arguments::of(&self.request, std::mem::take(marks));
                 self.stage = match arguments.poll(&self.request) {
                     None => Stage::Extracting(arguments),
@@ -67,7 +103,12 @@ impl<'a> Flight<'a> {
                     self.stage = Stage::Answered(reply);
                 }
             }
-            Stage::Answered(_) => {}
+            Stage::Answered(_) => return,
+        }
+        if matches!(self.stage, Stage::Answered(_))
+            && let Some(record) = self.record.take()
+        {
+            pool.give_back(record);
         }
     }
 }

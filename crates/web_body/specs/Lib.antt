@@ -11,3 +11,5 @@ pub mod ErrorTexts
 pub mod LinesErrorTexts
 pub mod PayloadSettings
 pub mod WholePayloads
+pub mod BufferedBytes
+pub mod Cuttings

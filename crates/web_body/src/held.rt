@@ -2,19 +2,20 @@
 ghost use Rattle.std.specs.Prelude.{◌≡◌, ◌++◌, ◌<◌, ◌^◌, [], length, OnOk, OnErr, IfOk};
 ghost use Rattle.web_body.specs.HeldBytes.{held_bytes, IsCopied};
 
+use crate::rope::Rope;
 use bytes::Bytes;
 use std::alloc::Global;
 use std::mem;
 use web_request::NoMemory;
 
-/// The bytes that a collector holds: the first piece as it came, or a buffer of several pieces. So
-/// a body of one piece is not copied, and of every other body each piece is copied once.
+/// The bytes that a collector holds: the first piece as it came, or several pieces, which are
+/// joined when they are taken. So a body of one piece is not copied.
 #[derive(Drop)]
 pub enum Held {
     /// A single piece, or no bytes.
     One(Bytes),
     /// Several pieces.
-    Many(Vec<u8>),
+    Many(Rope),
 }
 
 impl Held {
@@ -30,7 +31,7 @@ impl Held {
     {
         match self {
             Held::One(bytes) => bytes.len(),
-            Held::Many(buffer) => buffer.len(),
+            Held::Many(pieces) => pieces.len(),
         }
     }
 
@@ -48,37 +49,37 @@ impl Held {
         }
         match self {
             Held::One(first) => {
-                let both = concat(alloc, first.as_slice(), piece.as_slice())?;
+                let both = two_pieces(alloc, first, piece)?;
                 *self = Held::Many(both);
                 Ok(())
             }
-            Held::Many(buffer) => Ok(buffer.extend_from_slice(piece.as_slice())?),
+            Held::Many(pieces) => pieces.push(alloc, piece),
         }
     }
 
-    /// Takes all bytes and leaves none. It allocates only where a buffer of several pieces is held.
-    pub fn take(&mut self) -> Result<Bytes, NoMemory>
+    /// Takes all bytes and leaves none. It allocates only where several pieces are held.
+    pub fn take(&mut self, alloc: Global) -> Result<Bytes, NoMemory>
         ensures all { IfOk result (λ bytes. bytes ≡ held_bytes self.old) }
         ensures after { held_bytes self.new ≡ [] }
         ensures memory { OnErr result (IsCopied self.old) }
     {
         match mem::replace(self, Held::new()) {
             Held::One(bytes) => Ok(bytes),
-            Held::Many(buffer) => {
-                if buffer.is_empty() {
+            Held::Many(pieces) => {
+                if pieces.len() == 0 {
                     return Ok(Bytes::new());
                 }
-                Ok(Bytes::from_vec(buffer)?)
+                pieces.join(alloc)
             }
         }
     }
 }
 
-fn concat(alloc: Global, first: &[u8], second: &[u8]) -> Result<Vec<u8>, NoMemory>
-    ensures { IfOk result (λ both. both.items ≡ first.now ++ second.now) }
+fn two_pieces(alloc: Global, first: &Bytes, second: Bytes) -> Result<Rope, NoMemory>
+    ensures { IfOk result (λ both. both ≡ first.now ++ second) }
 {
-    let mut both = Vec::with_capacity(alloc, first.len() + second.len())?;
-    both.extend_from_slice(first)?;
-    both.extend_from_slice(second)?;
+    let mut both = Rope::new(alloc);
+    both.push(alloc, first.clone()?)?;
+    both.push(alloc, second)?;
     Ok(both)
 }

@@ -2,7 +2,9 @@
 #![tactic(auto)]
 
 mod body_collector;
+mod buffering;
 mod collecting;
+mod cutting;
 mod form_error;
 mod head_tests;
 mod held;
@@ -15,11 +17,14 @@ mod payload;
 mod payload_config;
 mod poll;
 mod query_error;
+mod rope;
 mod take_payload;
 mod whole_payload;
 
 pub use body_collector::Collector;
+pub use buffering::buffered_law;
 pub use collecting::Unread;
+pub use cutting::reading_cutting_law;
 pub use form_error::UrlencodedError;
 pub use head_tests::{Declared, declared_length, is_coded};
 pub use json_error::JsonPayloadError;

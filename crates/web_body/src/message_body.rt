@@ -60,8 +60,8 @@ impl fmt::Display for PayloadError {
 /// nothing.
 ///
 /// A poll returns `Pending` where the payload stalls, and allocates nothing where a stall comes
-/// first. A body of one piece is not copied, and takes no memory; of every other body each piece is
-/// copied once. The collector keeps the payload that it took, also when it is finished.
+/// first. A body of one piece is not copied, and takes no memory; the pieces of every other body
+/// are joined at its end. The collector keeps the payload that it took, also when it is finished.
 #[derive(Drop)]
 pub struct HttpMessageBody<S> {
     body: Collector<S>,

@@ -22,10 +22,11 @@ use Rattle.web_script.specs.ScriptedView.{ScriptedExchangeView}
 use Rattle.web_demo_layers.specs.declared.layer.DemoLayer.{DemoLayer}
 use Rattle.web_demo_layers.specs.declared.app.DemoLocal.{DemoLocal}
 use Rattle.web_demo_layers.specs.declared.app.DemoConn.{DemoConn}
-use Rattle.web_demo_flights.specs.DemoExchanges.{DemoRequest, demo_exchange, demo_pool, demo_request}
+use Rattle.web_demo_layers.specs.DemoRequests.{DemoRequest, demo_request}
 use Rattle.web_demo.specs.ServiceFunctions.{ArgumentFunctions, ArgumentsMeet, ConvertsTo}
 use Rattle.web_demo.specs.ServiceFunctions.{HandlerFunctions, HandlerMeets}
 use Rattle.web_demo.specs.ServiceFunctions.{delay_from, delay_of, reply_from, reply_of}
+use Rattle.web_cli.specs.DemoExchanges.{demo_exchange, demo_pool}
 use Rattle.web_cli.specs.ScriptAnswers.{arguments_of}
 
 abbrev pub DemoRules : Type 0 → Type 0 → Type 0 → Type 1
@@ -37,7 +38,7 @@ abbrev pub demo_setting : {V E Y U W : Type 0} → DemoRules V E Y
     → Setting Feed DemoLayer DemoLocal DemoConn V E Y U W
 demo_setting rules arguments handling = record {
   rules = rules;
-  request = request_of demo_pool;
+  request = request_of (demo_pool 0);
   feed = λ (f : Feed). f;
   arguments = arguments;
   handling = handling;
@@ -118,7 +119,7 @@ known_marks b = unwrap_or (payload_feed (λ (f : Feed). f) b).marks []
 abbrev pub worker_arguments : {V : Type 0} → ArgumentFunctions V
     → ExchangeView Feed DemoLayer DemoLocal DemoConn → ℕ × Option V
 worker_arguments a x =
-    let q = request_of demo_pool x in
+    let q = request_of (demo_pool 0) x in
     (a.delay q (known_marks x.body), result_ok (a.result q (known_marks x.body)))
 
 module _ {V E Y U W : Type 0} (R : DemoRules V E Y)

@@ -1,5 +1,5 @@
 -- From the outcomes and the calls of a plan to the text of the replies and the calls for a script.
-use Rattle.std.proofs.Common.{◌≡◌, ℕ, ◌+◌, ◌≤◌, Bool, true, false, cond, List, [], ◌∷◌, ◌++◌}
+use Rattle.std.proofs.Common.{◌≡◌, ℕ, zero, suc, ◌+◌, ◌≤◌, Bool, true, false, cond, List, [], ◌∷◌, ◌++◌}
 use Rattle.std.proofs.Common.{map, length, refl, inl, inr, arith, ◌∙◌, ap, subst, Global}
 use Rattle.std.specs.Prelude.{Option, Result, Ok, Err, Vec, IfOk, OnOk}
 use Rattle.std.specs.List.{AllPass, enumerate_from, list_any}
@@ -17,6 +17,8 @@ use Rattle.web_worker.specs.Outcomes.{OutcomeView}
 use Rattle.web_worker.specs.OutcomeFunctions.{AnswersOnce, DeterministicOutcomes, IsOutcome}
 use Rattle.web_worker.specs.PlanCalls.{DeterministicCalls}
 use Rattle.web_worker.specs.PlanOutcomes.{EachFrom, lacks_memory, outcome_of, poll_count}
+use Rattle.web_worker.specs.PlanPools.{EachAnswersOnce, IsPoolAfter}
+use Rattle.web_worker.specs.PoolRun.{NotTaken, SerialState, return_held, run_entries}
 use Rattle.web_worker.specs.RecordsMade.{is_waiting, waiting_count}
 use Rattle.web_worker.specs.Setting.{Setting}
 use Rattle.web_worker.proofs.CallsFunctionLemmas.{calls_of_map}
@@ -27,12 +29,12 @@ use Rattle.web_script.specs.ScriptedView.{ScriptedExchangeView}
 use Rattle.web_demo_layers.specs.declared.layer.DemoLayer.{DemoLayer}
 use Rattle.web_demo_layers.specs.declared.app.DemoLocal.{DemoLocal}
 use Rattle.web_demo_layers.specs.declared.app.DemoConn.{DemoConn}
-use Rattle.web_demo_flights.specs.DemoExchanges.{demo_exchange}
+use Rattle.web_cli.specs.DemoExchanges.{demo_exchange, demo_pool}
 use Rattle.web_demo.specs.ServiceFunctions.{ArgumentFunctions, ArgumentsMeet}
 use Rattle.web_demo.specs.ServiceFunctions.{HandlerFunctions, HandlerMeets, delay_of, reply_of}
 use Rattle.web_cli.specs.ScriptAnswers.{AppendsCallsTo, AreRepliesTo, IsServed, arguments_of, calls_to}
-use Rattle.web_cli.specs.ScriptAnswers.{outcome_in, replies_to, script_outcomes}
-use Rattle.web_cli.specs.LoadTexts.{IsSummaryOf, summary_of}
+use Rattle.web_cli.specs.ScriptAnswers.{delay_in, outcome_in, replies_to, script_outcomes, script_pool}
+use Rattle.web_cli.specs.LoadTexts.{IsSummaryOf, replay_capacity, summary_of}
 use Rattle.web_cli.proofs.DemoSettingLemmas.{DemoRules, all_once, all_same, answers_once}
 use Rattle.web_cli.proofs.DemoSettingLemmas.{demo_setting, worker_arguments}
 
@@ -40,6 +42,11 @@ one_outcome : (d : ℕ) (r : Reply Plain) (n : ℕ) (o : OutcomeView)
     → IsOutcome d r n o → lacks_memory o ≡ false → o ≡ outcome_of d r n
 one_outcome d r n o (inl e) some = let t : lacks_memory o ≡ true = rw e refl in absurd (cc)
 one_outcome d r n o (inr e) some = e
+
+states_map : (es : List ScriptedExchangeView)
+    → map (λ _. NotTaken) (map demo_exchange es) ≡ map (λ _. NotTaken) es
+states_map [] = refl
+states_map (e ∷ es) = ap (λ (states : List SerialState). NotTaken ∷ states) (states_map es)
 
 module _ {V E Y U W : Type 0} (R : DemoRules V E Y)
     (converted : (e : E) → (f : Fault) × R.converts e f)
@@ -70,6 +77,35 @@ module _ {V E Y U W : Type 0} (R : DemoRules V E Y)
     outcomes_from plan i [] (o ∷ os) s all some = absurd s
     outcomes_from plan i (e ∷ es) [] s all some = absurd s
 
+    -- each exchange has the delay that the pool is computed with
+    each_once : (es : List ScriptedExchangeView) → AllPass (λ e. is_body e.marks) es
+        → EachAnswersOnce (demo_setting R arguments handling) (map demo_exchange es)
+        (delay_in a h es)
+    each_once [] all k x at = absurd cc
+    each_once (e ∷ es) all zero x at =
+        let body = All-head (λ (y : ScriptedExchangeView). is_body y.marks ≡ true) e es all in
+        let same : demo_exchange e ≡ x = cc in (
+          reply_of a h e,
+          subst (λ (y : ExchangeView Feed DemoLayer DemoLocal DemoConn).
+              AnswersOnce (demo_setting R arguments handling) y (delay_of a h e) (reply_of a h e))
+              same (answers_once R converted a h meets handles arguments handling e body),
+        )
+    each_once (e ∷ es) all (suc k) x at =
+        each_once es (All-tail (λ (y : ScriptedExchangeView). is_body y.marks ≡ true) e es all) k x at
+
+    -- where no allocation failed, the pool is the one that the script leaves
+    pub pool_is : (capacity : ℕ) (s : ScriptView) (os : List OutcomeView) (new : Pool DemoLayer)
+        → IsPoolAfter (demo_setting R arguments handling) s.plan (map demo_exchange s.exchanges) os
+        (demo_pool capacity) new
+        → AllPass (λ e. is_body e.marks) s.exchanges → list_any lacks_memory os ≡ false
+        → new ≡ script_pool a h capacity s
+    pool_is capacity s os new left all some =
+        let delays = delay_in a h s.exchanges in
+        left delays (each_once s.exchanges all) some
+        ∙ ap (λ (states : List SerialState).
+        let ran = run_entries delays (demo_pool capacity) states [] s.plan in
+        return_held ran.0 ran.1) (states_map s.exchanges)
+
     -- where no allocation failed, the outcomes are those of the script
     pub outcomes_are : (s : ScriptView) (os : List OutcomeView)
         → DeterministicOutcomes (demo_setting R arguments handling) s.plan
@@ -96,22 +132,30 @@ on_ok (Ok x) P p = p
 on_ok (Err e) P p = tt
 
 module _ {V E Y U W X : Type 0} (s : Setting Feed DemoLayer DemoLocal DemoConn V E Y U W)
-    (r : Result (Vec ℕ Global) X) (script : ScriptView) (os : List OutcomeView)
-    (pool : Pool DemoLayer) (served : IsServed s script os pool) where
+    (r : Result (Vec ℕ Global) X) (capacity : ℕ) (script : ScriptView) (os : List OutcomeView)
+    (pool : Pool DemoLayer) (served : IsServed s capacity script os pool) where
   -- the printed outcomes are the text of the replies
   pub printed_replies : (serials : List ℕ) (made : ℕ) → serials ≡ pool.serials → made ≡ pool.made
       → IfOk r (λ text. text.items ≡ print os serials made)
-      → IfOk r (λ text. AreRepliesTo s script text.items)
+      → IfOk r (λ text. AreRepliesTo s capacity script text.items)
   unfolding replies_to
   printed_replies serials made none records is = replies r is
     where
       replies : (t : Result (Vec ℕ Global) X) → IfOk t (λ text. text.items ≡ print os serials made)
-          → IfOk t (λ text. AreRepliesTo s script text.items)
+          → IfOk t (λ text. AreRepliesTo s capacity script text.items)
       replies (Ok text) is = λ a h meets handles.
-          rw (served.outcomes a h meets handles, none ∙ served.serials, records ∙ served.made) at is
+          let left = served.pool_left a h meets handles in
+          rw (
+            served.outcomes a h meets handles,
+            none ∙ ap (λ (p : Pool DemoLayer). p.serials) left,
+            records ∙ ap (λ (p : Pool DemoLayer). p.made) left,
+          ) at is
       replies (Err e) is = tt
 
-  -- and their summary that of the script
+module _ {V E Y U W X : Type 0} (s : Setting Feed DemoLayer DemoLocal DemoConn V E Y U W)
+    (r : Result (Vec ℕ Global) X) (script : ScriptView) (os : List OutcomeView)
+    (pool : Pool DemoLayer) (served : IsServed s replay_capacity script os pool) where
+  -- the summary of the outcomes is that of the script
   pub summarized_script : (script_len made : ℕ) → made ≡ pool.made
       → IfOk r (λ text. text.items ≡ summary script_len os made)
       → IfOk r (λ text. IsSummaryOf s script_len script text.items)
@@ -122,7 +166,11 @@ module _ {V E Y U W X : Type 0} (s : Setting Feed DemoLayer DemoLocal DemoConn V
           → IfOk t (λ text. text.items ≡ summary script_len os made)
           → IfOk t (λ text. IsSummaryOf s script_len script text.items)
       summarized (Ok text) is = λ a h meets handles.
-          rw (served.outcomes a h meets handles, records ∙ served.made) at is
+          let left = served.pool_left a h meets handles in
+          rw (
+            served.outcomes a h meets handles,
+            records ∙ ap (λ (p : Pool DemoLayer). p.made) left,
+          ) at is
       summarized (Err e) is = tt
 
 module _ {V E Y U W X : Type 0} (s : Setting Feed DemoLayer DemoLocal DemoConn V E Y U W)

@@ -10,7 +10,7 @@ use Rattle.web_cli.specs.ScriptAnswers.{is_valid_script}
 use Rattle.web_cli.specs.Run.{HasNoMemory, Headline, IsRefused, ServeResult, WritesAlone, WritesReplies}
 use Rattle.web_cli.specs.CommandWords.{usage}
 use Rattle.web_cli.specs.Run.{WritesText, WritesUsage}
-use Rattle.web_cli.specs.declared.words.Command.TheVariants.{Replay}
+use Rattle.web_cli.specs.declared.words.Command.TheVariants.{Replay, Serve}
 use Rattle.web_generator.specs.declared.load.Load.{Load}
 use Rattle.web_cli.specs.WriteOrFault.{WritesOrFaults}
 use Rattle.web_cli.specs.declared.status.Status.{Status}
@@ -94,6 +94,9 @@ module _ (r s : List ℕ → List ℕ → Type 0) (c d : List ℕ → Type 0)
 pub usage_written : (a : Status) (o p : OutputState) → WritesOrFaults usage status.Usage a o p → WritesUsage a o p
 usage_written a o p (inl (done, written)) = rw done written
 usage_written a o p (inr (failed, cut)) = rw failed cut
+
+pub served_capacity : (m n : ℕ) → Some (Serve m) ≡ Some (Serve n) → m ≡ n
+served_capacity m n same = cc
 
 pub replayed_load : (x y : Load) → Some (Replay x) ≡ Some (Replay y) → x ≡ y
 replayed_load x y same = cc

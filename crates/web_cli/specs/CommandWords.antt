@@ -1,7 +1,8 @@
 -- The arguments of the command.
-use Rattle.std.specs.Prelude.{◌≡◌, ℕ, ◌==◌, ◌&&◌, List, [], ◌∷◌, ◌++◌, Option, None, Some, codes}
+use Rattle.std.specs.Prelude.{◌≡◌, ℕ, ◌==◌, List, [], ◌∷◌, ◌++◌, Option, None, Some, codes}
 use Rattle.std.specs.Prelude.{bytes_eq, if◌then◌else◌, ⊤}
 use Rattle.std.specs.Option.{option_and_then, option_map}
+use Rattle.web_texts.specs.Cut.{split_once}
 use Rattle.web_texts.specs.Digits.{digits_up_to}
 use Rattle.web_print.specs.TextLines.{newline}
 use Rattle.web_generator.specs.declared.load.Load.{Load}
@@ -22,6 +23,15 @@ load_of seed count =
     option_and_then (λ s. option_map (new_load s) (count_of count))
     (digits_up_to 18446744073709551615 seed)
 
+-- how many records the pool keeps: the setting `pool` is digits, of 0 to 1024
+abbrev pub capacity_in : Option (List ℕ × List ℕ) → Option ℕ
+capacity_in None = None
+capacity_in (Some (name, number)) =
+    if bytes_eq name (codes "--pool") then digits_up_to 1024 number else None
+
+abbrev pub capacity_of : List ℕ → Option ℕ
+capacity_of text = capacity_in (split_once 61 text)
+
 -- the command of this word, with a load
 abbrev pub load_command : List ℕ → Option Load → Option Command
 load_command word load =
@@ -32,13 +42,14 @@ load_command word load =
 -- the command that the arguments ask for
 abbrev pub command_of : List (List ℕ) → Option Command
 command_of (word ∷ pool ∷ []) =
-    if bytes_eq word (codes "serve") && bytes_eq pool (codes "--pool=0") then Some Serve else None
+    if bytes_eq word (codes "serve") then option_map (λ n. Serve n) (capacity_of pool) else None
 command_of (word ∷ seed ∷ count ∷ []) = load_command word (load_of seed count)
 command_of _ = None
 
--- the arguments ask for `serve`, for `generate` with this load, or for `replay` with this load
-abbrev pub IsServe : List (List ℕ) → Type 0
-IsServe words = command_of words ≡ Some Serve
+-- the arguments ask for `serve` with a pool of this capacity, for `generate` with this load, or for
+-- `replay` with this load
+abbrev pub IsServe : List (List ℕ) → ℕ → Type 0
+IsServe words capacity = command_of words ≡ Some (Serve capacity)
 
 abbrev pub IsGenerate : List (List ℕ) → Load → Type 0
 IsGenerate words load = command_of words ≡ Some (Generate load)
@@ -49,7 +60,7 @@ IsReplay words load = command_of words ≡ Some (Replay load)
 -- P, where there is no command, or one that calls no handler
 abbrev pub IfUncalled : Option Command → Type 0 → Type 0
 IfUncalled None P = P
-IfUncalled (Some Serve) P = ⊤
+IfUncalled (Some (Serve capacity)) P = ⊤
 IfUncalled (Some (Generate load)) P = P
 IfUncalled (Some (Replay load)) P = ⊤
 

@@ -4,18 +4,19 @@ use Rattle.std.specs.Option.{option_map}
 use Rattle.web_reply.specs.ResponseBodies.{Plain}
 use Rattle.web_reply.specs.Replies.{Reply}
 use Rattle.web_demo_picked.specs.declared.picked.Picked.{Picked}
-use Rattle.web_demo_flights.specs.DemoExchanges.{DemoRequest}
+use Rattle.web_demo_layers.specs.DemoRequests.{DemoRequest}
 use Rattle.web_demo.specs.DemoFunctions.{demo_handler, picked_arguments}
 use Rattle.web_demo.specs.ServiceFunctions.{HandlerFunctions, HandlerMeets}
 use Rattle.web_cli.specs.LoadTexts.{summary_text}
 use Rattle.web_cli.specs.ScriptAnswers.{replies_text, script_calls}
 
--- for all functions that the handler meets, this is the text of the replies to the script
+-- for all functions that the handler meets, this is the text of the replies to the script, by a
+-- worker whose pool has this capacity
 abbrev pub ArePickedReplies : {Y : Type 0} → (Picked → ℕ → Y → Type 0)
-    → (Y → DemoRequest → Reply Plain → Type 0) → List ℕ → List ℕ → Type 0
-ArePickedReplies answers responds script text =
+    → (Y → DemoRequest → Reply Plain → Type 0) → ℕ → List ℕ → List ℕ → Type 0
+ArePickedReplies answers responds capacity script text =
     (h : HandlerFunctions Picked) → HandlerMeets answers responds h
-    → text ≡ replies_text picked_arguments h script
+    → text ≡ replies_text picked_arguments h capacity script
 
 -- for all functions that the handler meets, this is the summary of the script
 abbrev pub IsPickedSummary : {Y : Type 0} → (Picked → ℕ → Y → Type 0)
@@ -30,8 +31,8 @@ AppendsPickedCalls old new script =
     new ≡ option_map (λ calls. calls ++ script_calls picked_arguments script) old
 
 -- this is the text of the replies to the script by the program's own handler
-abbrev pub IsDemoText : List ℕ → List ℕ → Type 0
-IsDemoText script text = text ≡ replies_text picked_arguments demo_handler script
+abbrev pub IsDemoText : ℕ → List ℕ → List ℕ → Type 0
+IsDemoText capacity script text = text ≡ replies_text picked_arguments demo_handler capacity script
 
 -- this is the summary of the script by the program's own handler
 abbrev pub IsDemoSummary : List ℕ → List ℕ → Type 0

@@ -1,4 +1,5 @@
 pub mod CommandWords
+pub mod DemoExchanges
 pub mod DemoScripts
 pub mod LoadTexts
 pub mod Run

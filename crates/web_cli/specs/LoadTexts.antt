@@ -3,7 +3,6 @@ use Rattle.std.specs.Prelude.{◌≡◌, ℕ, List, length}
 use Rattle.web_generator.specs.ScriptTexts.{script_text}
 use Rattle.web_generator.specs.declared.load.Load.{Load}
 use Rattle.web_request.specs.Feed.{Feed}
-use Rattle.web_worker.specs.PlanOutcomes.{named_count}
 use Rattle.web_worker.specs.Setting.{Setting}
 use Rattle.web_script.specs.Script.{ScriptView, script_lines, script_view}
 use Rattle.web_print.specs.SummaryText.{summary}
@@ -12,18 +11,22 @@ use Rattle.web_demo_layers.specs.declared.app.DemoLocal.{DemoLocal}
 use Rattle.web_demo_layers.specs.declared.app.DemoConn.{DemoConn}
 use Rattle.web_demo.specs.ServiceFunctions.{ArgumentFunctions, ArgumentsMeet}
 use Rattle.web_demo.specs.ServiceFunctions.{HandlerFunctions, HandlerMeets}
-use Rattle.web_cli.specs.ScriptAnswers.{script_outcomes}
+use Rattle.web_cli.specs.ScriptAnswers.{script_outcomes, script_pool}
 
 -- the script of a load
 abbrev pub load_script : Load → List ℕ
 load_script load = script_text load.seed load.count
 
+-- how many records the pool keeps while a load is served
+abbrev pub replay_capacity : ℕ
+replay_capacity = 128
+
 module _ {V : Type 0} (a : ArgumentFunctions V) (h : HandlerFunctions V) where
-  -- the summary of what a script of this many bytes asks for; one record was made for each exchange
-  -- that the plan names
+  -- the summary of what a script of this many bytes asks for, with the number of records that were
+  -- made
   unfoldable pub summary_of : ℕ → ScriptView → List ℕ
   summary_of script_len s =
-      summary script_len (script_outcomes a h s) (named_count s.plan s.exchanges)
+      summary script_len (script_outcomes a h s) (script_pool a h replay_capacity s).made
 
 -- the summary of a script
 abbrev pub summary_text :

@@ -79,7 +79,7 @@ module _ (untouched : Type 0) where
     pub nothing : p ≡ o
     pub handler : untouched
 
--- what `serve --pool=0` read and wrote, where these bytes came
+-- what `serve` read and wrote, where these bytes came
 abbrev pub ServeResult : (List ℕ → List ℕ → Type 0) → (List ℕ → Type 0) → Type 0
     → Status → List ℕ → InputState → InputState → OutputState → OutputState → Type 0
 ServeResult replies called untouched status.Done came i j o p =

@@ -1,6 +1,6 @@
 -- The text of the replies to a script, and the calls of the handler.
-use Rattle.std.specs.Prelude.{◌≡◌, ℕ, Bool, true, List, [], ◌++◌, Option, Some, codes, decimal, map}
-use Rattle.std.specs.Prelude.{⊤}
+use Rattle.std.specs.Prelude.{◌≡◌, ℕ, Bool, true, List, ◌++◌, Option, Some, codes, decimal, map}
+use Rattle.std.specs.Prelude.{slice_index_or, ⊤}
 use Rattle.std.specs.List.{AllPass, enumerate_from}
 use Rattle.std.specs.Option.{option_map}
 use Rattle.std.specs.Result.{result_ok}
@@ -10,7 +10,8 @@ use Rattle.web_request.specs.Pool.{Pool}
 use Rattle.web_worker.specs.Exchanges.{FlightView, FlightView.Waiting}
 use Rattle.web_worker.specs.Outcomes.{OutcomeView}
 use Rattle.web_worker.specs.PlanCalls.{calls_of}
-use Rattle.web_worker.specs.PlanOutcomes.{poll_count, outcome_of, named_count}
+use Rattle.web_worker.specs.PlanOutcomes.{poll_count, outcome_of}
+use Rattle.web_worker.specs.PlanPools.{pool_after}
 use Rattle.web_worker.specs.Setting.{Setting}
 use Rattle.web_script.specs.ReasonTexts.{reason_text}
 use Rattle.web_script.specs.Script as script
@@ -22,9 +23,10 @@ use Rattle.web_print.specs.TextLines.{newline}
 use Rattle.web_demo_layers.specs.declared.layer.DemoLayer.{DemoLayer}
 use Rattle.web_demo_layers.specs.declared.app.DemoLocal.{DemoLocal}
 use Rattle.web_demo_layers.specs.declared.app.DemoConn.{DemoConn}
-use Rattle.web_demo_flights.specs.DemoExchanges.{demo_exchange, demo_request}
+use Rattle.web_demo_layers.specs.DemoRequests.{demo_request}
 use Rattle.web_demo.specs.ServiceFunctions.{ArgumentFunctions, ArgumentsMeet}
 use Rattle.web_demo.specs.ServiceFunctions.{HandlerFunctions, HandlerMeets, delay_of, reply_of}
+use Rattle.web_cli.specs.DemoExchanges.{demo_exchange, demo_pool}
 use Rattle.web_cli.specs.declared.script_answer.ScriptAnswer.{ScriptAnswer}
 use Rattle.web_cli.specs.declared.script_answer.ScriptAnswer.TheVariants as answer
 
@@ -37,9 +39,19 @@ module _ {V : Type 0} (a : ArgumentFunctions V) (h : HandlerFunctions V) where
   abbrev pub script_outcomes : ScriptView → List OutcomeView
   script_outcomes s = map (outcome_in s.plan) (enumerate_from 0 s.exchanges)
 
-  -- the outcomes; no record is kept, and one was made for each exchange that the plan names
-  unfoldable pub replies_to : ScriptView → List ℕ
-  replies_to s = print (script_outcomes s) [] (named_count s.plan s.exchanges)
+  -- the delay of the exchange of this number
+  abbrev pub delay_in : List ScriptedExchangeView → ℕ → ℕ
+  delay_in es k = slice_index_or (map (delay_of a h) es) k 0
+
+  -- the pool of this capacity after the script's plan
+  abbrev pub script_pool : ℕ → ScriptView → Pool DemoLayer
+  script_pool capacity s =
+      pool_after (delay_in s.exchanges) (demo_pool capacity) s.exchanges s.plan
+
+  -- the outcomes, the records that the pool then keeps, and how many it made
+  unfoldable pub replies_to : ℕ → ScriptView → List ℕ
+  replies_to capacity s =
+      let pool = script_pool capacity s in print (script_outcomes s) pool.serials pool.made
 
 -- the delay of an exchange's arguments, and their value where they are not refused
 abbrev pub arguments_of : {V : Type 0} → ArgumentFunctions V → ScriptedExchangeView → ℕ × Option V
@@ -57,9 +69,10 @@ first_fault bytes = script.first_fault (script_lines bytes)
 abbrev pub is_valid_script : List ℕ → Bool
 is_valid_script bytes = script.is_valid_script (script_lines bytes)
 
--- the text of the replies to a valid script
-abbrev pub replies_text : {V : Type 0} → ArgumentFunctions V → HandlerFunctions V → List ℕ → List ℕ
-replies_text a h bytes = replies_to a h (script_view (script_lines bytes))
+-- the text of the replies to a valid script, by a worker whose pool has this capacity
+abbrev pub replies_text :
+    {V : Type 0} → ArgumentFunctions V → HandlerFunctions V → ℕ → List ℕ → List ℕ
+replies_text a h capacity bytes = replies_to a h capacity (script_view (script_lines bytes))
 
 -- the calls of the handler for a valid script
 abbrev pub script_calls : {V : Type 0} → ArgumentFunctions V → List ℕ → List V
@@ -80,24 +93,29 @@ FlightsOf flights plan P =
 -- U and W: the futures of the arguments and of the handler
 module _ {V E Y U W : Type 0} (s : Setting Feed DemoLayer DemoLocal DemoConn V E Y U W) where
   -- for all functions that the arguments and the handler meet, this is the text of the replies
-  abbrev pub AreRepliesTo : ScriptView → List ℕ → Type 0
-  AreRepliesTo script text =
+  abbrev pub AreRepliesTo : ℕ → ScriptView → List ℕ → Type 0
+  AreRepliesTo capacity script text =
       (a : ArgumentFunctions V) (h : HandlerFunctions V)
       → ArgumentsMeet s.rules.means s.rules.converts a
-      → HandlerMeets s.rules.answers s.rules.responds h → text ≡ replies_to a h script
+      → HandlerMeets s.rules.answers s.rules.responds h
+      → text ≡ replies_to a h capacity script
 
-  abbrev pub AreReplies : List ℕ → List ℕ → Type 0
-  AreReplies bytes text = AreRepliesTo (script_view (script_lines bytes)) text
+  abbrev pub AreReplies : ℕ → List ℕ → List ℕ → Type 0
+  AreReplies capacity bytes text = AreRepliesTo capacity (script_view (script_lines bytes)) text
 
-  -- The script was served with these outcomes. No record is kept, and one was made for each
-  -- exchange that the plan names.
-  pub record IsServed (script : ScriptView) (os : List OutcomeView) (pool : Pool DemoLayer)
-      : Type 0 where
+  -- the script was served with these outcomes, by a worker of this capacity that is left with this
+  -- pool
+  pub record IsServed
+      (capacity : ℕ)
+      (script : ScriptView)
+      (os : List OutcomeView)
+      (pool : Pool DemoLayer) : Type 0 where
     pub outcomes : (a : ArgumentFunctions V) (h : HandlerFunctions V)
         → ArgumentsMeet s.rules.means s.rules.converts a
         → HandlerMeets s.rules.answers s.rules.responds h → os ≡ script_outcomes a h script
-    pub serials : pool.serials ≡ []
-    pub made : pool.made ≡ named_count script.plan script.exchanges
+    pub pool_left : (a : ArgumentFunctions V) (h : HandlerFunctions V)
+        → ArgumentsMeet s.rules.means s.rules.converts a
+        → HandlerMeets s.rules.answers s.rules.responds h → pool ≡ script_pool a h capacity script
 
   -- for all functions that the arguments meet, the list of calls, where the handler keeps one, grew
   -- by those for the script

@@ -4,6 +4,8 @@
 //! What it stands on is re-exported here, so that a program needs this crate alone.
 #![tactic(auto)]
 
+mod demo_flights;
+mod demo_worker;
 mod loads;
 mod script_answer;
 mod serving;
@@ -11,12 +13,13 @@ mod status;
 mod words;
 mod writing;
 
+pub use demo_flights::DemoFlights;
 pub use serving::{run, run_program};
 pub use status::Status;
 pub use web_demo::{
     AllLines, Answer, Answering, CookieArguments, DataArguments, Delayed, Demo, DemoConn,
-    DemoFlights, DemoHandler, DemoLayer, DemoLocal, DemoOutput, Item, Late, LateFuture, Picked,
-    PickedFuture, RawBody, Wait, demo_law, picked_law,
+    DemoHandler, DemoLayer, DemoLocal, DemoOutput, Item, Late, LateFuture, Picked, PickedFuture,
+    RawBody, Wait, demo_law, picked_law,
 };
 pub use web_generator::{Load, script_text};
 pub use web_io::{

@@ -1,18 +1,19 @@
 //! The commands `generate` and `replay`.
 ghost use Rattle.std.specs.Prelude.{◌≡◌, ◌<◌, ◌^◌, length, true, IfOk, OnOk, ⊤};
 ghost use Rattle.web_worker.specs.HandlerPromises.{SamePromises};
-ghost use Rattle.web_demo_flights.specs.DemoExchanges.{demo_pool};
-ghost use Rattle.web_cli.specs.LoadTexts.{IsSummary, IsSummaryOf, load_script};
+ghost use Rattle.web_cli.specs.DemoExchanges.{demo_pool};
+ghost use Rattle.web_cli.specs.LoadTexts.{IsSummary, IsSummaryOf, load_script, replay_capacity};
 ghost use Rattle.web_cli.specs.Run.{WritesText};
 ghost use Rattle.web_cli.specs.ScriptAnswers.{AppendsCallsTo, AppendsScriptCalls, FlightsOf};
 ghost use Rattle.web_cli.specs.ScriptAnswers.{is_valid_script};
 
+use crate::demo_flights::DemoFlights;
 use crate::script_answer::serve_script;
 use crate::status::Status;
 use crate::writing::write_or_fault;
 use bytes::Bytes;
 use std::alloc::Global;
-use web_demo::{Demo, DemoFlights};
+use web_demo::Demo;
 use web_extract::FromRequest;
 use web_generator::{Load, script_text};
 use web_io::Output;
@@ -21,6 +22,9 @@ use web_reply::Responder;
 use web_script::read_script_into;
 use web_texts::{Fail, NoMemory};
 use web_worker::{Flight, Handler, Serves};
+
+/// How many records the pool keeps while a load is served.
+const REPLAY_CAPACITY: u16 = 128;
 
 /// Writes the script of a load.
 pub(crate) fn generate<O: Output>(alloc: Global, output: &mut O, load: Load) -> Status
@@ -52,13 +56,13 @@ where
     ensures ready { H.ready handler.new }
     ensures same_promises { SamePromises (H.answers handler.old) (H.answers handler.new) }
     ensures text { FlightsOf flights.old plan.now (λ script. IfOk result (λ text. IsSummaryOf
-        (⟦<H as Serves<Demo, Args>>⟧.setting handler.old demo_pool) script_len script
-        text.items)) }
+        (⟦<H as Serves<Demo, Args>>⟧.setting handler.old (demo_pool replay_capacity))
+        script_len script text.items)) }
     ensures calls { FlightsOf flights.old plan.now (λ script. OnOk result (AppendsCallsTo
-        (⟦<H as Serves<Demo, Args>>⟧.setting handler.old demo_pool)
+        (⟦<H as Serves<Demo, Args>>⟧.setting handler.old (demo_pool replay_capacity))
         (H.calls handler.old) (H.calls handler.new) script)) }
 {
-    let worker = serve_script(alloc, flights, plan, handler)?;
+    let worker = serve_script(alloc, REPLAY_CAPACITY, flights, plan, handler)?;
     summarized(alloc, script_len, flights, worker.pool().made())
 }
 
@@ -79,9 +83,10 @@ where
     ensures ready { H.ready handler.new }
     ensures same_promises { SamePromises (H.answers handler.old) (H.answers handler.new) }
     ensures text { IfOk result (λ text. IsSummary
-        (⟦<H as Serves<Demo, Args>>⟧.setting handler.old demo_pool) bytes.items text.items) }
+        (⟦<H as Serves<Demo, Args>>⟧.setting handler.old (demo_pool replay_capacity))
+        bytes.items text.items) }
     ensures calls { OnOk result (AppendsScriptCalls
-        (⟦<H as Serves<Demo, Args>>⟧.setting handler.old demo_pool)
+        (⟦<H as Serves<Demo, Args>>⟧.setting handler.old (demo_pool replay_capacity))
         (H.calls handler.old) (H.calls handler.new) bytes.items) }
 {
     let script_len = bytes.len() as u64;
@@ -114,8 +119,10 @@ where
     ensures ready { H.ready handler.new }
     ensures same_promises { SamePromises (H.answers handler.old) (H.answers handler.new) }
     ensures replays { WritesText
-        (IsSummary (⟦<H as Serves<Demo, Args>>⟧.setting handler.old demo_pool) (load_script load))
-        (AppendsScriptCalls (⟦<H as Serves<Demo, Args>>⟧.setting handler.old demo_pool)
+        (IsSummary (⟦<H as Serves<Demo, Args>>⟧.setting handler.old (demo_pool replay_capacity))
+        (load_script load))
+        (AppendsScriptCalls
+        (⟦<H as Serves<Demo, Args>>⟧.setting handler.old (demo_pool replay_capacity))
         (H.calls handler.old) (H.calls handler.new) (load_script load))
         result (O.state output.old) (O.state output.new) }
 {

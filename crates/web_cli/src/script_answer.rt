@@ -4,15 +4,17 @@ ghost use Rattle.std.specs.List.{list_any};
 ghost use Rattle.web_worker.specs.Flights.{flight_outcome};
 ghost use Rattle.web_worker.specs.HandlerPromises.{SamePromises};
 ghost use Rattle.web_worker.specs.PlanOutcomes.{lacks_memory};
-ghost use Rattle.web_demo_flights.specs.DemoExchanges.{demo_pool};
+ghost use Rattle.web_cli.specs.DemoExchanges.{demo_pool};
 ghost use Rattle.web_cli.specs.ScriptAnswers.{AppendsCallsTo, AppendsScriptCalls};
 ghost use Rattle.web_cli.specs.ScriptAnswers.{AreReplies, AreRepliesTo, FlightsOf};
 ghost use Rattle.web_cli.specs.ScriptAnswers.{fault_text, IsValid, OnRefused, OnReplies};
 ghost use Rattle.web_cli.specs.ScriptAnswers.{IsServed};
 
+use crate::demo_flights::DemoFlights;
+use crate::demo_worker::new_worker;
 use bytes::Bytes;
 use std::alloc::Global;
-use web_demo::{Demo, DemoFlights, worker};
+use web_demo::Demo;
 use web_extract::FromRequest;
 use web_print::printed;
 use web_reply::Responder;
@@ -53,13 +55,14 @@ fn any_lacks_memory<Args: FromRequest<Demo>, H: Handler<Args>>(
     flights.iter().any(|flight| lacks_memory(flight))
 }
 
-/// Serves the flights of a script by its plan, and returns the worker that served them.
+/// Serves the flights of a script by its plan, by a worker of this capacity, and returns it.
 ///
 /// # Errors
 ///
 /// `NoMemory` comes where an allocation failed for one exchange, too.
 pub(crate) fn serve_script<Args: FromRequest<Demo>, H: Handler<Args>>(
     alloc: Global,
+    capacity: u16,
     flights: &mut [Flight<Demo, Args, H>],
     plan: &[u32],
     handler: &mut H,
@@ -72,13 +75,13 @@ where
     ensures same_promises { SamePromises (H.answers handler.old) (H.answers handler.new) }
     ensures count { length flights.new ≡ length flights.old }
     ensures serves { FlightsOf flights.old plan.now (λ script. IfOk result (λ worker. IsServed
-        (⟦<H as Serves<Demo, Args>>⟧.setting handler.old demo_pool)
-        script (map (λ f. flight_outcome f) flights.new) worker)) }
+        (⟦<H as Serves<Demo, Args>>⟧.setting handler.old (demo_pool capacity))
+        capacity script (map (λ f. flight_outcome f) flights.new) worker)) }
     ensures calls { FlightsOf flights.old plan.now (λ script. OnOk result (AppendsCallsTo
-        (⟦<H as Serves<Demo, Args>>⟧.setting handler.old demo_pool)
+        (⟦<H as Serves<Demo, Args>>⟧.setting handler.old (demo_pool capacity))
         (H.calls handler.old) (H.calls handler.new) script)) }
 {
-    let mut worker = worker(alloc)?;
+    let mut worker = new_worker(alloc, capacity)?;
     serve_flights(alloc, &mut worker, flights, plan, handler);
     if any_lacks_memory(flights) {
         return Err(NoMemory);
@@ -93,6 +96,7 @@ where
 /// `NoMemory` comes where an allocation failed for one exchange, too.
 fn replies<Args: FromRequest<Demo>, H: Handler<Args>>(
     alloc: Global,
+    capacity: u16,
     flights: &mut [Flight<Demo, Args, H>],
     plan: &[u32],
     handler: &mut H,
@@ -104,12 +108,13 @@ where
     ensures ready { H.ready handler.new }
     ensures same_promises { SamePromises (H.answers handler.old) (H.answers handler.new) }
     ensures text { FlightsOf flights.old plan.now (λ script. IfOk result (λ text. AreRepliesTo
-        (⟦<H as Serves<Demo, Args>>⟧.setting handler.old demo_pool) script text.items)) }
+        (⟦<H as Serves<Demo, Args>>⟧.setting handler.old (demo_pool capacity))
+        capacity script text.items)) }
     ensures calls { FlightsOf flights.old plan.now (λ script. OnOk result (AppendsCallsTo
-        (⟦<H as Serves<Demo, Args>>⟧.setting handler.old demo_pool)
+        (⟦<H as Serves<Demo, Args>>⟧.setting handler.old (demo_pool capacity))
         (H.calls handler.old) (H.calls handler.new) script)) }
 {
-    let worker = serve_script(alloc, flights, plan, handler)?;
+    let worker = serve_script(alloc, capacity, flights, plan, handler)?;
     let pool = worker.pool();
     printed(alloc, flights, pool.serials(), pool.made())
 }
@@ -123,6 +128,7 @@ where
 /// refused.
 pub(crate) fn answer_script<Args: FromRequest<Demo>, H: Handler<Args>>(
     alloc: Global,
+    capacity: u16,
     bytes: Vec<u8>,
     handler: &mut H,
 ) -> Result<ScriptAnswer, NoMemory>
@@ -133,16 +139,18 @@ where
     ensures same_promises { SamePromises (H.answers handler.old) (H.answers handler.new) }
     ensures valid { IfOk result (λ answer. IsValid answer bytes.items) }
     ensures text { IfOk result (λ answer. OnReplies answer (λ text. AreReplies
-        (⟦<H as Serves<Demo, Args>>⟧.setting handler.old demo_pool) bytes.items text)) }
+        (⟦<H as Serves<Demo, Args>>⟧.setting handler.old (demo_pool capacity))
+        capacity bytes.items text)) }
     ensures calls { IfOk result (λ answer. OnReplies answer (λ _. AppendsScriptCalls
-        (⟦<H as Serves<Demo, Args>>⟧.setting handler.old demo_pool)
+        (⟦<H as Serves<Demo, Args>>⟧.setting handler.old (demo_pool capacity))
         (H.calls handler.old) (H.calls handler.new) bytes.items)) }
     ensures refused { IfOk result (λ answer. OnRefused answer (handler.new ≡ handler.old)) }
 {
     let mut sink = DemoFlights::<Args, H>::new(alloc);
     match read_script_into(alloc, Bytes::from_vec(bytes)?, &mut sink) {
         Ok(plan) => {
-            let text = replies::<Args, H>(alloc, sink.flights.as_mut_slice(), &plan, handler)?;
+            let flights = sink.flights.as_mut_slice();
+            let text = replies::<Args, H>(alloc, capacity, flights, &plan, handler)?;
             Ok(ScriptAnswer::Replies(text))
         }
         Err(Fail::Of(fault)) => Ok(ScriptAnswer::Refused(fault_text(alloc, fault)?)),

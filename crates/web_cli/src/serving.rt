@@ -2,12 +2,12 @@
 ghost use Rattle.std.specs.Prelude.{◌≡◌, List, ℕ, None, map, string_bytes, ⊤};
 ghost use Rattle.web_generator.specs.declared.load.Load.{Load};
 ghost use Rattle.web_worker.specs.HandlerPromises.{SamePromises};
-ghost use Rattle.web_demo_flights.specs.DemoExchanges.{demo_pool};
+ghost use Rattle.web_cli.specs.DemoExchanges.{demo_pool};
 ghost use Rattle.web_cli.specs.CommandWords.{IfUncalled, IsGenerate, IsReplay, IsServe};
 ghost use Rattle.web_cli.specs.CommandWords.{command_of};
 ghost use Rattle.web_cli.specs.DemoScripts.{AppendsPickedCalls, ArePickedReplies};
 ghost use Rattle.web_cli.specs.DemoScripts.{IsDemoSummary, IsDemoText, IsPickedSummary};
-ghost use Rattle.web_cli.specs.LoadTexts.{IsSummary, load_script};
+ghost use Rattle.web_cli.specs.LoadTexts.{IsSummary, load_script, replay_capacity};
 ghost use Rattle.web_cli.specs.Run.{Headline, ReadFaultIsReported, RefusesWords, ServeResult};
 ghost use Rattle.web_cli.specs.Run.{TooLongIsReported, WriteFaultIsReported, WritesAlone};
 ghost use Rattle.web_cli.specs.ScriptAnswers.{AppendsScriptCalls, AreReplies};
@@ -27,9 +27,10 @@ use web_worker::{Handler, Serves};
 /// The text that is written where more bytes than the limit came.
 const TOO_LONG: &[u8] = b"line 0: too long\n";
 
-/// Reads a script, serves it and writes the replies.
-fn serve<I: Input, O: Output, Args: FromRequest<Demo>, H: Handler<Args>>(
+/// Reads a script, serves it with a pool of this capacity, and writes the replies.
+fn read_and_serve<I: Input, O: Output, Args: FromRequest<Demo>, H: Handler<Args>>(
     alloc: Global,
+    capacity: u16,
     input: &mut I,
     output: &mut O,
     handler: &mut H,
@@ -40,8 +41,9 @@ where
     ensures ready { H.ready handler.new }
     ensures same_promises { SamePromises (H.answers handler.old) (H.answers handler.new) }
     ensures serves { (came : List ℕ) × ServeResult
-        (AreReplies (⟦<H as Serves<Demo, Args>>⟧.setting handler.old demo_pool))
-        (AppendsScriptCalls (⟦<H as Serves<Demo, Args>>⟧.setting handler.old demo_pool)
+        (AreReplies (⟦<H as Serves<Demo, Args>>⟧.setting handler.old (demo_pool capacity)) capacity)
+        (AppendsScriptCalls
+        (⟦<H as Serves<Demo, Args>>⟧.setting handler.old (demo_pool capacity))
         (H.calls handler.old) (H.calls handler.new))
         (handler.new ≡ handler.old) result came
         (I.state input.old) (I.state input.new) (O.state output.old) (O.state output.new) }
@@ -50,12 +52,44 @@ where
         Err(_) => Status::NoMemory,
         Ok(ReadWhole::Failed) => Status::ReadFault,
         Ok(ReadWhole::TooLong) => write_or_fault(output, TOO_LONG, Status::Script),
-        Ok(ReadWhole::All(bytes)) => match answer_script::<Args, H>(alloc, bytes, handler) {
+        Ok(ReadWhole::All(bytes)) => match answer_script::<Args, H>(
+            alloc, capacity, bytes, handler,
+        ) {
             Err(_) => Status::NoMemory,
             Ok(ScriptAnswer::Refused(text)) => write_or_fault(output, &text, Status::Script),
             Ok(ScriptAnswer::Replies(text)) => write_or_fault(output, &text, Status::Done),
         },
     }
+}
+
+/// `serve`: what was read and written, also where no read and no write fails.
+fn serve<I: Input, O: Output, Args: FromRequest<Demo>, H: Handler<Args>>(
+    alloc: Global,
+    capacity: u16,
+    input: &mut I,
+    output: &mut O,
+    handler: &mut H,
+) -> Status
+where
+    H::Output: Responder<Demo>,
+    requires ready { H.ready handler.old }
+    ensures ready { H.ready handler.new }
+    ensures same_promises { SamePromises (H.answers handler.old) (H.answers handler.new) }
+    ensures serves { (came : List ℕ) × ServeResult
+        (AreReplies (⟦<H as Serves<Demo, Args>>⟧.setting handler.old (demo_pool capacity)) capacity)
+        (AppendsScriptCalls
+        (⟦<H as Serves<Demo, Args>>⟧.setting handler.old (demo_pool capacity))
+        (H.calls handler.old) (H.calls handler.new))
+        (handler.new ≡ handler.old) result came
+        (I.state input.old) (I.state input.new) (O.state output.old) (O.state output.new) }
+    ensures headline { Headline
+        (AreReplies (⟦<H as Serves<Demo, Args>>⟧.setting handler.old (demo_pool capacity)) capacity)
+        (AppendsScriptCalls
+        (⟦<H as Serves<Demo, Args>>⟧.setting handler.old (demo_pool capacity))
+        (H.calls handler.old) (H.calls handler.new)) result
+        (I.state input.old) (I.state input.new) (O.state output.old) (O.state output.new) }
+{
+    read_and_serve::<I, O, Args, H>(alloc, capacity, input, output, handler)
 }
 
 /// `run`, for any argument of a handler.
@@ -75,23 +109,28 @@ where
         (I.state input.old) (I.state input.new) (O.state output.old) (O.state output.new) }
     ensures uncalled { IfUncalled (command_of (map string_bytes words.now))
         (handler.new ≡ handler.old) }
-    ensures serves { IsServe (map string_bytes words.now) → (came : List ℕ) × ServeResult
-        (AreReplies (⟦<H as Serves<Demo, Args>>⟧.setting handler.old demo_pool))
-        (AppendsScriptCalls (⟦<H as Serves<Demo, Args>>⟧.setting handler.old demo_pool)
+    ensures serves { (capacity : ℕ) → IsServe (map string_bytes words.now) capacity
+        → (came : List ℕ) × ServeResult
+        (AreReplies (⟦<H as Serves<Demo, Args>>⟧.setting handler.old (demo_pool capacity)) capacity)
+        (AppendsScriptCalls
+        (⟦<H as Serves<Demo, Args>>⟧.setting handler.old (demo_pool capacity))
         (H.calls handler.old) (H.calls handler.new))
         (handler.new ≡ handler.old) result came
         (I.state input.old) (I.state input.new) (O.state output.old) (O.state output.new) }
-    ensures headline { IsServe (map string_bytes words.now) → Headline
-        (AreReplies (⟦<H as Serves<Demo, Args>>⟧.setting handler.old demo_pool))
-        (AppendsScriptCalls (⟦<H as Serves<Demo, Args>>⟧.setting handler.old demo_pool)
+    ensures headline { (capacity : ℕ) → IsServe (map string_bytes words.now) capacity → Headline
+        (AreReplies (⟦<H as Serves<Demo, Args>>⟧.setting handler.old (demo_pool capacity)) capacity)
+        (AppendsScriptCalls
+        (⟦<H as Serves<Demo, Args>>⟧.setting handler.old (demo_pool capacity))
         (H.calls handler.old) (H.calls handler.new)) result
         (I.state input.old) (I.state input.new) (O.state output.old) (O.state output.new) }
     ensures generates { (load : Load) → IsGenerate (map string_bytes words.now) load → WritesAlone
         (λ text. text ≡ load_script load) ⊤ result
         (I.state input.old) (I.state input.new) (O.state output.old) (O.state output.new) }
     ensures replays { (load : Load) → IsReplay (map string_bytes words.now) load → WritesAlone
-        (IsSummary (⟦<H as Serves<Demo, Args>>⟧.setting handler.old demo_pool) (load_script load))
-        (AppendsScriptCalls (⟦<H as Serves<Demo, Args>>⟧.setting handler.old demo_pool)
+        (IsSummary (⟦<H as Serves<Demo, Args>>⟧.setting handler.old (demo_pool replay_capacity))
+        (load_script load))
+        (AppendsScriptCalls
+        (⟦<H as Serves<Demo, Args>>⟧.setting handler.old (demo_pool replay_capacity))
         (H.calls handler.old) (H.calls handler.new) (load_script load)) result
         (I.state input.old) (I.state input.new) (O.state output.old) (O.state output.new) }
     ensures read_fault { ReadFaultIsReported result (I.state input.old) (I.state input.new) }
@@ -99,7 +138,9 @@ where
     ensures too_long { TooLongIsReported result (I.state input.old) (I.state input.new) }
 {
     match command_of(words) {
-        Some(Command::Serve) => serve::<I, O, Args, H>(alloc, input, output, handler),
+        Some(Command::Serve(capacity)) => {
+            serve::<I, O, Args, H>(alloc, capacity, input, output, handler)
+        }
         Some(Command::Generate(load)) => generate(alloc, output, load),
         Some(Command::Replay(load)) => replay::<O, Args, H>(alloc, output, handler, load),
         None => write_or_fault(output, USAGE, Status::Usage),
@@ -108,14 +149,16 @@ where
 
 /// Runs the command that `words`, the arguments without the program's name, ask for.
 ///
-/// `serve --pool=0` reads a script of at most 16,777,216 bytes from `input`, serves its exchanges
-/// by `handler`, and writes the replies to `output`. The arguments of each exchange are those that
-/// the first segment of its path asks for.
+/// `serve --pool=N`, N of 0 to 1024, reads a script of at most 16,777,216 bytes from `input`,
+/// serves its exchanges by `handler`, and writes the replies to `output`, then the records that the
+/// pool of capacity N keeps and how many it made. The arguments of each exchange are those that the
+/// first segment of its path asks for.
 ///
 /// `generate SEED COUNT` writes the script of a load (see [`web_generator::script_text`]), of a
 /// seed up to 2^64 - 1 and 1 to 50,000 exchanges. `replay SEED COUNT` serves that script by
 /// `handler` and writes a summary: its bytes, its exchanges, how many of them are unfinished, how
-/// many replies have each status, and how many records were made. Both read nothing.
+/// many replies have each status, and how many records a pool of capacity 128 made. Both read
+/// nothing.
 ///
 /// Any other words write the usage.
 ///
@@ -139,13 +182,14 @@ where
         (I.state input.old) (I.state input.new) (O.state output.old) (O.state output.new) }
     ensures uncalled { IfUncalled (command_of (map string_bytes words.now))
         (handler.new ≡ handler.old) }
-    ensures serves { IsServe (map string_bytes words.now) → (came : List ℕ) × ServeResult
-        (ArePickedReplies (H.answers handler.old) H.Output.responds)
+    ensures serves { (capacity : ℕ) → IsServe (map string_bytes words.now) capacity
+        → (came : List ℕ) × ServeResult
+        (ArePickedReplies (H.answers handler.old) H.Output.responds capacity)
         (AppendsPickedCalls (H.calls handler.old) (H.calls handler.new))
         (handler.new ≡ handler.old) result came
         (I.state input.old) (I.state input.new) (O.state output.old) (O.state output.new) }
-    ensures headline { IsServe (map string_bytes words.now) → Headline
-        (ArePickedReplies (H.answers handler.old) H.Output.responds)
+    ensures headline { (capacity : ℕ) → IsServe (map string_bytes words.now) capacity → Headline
+        (ArePickedReplies (H.answers handler.old) H.Output.responds capacity)
         (AppendsPickedCalls (H.calls handler.old) (H.calls handler.new)) result
         (I.state input.old) (I.state input.new) (O.state output.old) (O.state output.new) }
     ensures generates { (load : Load) → IsGenerate (map string_bytes words.now) load → WritesAlone
@@ -171,11 +215,12 @@ pub fn run_program<I: Input, O: Output>(
 ) -> Status
     ensures no_command { command_of (map string_bytes words.now) ≡ None → RefusesWords result
         (I.state input.old) (I.state input.new) (O.state output.old) (O.state output.new) }
-    ensures serves { IsServe (map string_bytes words.now) → (came : List ℕ) × ServeResult
-        IsDemoText (λ _. ⊤) ⊤ result came
+    ensures serves { (capacity : ℕ) → IsServe (map string_bytes words.now) capacity
+        → (came : List ℕ) × ServeResult
+        (IsDemoText capacity) (λ _. ⊤) ⊤ result came
         (I.state input.old) (I.state input.new) (O.state output.old) (O.state output.new) }
-    ensures headline { IsServe (map string_bytes words.now) → Headline
-        IsDemoText (λ _. ⊤) result
+    ensures headline { (capacity : ℕ) → IsServe (map string_bytes words.now) capacity → Headline
+        (IsDemoText capacity) (λ _. ⊤) result
         (I.state input.old) (I.state input.new) (O.state output.old) (O.state output.new) }
     ensures generates { (load : Load) → IsGenerate (map string_bytes words.now) load → WritesAlone
         (λ text. text ≡ load_script load) ⊤ result

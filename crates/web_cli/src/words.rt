@@ -1,9 +1,9 @@
 //! The arguments of the command.
 ghost use Rattle.std.specs.Prelude.{◌≡◌, map, string_bytes};
-ghost use Rattle.web_cli.specs.CommandWords.{command_of, count_of, load_of};
+ghost use Rattle.web_cli.specs.CommandWords.{capacity_of, command_of, count_of, load_of};
 
 use web_generator::Load;
-use web_texts::read_digits;
+use web_texts::{cut_at, read_digits};
 
 /// The text that is written where the arguments are no command.
 pub(crate) const USAGE: &[u8] =
@@ -12,15 +12,32 @@ pub(crate) const USAGE: &[u8] =
 /// The most exchanges of a load.
 const MAX_COUNT: u64 = 50_000;
 
+/// The most records that the pool of `serve` keeps.
+const MAX_CAPACITY: u64 = 1024;
+
 /// A command, as its arguments ask for it.
 #[derive(Clone, Copy, Debug, PartialEq, Eq)]
 pub enum Command {
-    /// `serve --pool=0`: reads a script and serves it.
-    Serve,
+    /// `serve --pool=N`: reads a script and serves it, with a pool that keeps up to N records.
+    Serve(u16),
     /// `generate SEED COUNT`: writes the script of a load.
     Generate(Load),
     /// `replay SEED COUNT`: serves that script, and writes a summary.
     Replay(Load),
+}
+
+/// How many records the pool keeps: `--pool=` and 0 to 1024, in digits.
+fn capacity_of(text: &str) -> Option<u16>
+    ensures { result ≡ capacity_of text.now }
+{
+    let (name, number) = cut_at(text, b'=')?;
+    if name != "--pool" {
+        return None;
+    }
+    match read_digits(number, MAX_CAPACITY) {
+        None => None,
+        Some(capacity) => Some(capacity as u16),
+    }
 }
 
 /// A count of exchanges, in digits: 1 to 50,000.
@@ -43,14 +60,14 @@ fn load_of(seed: &str, count: &str) -> Option<Load>
 }
 
 /// The command that these arguments ask for. `None` where they are none: there are others than the
-/// arguments of one command, the seed is no number up to 2^64 - 1, or the count is none from 1 to
-/// 50,000.
+/// arguments of one command, the capacity of the pool is no number up to 1024, the seed is none up
+/// to 2^64 - 1, or the count is none from 1 to 50,000.
 pub fn command_of(words: &[String]) -> Option<Command>
     ensures { result ≡ command_of (map string_bytes words.now) }
 {
     match words {
-        [word, pool] if word.as_str() == "serve" && pool.as_str() == "--pool=0" => {
-            Some(Command::Serve)
+        [word, pool] if word.as_str() == "serve" => {
+            Some(Command::Serve(capacity_of(pool.as_str())?))
         }
         [word, seed, count] if word.as_str() == "generate" => {
             Some(Command::Generate(load_of(seed.as_str(), count.as_str())?))

@@ -4,7 +4,7 @@ use Rattle.web_request.specs.declared.source.Mark.{Mark}
 use Rattle.web_reply.specs.ResponseBodies.{Plain, whole_plain}
 use Rattle.web_reply.specs.Replies.{Fault, Reply, error_reply, plain_reply}
 use Rattle.web_script.specs.ScriptedView.{ScriptedExchangeView}
-use Rattle.web_demo_flights.specs.DemoExchanges.{DemoRequest, demo_request}
+use Rattle.web_demo_layers.specs.DemoRequests.{DemoRequest, demo_request}
 
 -- For a request and the marks of its body: after how many polls that return `Pending` the
 -- arguments come or are refused, and their value or refusal.

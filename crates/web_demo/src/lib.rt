@@ -16,7 +16,6 @@ pub use web_demo_arguments::{
     AllLines, AllLinesFuture, CookieArguments, DataArguments, Delayed, Late, LateFuture, RawBody,
     Wait,
 };
-pub use web_demo_flights::{DemoFlights, worker};
 pub use web_demo_layers::{Demo, DemoConn, DemoLayer, DemoLocal, Item};
 pub use web_demo_picked::{
     BoxedFuture, ConnectionFuture, DataFuture, DecodedFuture, EitherItemFuture, HeaderFuture,

@@ -29,7 +29,7 @@ use Rattle.web_demo_layers.specs.declared.item.Item.{Item}
 use Rattle.web_demo_layers.specs.declared.teapot.Teapot.{Teapot}
 use Rattle.web_demo_picked.specs.ArgumentMeanings.{By, ByEither, InList, same_fault}
 use Rattle.web_demo_picked.specs.BodyArguments.{MeansBody, body_rest, body_result}
-use Rattle.web_demo_flights.specs.DemoExchanges.{DemoRequest}
+use Rattle.web_demo_layers.specs.DemoRequests.{DemoRequest}
 use Rattle.web_demo_picked.specs.ItemArguments.{ByHandler, IsVendorType, ItemOfJson, ItemOfPairs}
 use Rattle.web_demo_picked.specs.ItemArguments.{MeansEitherItem, MeansFormItem, MeansJsonItem}
 use Rattle.web_demo_picked.specs.ItemArguments.{MeansPathItem, MeansQueryItem, as_query}

@@ -36,7 +36,7 @@ use Rattle.web_demo_layers.specs.declared.app.DemoLocal.{DemoLocal}
 use Rattle.web_demo_layers.specs.declared.layer.DemoLayer.{DemoLayer}
 use Rattle.web_demo_arguments.specs.Choices.{choice_of}
 use Rattle.web_demo_arguments.specs.DemoArguments.{raw_view, seen_data}
-use Rattle.web_demo_flights.specs.DemoExchanges.{DemoRequest}
+use Rattle.web_demo_layers.specs.DemoRequests.{DemoRequest}
 use Rattle.web_demo_arguments.specs.LateAndWait.{MeansLate, MeansWait}
 use Rattle.web_demo_picked.specs.BodyArguments.{Alone, MeansBody, MeansRaw, MeansText, body_rest, body_result}
 use Rattle.web_demo_picked.specs.BodyArguments.{text_rest, text_result}

@@ -37,7 +37,7 @@ use Rattle.web_demo_layers.specs.declared.item.Item.{Item}
 use Rattle.web_demo_layers.specs.declared.layer.DemoLayer.{DemoLayer}
 use Rattle.web_demo_picked.specs.BodyArguments.{Alone, MeansBody, MeansText, body_result, body_some}
 use Rattle.web_demo_picked.specs.BodyArguments.{text_result, text_some}
-use Rattle.web_demo_flights.specs.DemoExchanges.{DemoRequest}
+use Rattle.web_demo_layers.specs.DemoRequests.{DemoRequest}
 use Rattle.web_demo_picked.specs.ItemArguments.{MeansJsonItem, json_item_rest, json_item_result}
 use Rattle.web_demo_picked.specs.ItemArguments.{json_item_some}
 use Rattle.web_demo_arguments.specs.LateAndWait.{MeansLate, delay_in, late_result, late_some}

@@ -14,7 +14,7 @@ use Rattle.web_extract.specs.ListResults.{DelayedResult}
 use Rattle.web_extract.specs.PayloadArgument.{MeansPayload, payload_some}
 use Rattle.web_extract.specs.StringArgument.{MeansString, string_rest, string_result, string_some}
 use Rattle.web_demo_layers.specs.DemoLayers.{demo_configurations}
-use Rattle.web_demo_flights.specs.DemoExchanges.{DemoRequest}
+use Rattle.web_demo_layers.specs.DemoRequests.{DemoRequest}
 
 -- what an argument without a list means, with errors of its own
 abbrev pub Alone : Type 0 → Type 0 → Type 1

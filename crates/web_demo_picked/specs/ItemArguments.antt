@@ -33,7 +33,7 @@ use Rattle.web_demo_layers.specs.declared.item.Item.{Item}
 use Rattle.web_demo_layers.specs.declared.teapot.Teapot.{Teapot}
 use Rattle.web_demo_layers.specs.declared.teapot.VendorType.{VendorType}
 use Rattle.web_demo_picked.specs.BodyArguments.{Alone, MeansBody, body_result, body_some}
-use Rattle.web_demo_flights.specs.DemoExchanges.{DemoRequest}
+use Rattle.web_demo_layers.specs.DemoRequests.{DemoRequest}
 
 -- a handler, a predicate and readers that are functions, as relations
 

@@ -30,7 +30,7 @@ use Rattle.web_demo_picked.specs.ItemArguments.{MeansPathItem, path_item_result,
 use Rattle.web_demo_picked.specs.ItemArguments.{MeansQueryItem, query_item_result, query_item_some}
 use Rattle.web_demo_arguments.specs.Choices.{choice_of}
 use Rattle.web_demo_arguments.specs.DemoArguments.{data_view, raw_view, seen_data}
-use Rattle.web_demo_flights.specs.DemoExchanges.{DemoRequest}
+use Rattle.web_demo_layers.specs.DemoRequests.{DemoRequest}
 use Rattle.web_demo_arguments.specs.LateAndWait.{MeansWait, delay_in, wait_some}
 use Rattle.web_demo_picked.specs.ServiceArguments.{MeansService, service_result, service_some}
 use Rattle.web_demo_arguments.specs.declared.choice.Choice.{Choice}

@@ -13,7 +13,7 @@ use Rattle.web_extract.specs.declared.never.Never.{Never}
 use Rattle.web_demo_picked.specs.ArgumentMeanings.{By, ListOfOne, MeansRequest, converted_by}
 use Rattle.web_demo_picked.specs.ArgumentMeanings.{list_of_one_some, never_fault, same_fault}
 use Rattle.web_demo_picked.specs.BodyArguments.{Alone}
-use Rattle.web_demo_flights.specs.DemoExchanges.{DemoRequest}
+use Rattle.web_demo_layers.specs.DemoRequests.{DemoRequest}
 use Rattle.web_demo_arguments.specs.LinesArgument.{MeansLines, lines_result, lines_some}
 use Rattle.web_demo_arguments.specs.declared.choice.ServiceChoice.{ServiceChoice}
 use Rattle.web_demo_arguments.specs.declared.choice.ServiceChoice.TheVariants as service

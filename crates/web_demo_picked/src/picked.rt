@@ -2,7 +2,7 @@
 ghost use Rattle.std.specs.Prelude.{◌≡◌, ℕ, List, Result};
 ghost use Rattle.web_request.specs.declared.source.Mark.{Mark};
 ghost use Rattle.web_reply.specs.Replies.{Fault};
-ghost use Rattle.web_demo_flights.specs.DemoExchanges.{DemoRequest};
+ghost use Rattle.web_demo_layers.specs.DemoRequests.{DemoRequest};
 ghost use Rattle.web_demo_picked.specs.PickedArguments.{MeansPicked, picked_delay, picked_result};
 
 use crate::decoded::{DecodedFuture, decoded_future};

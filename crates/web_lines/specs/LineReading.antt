@@ -1,5 +1,5 @@
 -- A reader of lines: how it is made, and what a poll of it gives.
-use Rattle.std.specs.Prelude.{◌≡◌, ℕ, ◌+◌, ◌*◌, ◌<◌, List, [], length, Option, None, Some}
+use Rattle.std.specs.Prelude.{◌≡◌, ℕ, ◌+◌, ◌*◌, ◌<◌, ◌≤◌, List, [], length, Option, None, Some}
 use Rattle.std.specs.Prelude.{Result, Ok, Err, IfSome, ⊤}
 use Rattle.std.specs.Option.{option_map}
 use Rattle.web_texts.specs.Counts.{Rose}
@@ -12,11 +12,14 @@ use Rattle.web_body.specs.declared.payload.Payload.{Payload}
 use Rattle.web_body.specs.declared.payload.Payload.TheVariants as kind
 use Rattle.web_body.specs.declared.poll.Step.{Step}
 use Rattle.web_body.specs.declared.poll.Step.TheVariants as step
-use Rattle.web_body.specs.PollSteps.{OnPending}
+use Rattle.web_body.specs.PollSteps.{IsPending, OnPending}
+use Rattle.web_body.specs.Collector.{StallsNext}
 use Rattle.web_body.specs.Payload.{KeepsPayload, bytes_between, payload_feed}
 use Rattle.web_lines.specs.declared.lines_collector.Progress.{Progress}
-use Rattle.web_lines.specs.declared.lines_collector.Progress.TheVariants.{Failed, Reading, Refused}
+use Rattle.web_lines.specs.declared.lines_collector.Progress.TheVariants.{Over, Reading, Refused}
 use Rattle.web_lines.specs.Lines.{Answer}
+use Rattle.web_lines.specs.LastPieces.{LastTaken}
+use Rattle.web_lines.specs.LineCuts.{IsUnfinished}
 use Rattle.web_lines.specs.LineReader.{LineReader}
 use Rattle.web_lines.specs.LineSchedules.{Schedule, error_due, line_due, nothing_due, one_later}
 use Rattle.web_lines.specs.LineSchedules.{schedule}
@@ -30,12 +33,14 @@ abbrev pub new_reader : {S : Type 0} → Result (Unit {0}) ContentTypeError → 
 new_reader (Ok done) payload = record {
   payload = payload;
   came = [];
+  last = 0;
   limit = default_limit;
   progress = Reading;
 }
 new_reader (Err error) payload = record {
   payload = kind.None;
   came = [];
+  last = 0;
   limit = default_limit;
   progress = Refused error;
 }
@@ -48,7 +53,7 @@ taken_from (Err error) without_payload message = message
 abbrev pub IsOpen : Progress → Type 0
 IsOpen (Refused error) = ⊤
 IsOpen Reading = ⊤
-IsOpen Failed = ⊥
+IsOpen Over = ⊥
 
 -- no poll has returned anything yet
 pub record IsUnpolled {S : Type 0} (r : LineReader S) : Type 0 where
@@ -58,13 +63,19 @@ pub record IsUnpolled {S : Type 0} (r : LineReader S) : Type 0 where
 abbrev pub IsReading : Progress → Type 0
 IsReading (Refused error) = ⊥
 IsReading Reading = ⊤
-IsReading Failed = ⊥
+IsReading Over = ⊥
+
+-- what came stays only while it reads
+abbrev pub HoldsNothing : Progress → List ℕ → Type 0
+HoldsNothing (Refused error) came = came ≡ []
+HoldsNothing Reading came = ⊤
+HoldsNothing Over came = came ≡ []
 
 abbrev pub schedule_at : {S : Type 0} → (S → Feed) → Progress → LineReader S → Option Schedule
 schedule_at feed (Refused error) r = Some (error_due (lines.ContentTypeError error))
 schedule_at feed Reading r =
     option_map (schedule r.limit r.came) (payload_feed feed r.payload).marks
-schedule_at feed Failed r = Some nothing_due
+schedule_at feed Over r = Some nothing_due
 
 -- the answers that are due, where the source states its marks or is not asked
 abbrev pub schedule_of : {S : Type 0} → (S → Feed) → LineReader S → Option Schedule
@@ -73,19 +84,20 @@ schedule_of feed r = schedule_at feed r.progress r
 -- what a poll says of the answers that were due, and of those that are due then
 abbrev pub StepGives : Option Schedule → Step (Option Answer) → Option Schedule → Type 0
 StepGives old step.Pending new = old ≡ option_map one_later new
-StepGives old (step.Ready None) new = IfSome old (λ s. s ≡ nothing_due) × (new ≡ old)
+StepGives old (step.Ready None) new =
+    IfSome old (λ s. s ≡ nothing_due) × (new ≡ Some nothing_due)
 StepGives old (step.Ready (Some (Ok line))) new = old ≡ option_map (line_due line) new
 StepGives old (step.Ready (Some (Err error))) new =
     IfSome old (λ s. s ≡ error_due error) × (new ≡ Some nothing_due)
 StepGives old step.NoMemory new = new ≡ Some nothing_due
 
--- an error, and want of memory, end it
+-- the end, an error and want of memory end it
 abbrev pub progress_after : Progress → Step (Option Answer) → Progress
 progress_after p step.Pending = p
-progress_after p (step.Ready None) = p
+progress_after p (step.Ready None) = Over
 progress_after p (step.Ready (Some (Ok line))) = p
-progress_after p (step.Ready (Some (Err error))) = Failed
-progress_after p step.NoMemory = Failed
+progress_after p (step.Ready (Some (Err error))) = Over
+progress_after p step.NoMemory = Over
 
 abbrev pub IfFault : ReadlinesError → Type 0 → Type 0
 IfFault lines.EncodingError P = ⊤
@@ -132,6 +144,15 @@ OnEnd (step.Ready None) P = P
 OnEnd (step.Ready (Some answer)) P = ⊤
 OnEnd step.NoMemory P = ⊤
 
+-- The bytes that are left behind a result, where so many came before and so many in this poll:
+-- those that were not returned, and none behind an error, the end and want of memory.
+abbrev pub Buffers : Step (Option Answer) → ℕ → ℕ → List ℕ → Type 0
+Buffers step.Pending came gave left = length left ≡ came + gave
+Buffers (step.Ready None) came gave left = left ≡ []
+Buffers (step.Ready (Some (Ok line))) came gave left = length left + length line ≡ came + gave
+Buffers (step.Ready (Some (Err error))) came gave left = left ≡ []
+Buffers step.NoMemory came gave left = left ≡ []
+
 -- a poll of a reader that reads, by its result
 pub record ReadsLine {S : Type 0} (feed : S → Feed) (old : LineReader S) (s : Step (Option Answer))
     (new : LineReader S) : Type 0 where
@@ -151,3 +172,10 @@ pub record ReadsLine {S : Type 0} (feed : S → Feed) (old : LineReader S) (s : 
   pub ended : OnEnd s ((payload_feed feed new.payload).answers ≡ 0)
   pub unfailed : OnEnd s
       ((payload_feed feed new.payload).faults ≡ (payload_feed feed old.payload).faults)
+  pub buffers : Buffers s (length old.came) (bytes_between feed old.payload new.payload) new.came
+  pub dropped : (IsReading new.progress → ⊥) → new.came ≡ []
+  pub within : length new.came ≤ new.limit + new.last
+  pub last : LastTaken
+      (payload_feed feed old.payload).marks old.last (payload_feed feed new.payload).marks new.last
+  pub stalled : IsUnfinished old.limit old.came → StallsNext (payload_feed feed old.payload).marks
+      → IsPending s

@@ -1,11 +1,12 @@
 //! The first line of the bytes that came.
-ghost use Rattle.std.specs.Prelude.{◌≡◌, ◌++◌, [], OnOk};
+ghost use Rattle.std.specs.Prelude.{◌≡◌, ◌≤◌, ◌++◌, [], OnOk, length};
 ghost use Rattle.web_lines.specs.LineCuts.{Cuts, IsSearched, IsUnfinished, LeavesFront, TakesLine};
 
 use bytes::Bytes;
+use memchr::memchr;
 use std::alloc::Global;
 use std::mem;
-use web_texts::{NoMemory, Text, split_once_at};
+use web_texts::{NoMemory, Text};
 
 /// What stands at the front of the bytes that came.
 #[derive(Drop)]
@@ -28,12 +29,12 @@ pub fn cut_line(alloc: Global, held: &mut Vec<u8>, piece: &mut Bytes, limit: usi
     requires unfinished { IsUnfinished limit held.old.items }
     ensures cuts { Cuts limit held.old.items piece.old result held.new.items piece.new }
     ensures front { LeavesFront limit (held.old.items ++ piece.old) result }
+    ensures left { length piece.new ≤ length piece.old }
 {
     let room = limit - held.len();
     let size = piece.len();
-    match split_once_at(piece.as_slice(), b'\n') {
-        Some((front, _)) => {
-            let front = front.len();
+    match memchr(b'\n', piece.as_slice()) {
+        Some(front) => {
             if room <= front {
                 return LineCut::TooLong;
             }
@@ -63,6 +64,7 @@ pub fn next_cut(
     requires searched { IsSearched limit is_searched.old (held.old.items ++ piece.old) }
     ensures cuts { Cuts limit held.old.items piece.old result held.new.items piece.new }
     ensures front { LeavesFront limit (held.old.items ++ piece.old) result }
+    ensures left { length piece.new ≤ length piece.old }
     ensures searched { IsSearched limit is_searched.new (held.new.items ++ piece.new) }
 {
     if *is_searched {

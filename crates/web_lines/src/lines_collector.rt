@@ -1,16 +1,19 @@
 //! The lines of a body, one by one.
-ghost use Rattle.std.specs.Prelude.{◌≡◌, ◌+◌, ◌<◌, ◌++◌, [], IfOk, OnErr, OnOk, length};
+ghost use Rattle.std.specs.Prelude.{◌≡◌, ◌+◌, ◌<◌, ◌≤◌, ◌++◌, [], None, IfOk, OnErr, OnOk, length};
 ghost use Rattle.web_texts.specs.Counts.{Rose};
 ghost use Rattle.web_request.specs.MessageFields.{encoding_of};
+ghost use Rattle.web_body.specs.Collector.{StallsNext};
 ghost use Rattle.web_body.specs.Payload.{KeepsPayload, bytes_between, payload_feed};
-ghost use Rattle.web_body.specs.PollSteps.{OnPending};
+ghost use Rattle.web_body.specs.PollSteps.{IsPending, OnPending};
 ghost use Rattle.web_lines.specs.LineCuts.{IsSearched, IsUnfinished, TakesLine};
-ghost use Rattle.web_lines.specs.LineReading.{IsReading, IsUnpolled, OnEnd, OnFault, OnLine};
-ghost use Rattle.web_lines.specs.LineReading.{OnTooLong, ReadsLine, StepGives, default_limit};
-ghost use Rattle.web_lines.specs.LineReading.{new_reader, progress_after, schedule_of, taken_from};
-ghost use Rattle.web_lines.specs.LineReading.{work_left};
-ghost use Rattle.web_lines.specs.NextLines.{LastLine, MayGoOn, NextLine};
-ghost use Rattle.web_lines.specs.declared.lines_collector.Progress.TheVariants.{Reading};
+ghost use Rattle.web_lines.specs.LineReading.{Buffers, IsReading, IsUnpolled, OnEnd, OnFault};
+ghost use Rattle.web_lines.specs.LastPieces.{LastTaken};
+ghost use Rattle.web_lines.specs.LineReading.{OnLine, OnTooLong, ReadsLine, StepGives};
+ghost use Rattle.web_lines.specs.LineReading.{default_limit, new_reader, progress_after};
+ghost use Rattle.web_lines.specs.LineReading.{schedule_of, taken_from, work_left};
+ghost use Rattle.web_lines.specs.NextLines.{BuffersLine, LastLine, MayGoOn, NextLine};
+ghost use Rattle.web_body.specs.declared.poll.Step.TheVariants.{Ready};
+ghost use Rattle.web_lines.specs.declared.lines_collector.Progress.TheVariants.{Over, Reading};
 
 use crate::line_cut::{LineCut, hold_piece, next_cut, take_line};
 use bytes::Bytes;
@@ -32,15 +35,15 @@ pub enum Progress {
     Refused(ContentTypeError),
     /// Read so far.
     Reading,
-    /// An error was returned, or allocation failed: nothing follows.
-    Failed,
+    /// The end or an error was returned, or allocation failed: nothing follows.
+    Over,
 }
 
 /// Reads the lines of a body one by one, each with its newline, as UTF-8 and under a limit.
 ///
 /// A line is refused as soon as more bytes of it came than the limit allows, be it finished or not.
-/// Nothing follows the first error. Contracts see the bytes that came and are not returned yet, the
-/// payload that is left, and the limit.
+/// Nothing follows the end or the first error. Contracts see the bytes that came and are not
+/// returned yet, the payload that is left, the size of the last piece, and the limit.
 #[derive(Drop)]
 pub struct Readlines<S> {
     payload: Payload<S>,
@@ -48,6 +51,8 @@ pub struct Readlines<S> {
     held: Vec<u8>,
     /// What is left of the last piece.
     piece: Bytes,
+    /// How many bytes the last piece had.
+    last: usize,
     /// Whether the piece was searched and has no newline.
     is_searched: bool,
     limit: usize,
@@ -55,8 +60,9 @@ pub struct Readlines<S> {
 }
 
 impl<S> Model for Readlines<S> {
-    ghost use Rattle.std.specs.Prelude.{◌++◌};
+    ghost use Rattle.std.specs.Prelude.{◌≤◌, ◌++◌, length};
     ghost use Rattle.web_lines.specs.LineReader.{LineReader};
+    ghost use Rattle.web_lines.specs.LineReading.{HoldsNothing};
     ghost use Rattle.web_lines.specs.LineCuts.{IsSearched, IsUnfinished};
 
     ghost Value = { LineReader S };
@@ -64,13 +70,16 @@ impl<S> Model for Readlines<S> {
     ghost view = { λ r. record {
       payload = r.payload;
       came = r.held.items ++ r.piece;
+      last = r.last;
       limit = r.limit;
       progress = r.progress;
     } };
 
     ghost invariant = { λ r.
         IsUnfinished r.limit r.held.items
-        × IsSearched r.limit r.is_searched (r.held.items ++ r.piece) };
+        × IsSearched r.limit r.is_searched (r.held.items ++ r.piece)
+        × (length r.piece ≤ r.last)
+        × HoldsNothing r.progress (r.held.items ++ r.piece) };
 }
 
 /// What reading on to the next line came to.
@@ -89,15 +98,23 @@ fn next_line<S: Source>(
     payload: &mut Payload<S>,
     held: &mut Vec<u8>,
     piece: &mut Bytes,
+    last: &mut usize,
     is_searched: &mut bool,
     limit: usize,
 ) -> LineStep
     requires unfinished { IsUnfinished limit held.old.items }
+    requires fits { length piece.old ≤ last.old }
     requires searched { IsSearched limit is_searched.old (held.old.items ++ piece.old) }
     ensures next { NextLine S.feed limit payload.old held.old.items piece.old
         result payload.new held.new.items piece.new }
     ensures searched { MayGoOn result
         (IsSearched limit is_searched.new (held.new.items ++ piece.new)) }
+    ensures fits { MayGoOn result (length piece.new ≤ last.new) }
+    ensures buffers { BuffersLine result (length (held.old.items ++ piece.old))
+        (bytes_between S.feed payload.old payload.new) (held.new.items ++ piece.new) }
+    ensures last { LastTaken
+        (payload_feed S.feed payload.old).marks last.old
+        (payload_feed S.feed payload.new).marks last.new }
 {
     'turns: loop {
         match next_cut(alloc, held, piece, is_searched, limit) {
@@ -109,6 +126,7 @@ fn next_line<S: Source>(
         }
         match payload.poll_next() {
             Turn::Piece(next) => {
+                *last = next.len();
                 match hold_piece(held, piece, next) {
                     Ok(()) => *is_searched = false,
                     Err(_) => return LineStep::NoMemory,
@@ -183,6 +201,7 @@ impl<S: Source> Readlines<S> {
         ensures { result ≡ record {
           payload = payload;
           came = [];
+          last = 0;
           limit = default_limit;
           progress = progress;
         } }
@@ -191,6 +210,7 @@ impl<S: Source> Readlines<S> {
             payload,
             held: Vec::new(alloc),
             piece: Bytes::new(),
+            last: 0,
             is_searched: false,
             limit: DEFAULT_LIMIT,
             progress,
@@ -205,9 +225,12 @@ impl<S: Source> Readlines<S> {
         Readlines { limit, ..self }
     }
 
-    /// The number of bytes that came and were not returned or dropped yet.
+    /// The number of bytes that came and were not returned or dropped yet: at most the limit and
+    /// the last piece, and none once nothing follows.
     pub fn buffered(&self) -> usize
-        ensures { result ≡ length self.now.came }
+        ensures value { result ≡ length self.now.came }
+        ensures within { result ≤ self.now.limit + self.now.last }
+        ensures dropped { (IsReading self.now.progress → ⊥) → result ≡ 0 }
     {
         self.held.len() + self.piece.len()
     }
@@ -239,14 +262,25 @@ impl<S: Source> Readlines<S> {
             ((payload_feed S.feed self.new.payload).answers ≡ 0) }
         ensures unfailed { OnEnd result ((payload_feed S.feed self.new.payload).faults
             ≡ (payload_feed S.feed self.old.payload).faults) }
+        ensures buffers { IsReading self.old.progress → Buffers result (length self.old.came)
+            (bytes_between S.feed self.old.payload self.new.payload) self.new.came }
+        ensures dropped { (IsReading self.new.progress → ⊥) → self.new.came ≡ [] }
+        ensures within { length self.new.came ≤ self.new.limit + self.new.last }
+        ensures last { LastTaken
+            (payload_feed S.feed self.old.payload).marks self.old.last
+            (payload_feed S.feed self.new.payload).marks self.new.last }
+        ensures stalled { IsReading self.old.progress → IsUnfinished self.old.limit self.old.came
+            → StallsNext (payload_feed S.feed self.old.payload).marks → IsPending result }
+        ensures over { self.old.progress ≡ Over
+            → (result ≡ Ready None) × (self.new ≡ self.old) }
     {
         match self.progress {
             Progress::Refused(error) => {
-                self.progress = Progress::Failed;
+                self.progress = Progress::Over;
                 Step::Ready(Some(Err(ReadlinesError::ContentTypeError(error))))
             }
             Progress::Reading => self.read_on(alloc),
-            Progress::Failed => Step::Ready(None),
+            Progress::Over => Step::Ready(None),
         }
     }
 
@@ -260,19 +294,23 @@ impl<S: Source> Readlines<S> {
             &mut self.payload,
             &mut self.held,
             &mut self.piece,
+            &mut self.last,
             &mut self.is_searched,
             self.limit,
         ) {
             LineStep::Pending => Step::Pending,
             LineStep::Line(line) => Step::Ready(Some(Ok(line))),
             LineStep::Failed(error) => {
-                self.progress = Progress::Failed;
+                self.progress = Progress::Over;
                 drop_rest(&mut self.held, &mut self.piece);
                 Step::Ready(Some(Err(error)))
             }
-            LineStep::End => Step::Ready(None),
+            LineStep::End => {
+                self.progress = Progress::Over;
+                Step::Ready(None)
+            }
             LineStep::NoMemory => {
-                self.progress = Progress::Failed;
+                self.progress = Progress::Over;
                 drop_rest(&mut self.held, &mut self.piece);
                 Step::NoMemory
             }

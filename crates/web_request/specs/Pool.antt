@@ -1,6 +1,6 @@
 -- A pool of records as contracts see it, and its state after each call.
-use Rattle.std.specs.Prelude.{ℕ, ◌≡◌, ◌+◌, ◌-◌, List, [], ◌∷◌, ◌++◌, None, Bool, true, ◌&&◌}
-use Rattle.std.specs.Prelude.{if◌then◌else◌, length, nat_lt, slice_index_or, take}
+use Rattle.std.specs.Prelude.{ℕ, ◌≡◌, ◌+◌, ◌-◌, List, [], ◌∷◌, ◌++◌, None, Bool, true, false}
+use Rattle.std.specs.Prelude.{◌&&◌, if◌then◌else◌, length, nat_lt, slice_index_or, take}
 use Rattle.web_request.specs.declared.config.AppConfig.{AppConfig}
 use Rattle.web_request.specs.Request.{Parts, Record, nothing_kept}
 
@@ -55,6 +55,10 @@ abbrev pub after_give_back : {L : Type 0} → ℕ → Pool L → Pool L
 after_give_back n p = record p {
   serials = if available p then p.serials ++ n ∷ [] else p.serials;
 }
+
+-- the pool that keeps none from now on
+abbrev pub after_disable : {L : Type 0} → Pool L → Pool L
+after_disable p = record p { serials = []; enabled = false }
 
 -- the record with this number of a request of these parts, under a root layer and a configuration
 abbrev pub new_record : {L D C : Type 0}

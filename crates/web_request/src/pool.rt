@@ -1,7 +1,7 @@
 //! Pools of records, which serve one request after another.
 ghost use Rattle.std.specs.Prelude.{◌≡◌, ◌+◌, ◌<◌, ◌≤◌, ◌^◌, length, IfErr, IfOk, OnErr};
 ghost use Rattle.web_request.specs.Pool.{available, new_pool, next_serial, new_record};
-ghost use Rattle.web_request.specs.Pool.{after_give_back, after_start};
+ghost use Rattle.web_request.specs.Pool.{after_disable, after_give_back, after_start};
 
 use crate::app::App;
 use crate::config::AppConfig;
@@ -147,7 +147,18 @@ impl<A: App> HttpRequestPool<A> {
         }
     }
 
-    /// Whether a record that is given back is kept.
+    /// Drops the records that are kept. From then on none is kept: each that is given back is
+    /// dropped. It allocates nothing.
+    pub fn disable(&mut self)
+        ensures { self.new ≡ after_disable self.old }
+    {
+        self.kept.clear();
+        self.numbers.clear();
+        self.enabled = false;
+    }
+
+    /// Whether a record that is given back is kept: the pool is enabled, and keeps fewer than its
+    /// capacity.
     pub fn is_available(&self) -> bool
         ensures { result ≡ available self.now }
     {

@@ -8,8 +8,6 @@ mod floats;
 mod form;
 mod json_value;
 mod readers;
-#[cfg(test)]
-mod tests;
 mod write;
 
 pub use decode::{decode_form, decode_json};

@@ -8,7 +8,10 @@ pub mod OutcomeFunctions
 pub mod Outcomes
 pub mod PlanCalls
 pub mod PlanOutcomes
+pub mod PlanPools
 pub mod PollOne
+pub mod PoolRun
+pub mod PoolSteps
 pub mod RecordsMade
 pub mod Setting
 pub mod StagePolls

@@ -1,8 +1,7 @@
 -- What a whole plan makes of the exchanges.
-use Rattle.std.specs.Prelude.{◌≡◌, ◌==◌, ℕ, ◌+◌, ◌<◌, ◌≤◌, List, [], ◌∷◌, Bool, true, false}
-use Rattle.std.specs.Prelude.{cond, ◌⊎◌, length, map, nat_lt}
-use Rattle.std.specs.List.{AllZip, enumerate_from, filter, list_any, range_with_len}
-use Rattle.web_request.specs.Pool.{Pool}
+use Rattle.std.specs.Prelude.{◌≡◌, ◌==◌, ℕ, ◌+◌, ◌<◌, List, [], ◌∷◌, Bool, true, false}
+use Rattle.std.specs.Prelude.{cond, ◌⊎◌, map, nat_lt}
+use Rattle.std.specs.List.{AllZip, enumerate_from}
 use Rattle.web_reply.specs.ResponseBodies.{Plain}
 use Rattle.web_reply.specs.Replies.{Reply}
 use Rattle.web_worker.specs.Outcomes.{OutcomeView}
@@ -11,7 +10,6 @@ use Rattle.web_worker.specs.Outcomes.{OutcomeView.NoMemory}
 use Rattle.web_worker.specs.Exchanges.{ExchangeView, FlightView, FlightView.Waiting}
 use Rattle.web_worker.specs.Setting.{Setting}
 use Rattle.web_worker.specs.Flights.{ExchangeGives, ExchangeBefore}
-use Rattle.web_worker.specs.RecordsMade.{having_made}
 
 -- how often the plan names this number
 abbrev pub poll_count : List ℕ → ℕ → ℕ
@@ -21,11 +19,6 @@ poll_count (j ∷ plan) k = cond (j == k) 1 0 + poll_count plan k
 -- The lists are as long, and P holds of each place, counted from i on, and of what both hold there.
 abbrev pub EachFrom : {X Y : Type 0} → (ℕ → X → Y → Type 0) → ℕ → List X → List Y → Type 0
 EachFrom P i xs ys = AllZip (λ e y. P e.0 e.1 y) (enumerate_from i xs) ys
-
--- how many of the exchanges the plan names
-abbrev pub named_count : {X : Type 0} → List ℕ → List X → ℕ
-named_count plan xs =
-    length (filter (λ k. nat_lt 0 (poll_count plan k)) (range_with_len 0 (length xs)))
 
 -- what n polls make of an exchange that is answered with r after d polls that leave it unanswered
 abbrev pub outcome_of : ℕ → Reply Plain → ℕ → OutcomeView
@@ -41,14 +34,6 @@ abbrev pub OfWaiting : {S L D C U W : Type 0} → List (FlightView S L D C U W)
     → (List (ExchangeView S L D C) → Type 0) → Type 0
 OfWaiting {S} {L} {D} {C} flights P =
     (xs : List (ExchangeView S L D C)) → flights ≡ map (λ x. Waiting x) xs → P xs
-
--- The pool made a record for each exchange that the plan names, or fewer where memory was lacking.
-pub record PlanRecords {L X : Type 0} (plan : List ℕ) (xs : List X) (os : List OutcomeView)
-    (old new : Pool L) : Type 0 where
-  pub exact : list_any lacks_memory os ≡ false → new.made ≡ old.made + named_count plan xs
-  pub least : old.made ≤ new.made
-  pub most : new.made ≤ old.made + named_count plan xs
-  pub rest : new ≡ having_made new.made old
 
 module _ {S L D C V E Y U W : Type 0} (s : Setting S L D C V E Y U W) where
   -- what n polls may make of the exchange

@@ -11,7 +11,7 @@ use Rattle.web_worker.specs.Exchanges.{FlightView.Waiting, FlightView.Extracting
 use Rattle.web_worker.specs.Exchanges.{FlightView.Handling, FlightView.Answered}
 use Rattle.web_worker.specs.Setting.{Setting}
 use Rattle.web_worker.specs.Flights.{FlightBefore, FlightGives, FlightStep, is_open}
-use Rattle.web_worker.specs.RecordsMade.{Makes}
+use Rattle.web_worker.specs.PoolSteps.{TakesOrReturns}
 use Rattle.web_worker.specs.HandlerCalls.{FlightArgumentsOnce, Calls, CallsAre}
 
 -- it names no flight, or an answered one
@@ -25,7 +25,7 @@ module _ {S L D C V E Y U W : Type 0} (s : Setting S L D C V E Y U W) where
       (p q : Pool L)
       (calls_old calls_new : Option (List V)) : Type 0 where
     pub step : FlightStep s f g
-    pub makes : Makes f g p q
+    pub moves : TakesOrReturns f g p q
     pub calls : Calls s f g calls_old calls_new
 
   -- nothing changed

@@ -2,7 +2,7 @@
 ghost use Rattle.std.specs.Prelude.{◌≡◌, Option, None, Some};
 ghost use Rattle.web_worker.specs.Exchanges.{FlightView, flight_view};
 ghost use Rattle.web_worker.specs.Flights.{flight_outcome};
-ghost use Rattle.web_worker.specs.RecordsMade.{KeepsNone};
+ghost use Rattle.web_worker.specs.PoolSteps.{after_release, serial_of};
 
 use crate::exchange::Exchange;
 use crate::handler::Handler;
@@ -120,7 +120,8 @@ impl<A: App, Args: FromRequest<A>, H: Handler<Args>> Flight<A, Args, H> {
     ghost use Rattle.web_worker.specs.Exchanges.{FlightView};
     ghost use Rattle.web_worker.specs.Flights.{AnswerMayCome, answer_of, flight_outcome, is_open};
     ghost use Rattle.web_worker.specs.Outcomes.{outcome_view};
-    ghost use Rattle.web_worker.specs.RecordsMade.{KeepsNone};
+    ghost use Rattle.std.specs.Prelude.{None};
+    ghost use Rattle.web_worker.specs.PoolSteps.{after_release, serial_of};
 
     /// A flight that waits for its first poll.
     pub fn new(exchange: Exchange<A>) -> Flight<A, Args, H>
@@ -167,8 +168,7 @@ impl<A: App, Args: FromRequest<A>, H: Handler<Args>> Flight<A, Args, H> {
     pub(crate) fn end(&mut self, pool: &mut HttpRequestPool<A>)
     where
         H::Output: Responder<A>,
-        requires { KeepsNone pool.old }
-        ensures pool { pool.new ≡ pool.old }
+        ensures pool { pool.new ≡ after_release (serial_of self.old) None pool.old }
         ensures answered { self.new ≡ FlightView.Answered (flight_outcome self.old) }
         ensures may_come { (handler : H) (worker : Pool A.Layer)
             → AnswerMayCome (⟦<H as Serves<A, Args>>⟧.setting handler worker) self.old }
@@ -185,8 +185,8 @@ pub(crate) fn store_outcome<A: App, U: Drop, W: Drop>(
     stage: &mut Stage<Exchange<A>, HttpRequest<A>, U, W, Outcome<A>>,
     outcome: Outcome<A>,
 )
-    requires { KeepsNone pool.old }
-    ensures pool { pool.new ≡ pool.old }
+    ensures pool { pool.new
+        ≡ after_release (serial_of (flight_view A.Source.feed stage.old)) None pool.old }
     ensures stage { stage.new ≡ Stage.Answered outcome }
 {
     let before = mem::replace(stage, Stage::Answered(outcome));

@@ -1,6 +1,10 @@
-//! Laws of the outcomes that a worker may give.
-ghost use Rattle.std.specs.Prelude.{◌≡◌};
-ghost use Rattle.web_request.specs.Pool.{Pool};
+//! Laws of the outcomes that a worker may give, and of the records of its pool.
+ghost use Rattle.std.specs.Prelude.{◌≡◌, ◌++◌, ◌∷◌, [], List, ℕ};
+ghost use Rattle.web_request.specs.declared.config.AppConfig.{AppConfig as Config};
+ghost use Rattle.web_request.specs.Pool.{Pool, after_disable, after_give_back, after_start};
+ghost use Rattle.web_request.specs.Pool.{new_pool, next_serial};
+ghost use Rattle.web_worker.specs.PlanPools.{pool_after};
+ghost use Rattle.web_worker.specs.PoolRun.{DistinctSerials, SerialState, Taken};
 ghost use Rattle.web_worker.specs.HandlerPromises.{SamePromises};
 ghost use Rattle.web_worker.specs.Isolation.{SameInBothRuns};
 
@@ -25,4 +29,25 @@ where
         → SamePromises (H.answers one) (H.answers other)
         → SameInBothRuns (⟦<H as Serves<A, Args>>⟧.setting one first)
         (⟦<H as Serves<A, Args>>⟧.setting other second) }
+{}
+
+/// The numbers of records are distinct. In a pool and with those that hold its records each number
+/// that was made stands at most once, and no other number stands there. A new pool has this, and
+/// it stays so where a record is taken, where one that is held comes back, where the pool is
+/// disabled, and after a whole plan.
+///
+/// The contract is the law, over the states that `start`, `give_back`, `disable`, `serve_flights`
+/// and `serve_all` leave; there is nothing to call it for.
+pub fn distinct_serials_law<A: App>()
+    ensures new { (root : A.Layer) (config : Config) (capacity : ℕ)
+        → DistinctSerials (new_pool root config capacity) [] }
+    ensures start { (pool : Pool A.Layer) (held : List SerialState) → DistinctSerials pool held
+        → DistinctSerials (after_start pool) (Taken (next_serial pool) ∷ held) }
+    ensures give_back { (pool : Pool A.Layer) (x : ℕ) (before after : List SerialState)
+        → DistinctSerials pool (before ++ Taken x ∷ after)
+        → DistinctSerials (after_give_back x pool) (before ++ after) }
+    ensures disable { (pool : Pool A.Layer) (held : List SerialState) → DistinctSerials pool held
+        → DistinctSerials (after_disable pool) held }
+    ensures plan { (delay : ℕ → ℕ) (pool : Pool A.Layer) (exchanges plan : List ℕ)
+        → DistinctSerials pool [] → DistinctSerials (pool_after delay pool exchanges plan) [] }
 {}

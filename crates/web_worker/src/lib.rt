@@ -16,7 +16,7 @@ mod worker;
 pub use exchange::Exchange;
 pub use flight::Flight;
 pub use handler::{FnHandler, Handler};
-pub use laws::isolation_law;
+pub use laws::{distinct_serials_law, isolation_law};
 pub use outcome::Outcome;
 pub use plan_entry::PlanEntry;
 pub use polling::poll_one;

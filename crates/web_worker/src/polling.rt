@@ -1,5 +1,5 @@
 //! One poll of one exchange.
-ghost use Rattle.std.specs.Prelude.{◌≡◌, ◌+◌, ◌<◌, ◌^◌, IfSome, IsNone, IsSome, Ok, Some};
+ghost use Rattle.std.specs.Prelude.{◌≡◌, ◌+◌, ◌<◌, ◌^◌, IfSome, IsNone, IsSome, None, Ok, Some};
 ghost use Rattle.std.specs.Prelude.{slice_get};
 ghost use Rattle.web_request.specs.Pool.{Pool, after_start, new_record, next_serial};
 ghost use Rattle.web_request.specs.Request.{Record};
@@ -7,7 +7,9 @@ ghost use Rattle.web_worker.specs.Exchanges.{ExchangeView, FlightView, IsUnfinis
 ghost use Rattle.web_worker.specs.Exchanges.{request_of};
 ghost use Rattle.web_worker.specs.HandlerPromises.{SamePromises};
 ghost use Rattle.web_worker.specs.PollOne.{CallEffectAt, EffectAt, FlightPoll, IsIdle, PollsAt};
-ghost use Rattle.web_worker.specs.RecordsMade.{KeepsNone, Makes, may_make};
+ghost use Rattle.web_worker.specs.PoolSteps.{HeldOrReturned, TakesOrReturns};
+ghost use Rattle.web_worker.specs.PoolSteps.{after_release, serial_of};
+ghost use Rattle.web_worker.specs.RecordsMade.{may_make};
 ghost use Rattle.web_worker.specs.StagePolls.{ArgumentsPoll, HandlerPoll, IsStart};
 ghost use Rattle.web_worker.specs.Stages.{request_in};
 
@@ -32,8 +34,8 @@ fn store_no_memory<A: App, U: Drop, W: Drop>(
     pool: &mut HttpRequestPool<A>,
     stage: &mut Stage<Exchange<A>, HttpRequest<A>, U, W, Outcome<A>>,
 )
-    requires { KeepsNone pool.old }
-    ensures pool { pool.new ≡ pool.old }
+    ensures pool { pool.new
+        ≡ after_release (serial_of (flight_view A.Source.feed stage.old)) None pool.old }
     ensures stage { stage.new ≡ Stage.Answered Outcome.NoMemory }
 {
     store_outcome(pool, stage, Outcome::NoMemory);
@@ -47,10 +49,10 @@ fn poll_handler<A: App, Args: FromRequest<A>, H: Handler<Args>>(
 )
 where
     H::Output: Responder<A>,
-    requires none_kept { KeepsNone pool.old }
     requires unfinished { IsUnfinished Args.Future.is_finished H.Future.is_finished
         (flight_view A.Source.feed stage.old) }
-    ensures pool { pool.new ≡ pool.old }
+    ensures pool { HeldOrReturned (serial_of (flight_view A.Source.feed stage.old))
+        (serial_of (flight_view A.Source.feed stage.new)) pool.old pool.new }
     ensures unfinished { IsUnfinished Args.Future.is_finished H.Future.is_finished
         (flight_view A.Source.feed stage.new) }
     ensures polled { (handler : H) (worker : Pool A.Layer)
@@ -83,10 +85,10 @@ fn call_handler<A: App, Args: FromRequest<A>, H: Handler<Args>>(
 )
 where
     H::Output: Responder<A>,
-    requires none_kept { KeepsNone pool.old }
     requires ready { H.ready handler.old }
     requires in_flight { IsSome (request_in stage.old) }
-    ensures pool { pool.new ≡ pool.old }
+    ensures pool { HeldOrReturned (serial_of (flight_view A.Source.feed stage.old))
+        (serial_of (flight_view A.Source.feed stage.new)) pool.old pool.new }
     ensures ready { H.ready handler.new }
     ensures same_promises { SamePromises (H.answers handler.old) (H.answers handler.new) }
     ensures unfinished { IsUnfinished Args.Future.is_finished H.Future.is_finished
@@ -117,11 +119,11 @@ fn poll_arguments<A: App, Args: FromRequest<A>, H: Handler<Args>>(
 )
 where
     H::Output: Responder<A>,
-    requires none_kept { KeepsNone pool.old }
     requires ready { H.ready handler.old }
     requires unfinished { IsUnfinished Args.Future.is_finished H.Future.is_finished
         (flight_view A.Source.feed stage.old) }
-    ensures pool { pool.new ≡ pool.old }
+    ensures pool { HeldOrReturned (serial_of (flight_view A.Source.feed stage.old))
+        (serial_of (flight_view A.Source.feed stage.new)) pool.old pool.new }
     ensures ready { H.ready handler.new }
     ensures same_promises { SamePromises (H.answers handler.old) (H.answers handler.new) }
     ensures unfinished { IsUnfinished Args.Future.is_finished H.Future.is_finished
@@ -178,9 +180,9 @@ fn begin_arguments<A: App, Args: FromRequest<A>, H: Handler<Args>>(
 )
 where
     H::Output: Responder<A>,
-    requires none_kept { KeepsNone pool.old }
     requires no_memory { stage.old ≡ Stage.Answered Outcome.NoMemory }
-    ensures pool { pool.new ≡ pool.old }
+    ensures pool { HeldOrReturned (Some request.serial)
+        (serial_of (flight_view A.Source.feed stage.new)) pool.old pool.new }
     ensures unfinished { IsUnfinished Args.Future.is_finished H.Future.is_finished
         (flight_view A.Source.feed stage.new) }
     ensures starts { (handler : H) (worker : Pool A.Layer)
@@ -205,12 +207,12 @@ fn start_flight<A: App, Args: FromRequest<A>, H: Handler<Args>>(
 )
 where
     H::Output: Responder<A>,
-    requires none_kept { KeepsNone pool.old }
     requires room { pool.old.made + 1 < 2 ^ 64 }
     ensures unfinished { IsUnfinished Args.Future.is_finished H.Future.is_finished
         (flight_view A.Source.feed stage.new) }
     ensures makes { (x : ExchangeView A.Source A.Layer A.Local A.Conn) → stage.old ≡ Stage.Waiting x
-        → Makes (FlightView.Waiting x) (flight_view A.Source.feed stage.new) pool.old pool.new }
+        → TakesOrReturns (FlightView.Waiting x) (flight_view A.Source.feed stage.new)
+        pool.old pool.new }
     ensures starts { (handler : H) (x : ExchangeView A.Source A.Layer A.Local A.Conn)
         → stage.old ≡ Stage.Waiting x
         → IsStart (⟦<H as Serves<A, Args>>⟧.setting handler pool.old) x
@@ -234,7 +236,6 @@ fn poll_stage<A: App, Args: FromRequest<A>, H: Handler<Args>>(
 )
 where
     H::Output: Responder<A>,
-    requires none_kept { KeepsNone pool.old }
     requires room { pool.old.made + may_make (Some (flight_view A.Source.feed stage.old)) < 2 ^ 64 }
     requires ready { H.ready handler.old }
     requires unfinished { IsUnfinished Args.Future.is_finished H.Future.is_finished
@@ -270,7 +271,6 @@ fn poll_at<A: App, Args: FromRequest<A>, H: Handler<Args>>(
 )
 where
     H::Output: Responder<A>,
-    requires none_kept { KeepsNone pool.old }
     requires room { pool.old.made + may_make (slice_get flights.old k) < 2 ^ 64 }
     requires ready { H.ready handler.old }
     ensures ready { H.ready handler.new }

@@ -10,8 +10,10 @@ ghost use Rattle.web_worker.specs.OutcomeFunctions.{DeterministicOutcomes};
 ghost use Rattle.web_worker.specs.Outcomes.{outcome_views};
 ghost use Rattle.web_worker.specs.PlanCalls.{AllowedCalls, AppendsCalls, DeterministicCalls};
 ghost use Rattle.web_worker.specs.PlanCalls.{LacksMemory};
-ghost use Rattle.web_worker.specs.PlanOutcomes.{AllowedOutcomes, OfWaiting, PlanRecords};
-ghost use Rattle.web_worker.specs.RecordsMade.{KeepsNone, waiting_count};
+ghost use Rattle.web_worker.specs.PlanOutcomes.{AllowedOutcomes, OfWaiting};
+ghost use Rattle.web_worker.specs.RecordsMade.{waiting_count};
+ghost use Rattle.web_worker.specs.PoolRun.{return_held, serial_state};
+ghost use Rattle.web_worker.specs.PlanPools.{IsPoolAfter, with_records};
 
 use crate::exchange::Exchange;
 use crate::flight::Flight;
@@ -33,8 +35,7 @@ fn end_flights<A: App, Args: FromRequest<A>, H: Handler<Args>>(
 )
 where
     H::Output: Responder<A>,
-    requires none_kept { KeepsNone pool.old }
-    ensures pool { pool.new ≡ pool.old }
+    ensures pool { pool.new ≡ return_held pool.old (map (λ f. serial_state f) flights.old) }
     ensures answered { flights.new ≡ map (λ f. FlightView.Answered (flight_outcome f)) flights.old }
 {
     for flight in flights.iter_mut() {
@@ -76,9 +77,13 @@ where
         (⟦<H as Serves<A, Args>>⟧.setting handler.old worker.old)
         (map N.number plan.now) xs (map (λ f. flight_outcome f) flights.new)
         (H.calls handler.old) (H.calls handler.new)) }
-    ensures records { OfWaiting flights.old (λ xs. PlanRecords
+    ensures pool { OfWaiting flights.old (λ xs. IsPoolAfter
+        (⟦<H as Serves<A, Args>>⟧.setting handler.old worker.old)
         (map N.number plan.now) xs (map (λ f. flight_outcome f) flights.new)
         worker.old worker.new) }
+    ensures least { worker.old.made ≤ worker.new.made }
+    ensures made { worker.new.made ≤ worker.old.made + waiting_count flights.old }
+    ensures kept { worker.new ≡ with_records worker.new.serials worker.new.made worker.old }
 {
     for entry in plan {
         poll_one(alloc, worker, handler, flights, entry.index());
@@ -171,8 +176,12 @@ where
         (⟦<H as Serves<A, Args>>⟧.setting handler.old worker.old)
         plan.now exchanges.items (outcome_views A.Source.feed os.items)
         (H.calls handler.old) (H.calls handler.new)) }
-    ensures records { IfOk result (λ os. PlanRecords
+    ensures pool { IfOk result (λ os. IsPoolAfter
+        (⟦<H as Serves<A, Args>>⟧.setting handler.old worker.old)
         plan.now exchanges.items (outcome_views A.Source.feed os.items) worker.old worker.new) }
+    ensures least { worker.old.made ≤ worker.new.made }
+    ensures made { worker.new.made ≤ worker.old.made + length exchanges.items }
+    ensures kept { worker.new ≡ with_records worker.new.serials worker.new.made worker.old }
     ensures back { IfErr result (λ e. e.1 ≡ exchanges) }
     ensures untouched { OnErr result (worker.new ≡ worker.old) }
     ensures uncalled { OnErr result (handler.new ≡ handler.old) }

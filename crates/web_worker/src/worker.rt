@@ -1,6 +1,9 @@
 //! The worker that serves exchanges.
-ghost use Rattle.std.specs.Prelude.{◌≡◌, [], true, IfOk};
-ghost use Rattle.web_worker.specs.RecordsMade.{KeepsNone};
+ghost use Rattle.std.specs.Prelude.{◌≡◌, IfOk};
+ghost use Rattle.std.specs.Borrow.{Lends, sem};
+ghost use Rattle.web_request.specs.Pool.{new_pool};
+ghost use Rattle.web_request.specs.contracts.pool.HttpRequestPool.{the_row as pool_row};
+ghost use Rattle.web_worker.specs.contracts.worker.Worker.{the_row};
 
 use std::alloc::Global;
 use std::marker::Model;
@@ -9,7 +12,7 @@ use web_request::{App, AppConfig, HttpRequestPool, NoMemory};
 
 /// Serves exchanges with one root layer, one configuration and one pool of records.
 ///
-/// The pool keeps no record for now: each exchange that is polled gets a new one.
+/// A record that an exchange gave back is used again.
 #[derive(Drop)]
 pub struct Worker<A: App> {
     pub(crate) pool: HttpRequestPool<A>,
@@ -17,19 +20,16 @@ pub struct Worker<A: App> {
 
 impl<A: App> Model for Worker<A> {
     ghost use Rattle.web_request.specs.Pool.{Pool};
-    ghost use Rattle.web_worker.specs.RecordsMade.{KeepsNone};
 
     ghost Value = { Pool A.Layer };
 
     ghost view = { λ w. w.pool };
-
-    ghost invariant = { λ w. KeepsNone w.pool };
 }
 
 impl<A: App> Worker<A> {
     /// A worker with this root layer and configuration, whose pool keeps up to `capacity` records.
     ///
-    /// `capacity` must be 0 for now. `Err(NoMemory)` if an allocation failed.
+    /// `Err(NoMemory)` if an allocation failed.
     pub fn new(
         alloc: Global,
         root: Rc<A::Layer>,
@@ -37,15 +37,7 @@ impl<A: App> Worker<A> {
         capacity: usize,
     ) -> Result<Worker<A>, NoMemory>
         requires ready { A.Layer.ready root.value }
-        requires none_kept { capacity ≡ 0 }
-        ensures { IfOk result (λ w. w ≡ record {
-          serials = [];
-          made = 0;
-          capacity = 0;
-          enabled = true;
-          root = root.value;
-          config = config;
-        }) }
+        ensures { IfOk result (λ w. w ≡ new_pool root.value config capacity) }
     {
         let pool = HttpRequestPool::with_capacity(alloc, root, config, capacity)?;
         Ok(Worker { pool })
@@ -54,8 +46,20 @@ impl<A: App> Worker<A> {
     /// The pool, for the records that it keeps and how many it made.
     pub fn pool(&self) -> &HttpRequestPool<A>
         ensures pool { result.now ≡ self.now }
-        ensures none_kept { KeepsNone self.now }
     {
         &self.pool
+    }
+
+    /// The pool, to start requests in its records, to give records back, or to disable it.
+    pub fn pool_mut(&mut self) -> &mut HttpRequestPool<A>
+        ensures* writes_back { sem 𝓛 (Lends
+            (the_row A.row A.Layer.row A.Local.row A.Conn.row A.Source.row
+            A.Layer.AppLayer A.Source.Source)
+            (pool_row A.row A.Layer.row A.Local.row A.Conn.row A.Source.row
+            A.Layer.AppLayer A.Source.Source)
+            self.entry result (λ pool. pool)) }
+        ensures shows { result.now ≡ self.old }
+    {
+        &mut self.pool
     }
 }

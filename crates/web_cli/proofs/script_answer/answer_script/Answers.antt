@@ -8,17 +8,17 @@ use Rattle.web_cli.proofs.script_answer.answer_script.Goals as goal
 pub returns-in-Ok-clause-text : goal.returns-in-Ok-clause-text
 returns-in-Ok-clause-text g c = λ a h meets handles.
     let es = exchanges (script_lines c.in_ok-from_vec.field-0) in
-    let are = c.as_mut_slice.ensures.value ∙ c.in-Ok.ensures.added [] c.new-sink.ensures in
+    let are = c.as_mut_slice-flights.ensures.value ∙ c.in-Ok.ensures.added [] c.new-sink.ensures in
     c.in_ok-text-in-Ok.ensures.text es are c.in-Ok.ensures.bodies a h meets handles
-    ∙ ap (λ (plan : List ℕ). replies_to a h (record { exchanges = es; plan = plan }))
+    ∙ ap (λ (plan : List ℕ). replies_to a h c.args.capacity (record { exchanges = es; plan = plan }))
     (c.deref.ensures.value ∙ c.in-Ok.ensures.read.1)
-    ∙ ap (λ (bytes : List ℕ). replies_to a h (script_view (script_lines bytes)))
+    ∙ ap (λ (bytes : List ℕ). replies_to a h c.args.capacity (script_view (script_lines bytes)))
     c.in_ok-from_vec.ensures.ok
 
 pub returns-in-Ok-clause-calls : goal.returns-in-Ok-clause-calls
 returns-in-Ok-clause-calls g c = λ a meets.
     let es = exchanges (script_lines c.in_ok-from_vec.field-0) in
-    let are = c.as_mut_slice.ensures.value ∙ c.in-Ok.ensures.added [] c.new-sink.ensures in
+    let are = c.as_mut_slice-flights.ensures.value ∙ c.in-Ok.ensures.added [] c.new-sink.ensures in
     let old = g.H.Handler.calls c.args.handler.now in
     c.in_ok-text-in-Ok.ensures.calls es are c.in-Ok.ensures.bodies a meets
     ∙ ap (λ (plan : List ℕ). option_map (λ calls.

@@ -12,7 +12,7 @@ returns-clause-text g c = λ es are bodies.
       converts = g.Args.Error.Into.converts;
       answers = g.H.Handler.answers c.args.handler.now;
       responds = g.H.Output.Responder.responds;
-    }) g.Args.Future.Poll.gives g.H.Future.Poll.gives) c.printed.result
+    }) g.Args.Future.Poll.gives g.H.Future.Poll.gives) c.printed.result c.args.capacity
     (record { exchanges = es; plan = c.args.plan.now })
     (map (λ f. flight_outcome f) c.serve_script.new.flights) c.in_ok-worker.worker
     (c.in_ok-worker.ensures.serves es are bodies) c.serials.result.now c.made.result

@@ -3,9 +3,8 @@ use Rattle.std.specs.List.{list_any}
 use Rattle.web_request.specs.Pool.{Pool}
 use Rattle.web_worker.specs.Flights.{flight_outcome}
 use Rattle.web_worker.specs.PlanOutcomes.{lacks_memory}
-use Rattle.web_worker.proofs.RecordsMadeLemmas.{named_count_map}
-use Rattle.web_demo_flights.specs.DemoExchanges.{demo_exchange}
-use Rattle.web_cli.proofs.RepliesTextLemmas.{any_outcome, calls_are, numbers_same, outcomes_are}
+use Rattle.web_cli.specs.DemoExchanges.{demo_exchange}
+use Rattle.web_cli.proofs.RepliesTextLemmas.{any_outcome, calls_are, numbers_same, outcomes_are, pool_is}
 use Rattle.web_cli.proofs.RepliesTextLemmas.{waiting_at_most, waiting_exchanges}
 use Rattle.web_cli.proofs.script_answer.serve_script.Goals as goal
 
@@ -24,13 +23,11 @@ returns-clause-serves g c = λ es are bodies.
     let waiting = waiting_exchanges demo_exchange es c.args.flights.now are in
     let served = rw (numbers_same plan, c.in_ok-worker.ensures)
     at (c.serve_flights.ensures.functions (map demo_exchange es) waiting) in
-    let records = rw (numbers_same plan, c.in_ok-worker.ensures)
-    at (c.serve_flights.ensures.records (map demo_exchange es) waiting) in
+    let left = rw (numbers_same plan, c.in_ok-worker.ensures)
+    at (c.serve_flights.ensures.pool (map demo_exchange es) waiting) in
     let some : list_any lacks_memory os ≡ false =
     any_outcome c.serve_flights.new.flights
     ∙ sym c.any_lacks_memory.ensures ∙ c.if-any_lacks_memory.false in
-    let made = records.exact some in
-    let named = named_count_map demo_exchange plan es in
     record {
       outcomes = λ a h meets handles.
           outcomes_are (record {
@@ -40,8 +37,15 @@ returns-clause-serves g c = λ es are bodies.
             responds = g.H.Output.Responder.responds;
           }) g.met.Args.FromRequest.converted g.Args.Future.Poll.gives g.H.Future.Poll.gives
           a meets h handles (record { exchanges = es; plan = plan }) os served bodies some;
-      serials = ap (λ (p : Pool _). p.serials) records.rest;
-      made = omega (arith, made, named);
+      pool_left = λ a h meets handles.
+          pool_is (record {
+            means = g.Args.FromRequest.means;
+            converts = g.Args.Error.Into.converts;
+            answers = g.H.Handler.answers c.args.handler.now;
+            responds = g.H.Output.Responder.responds;
+          }) g.met.Args.FromRequest.converted g.Args.Future.Poll.gives g.H.Future.Poll.gives
+          a meets h handles c.args.capacity (record { exchanges = es; plan = plan }) os
+          c.serve_flights.new.worker left bodies some;
     }
 
 pub returns-clause-calls : goal.returns-clause-calls

@@ -10,7 +10,7 @@ use Rattle.web_cli.proofs.RunLemmas.{alone_as, headline_as, result_as}
 use Rattle.web_cli.proofs.serving.run.Goals as goal
 
 pub returns-clause-serves : goal.returns-clause-serves
-returns-clause-serves g c = λ words.
+returns-clause-serves g c = λ capacity words.
     let s = demo_setting {U = Unit {0}} {W = Unit {0}} (record {
       means = λ q m rest n x. MeansPicked q m rest n x;
       converts = λ e f. f ≡ e;
@@ -19,10 +19,11 @@ returns-clause-serves g c = λ words.
     }) (λ u n x. ⊥) (λ u n x. ⊥) in
     let old = g.H.Handler.calls c.args.handler.now in
     let new = g.H.Handler.calls c.run_over.new.handler in
-    let h = c.run_over.ensures.serves words in (
+    let h = c.run_over.ensures.serves capacity words in (
       h.0,
-      result_as (AreReplies s)
-          (ArePickedReplies (g.H.Handler.answers c.args.handler.now) g.H.Output.Responder.responds)
+      result_as (AreReplies s capacity)
+          (ArePickedReplies (g.H.Handler.answers c.args.handler.now) g.H.Output.Responder.responds
+          capacity)
           (AppendsScriptCalls s old new) (AppendsPickedCalls old new)
           (λ came text replies handler meets. replies picked_arguments handler picked_meets meets)
           (λ came calls. calls picked_arguments picked_meets)
@@ -31,7 +32,7 @@ returns-clause-serves g c = λ words.
     )
 
 pub returns-clause-headline : goal.returns-clause-headline
-returns-clause-headline g c = λ words.
+returns-clause-headline g c = λ capacity words.
     let s = demo_setting {U = Unit {0}} {W = Unit {0}} (record {
       means = λ q m rest n x. MeansPicked q m rest n x;
       converts = λ e f. f ≡ e;
@@ -40,14 +41,15 @@ returns-clause-headline g c = λ words.
     }) (λ u n x. ⊥) (λ u n x. ⊥) in
     let old = g.H.Handler.calls c.args.handler.now in
     let new = g.H.Handler.calls c.run_over.new.handler in
-    headline_as (AreReplies s)
-    (ArePickedReplies (g.H.Handler.answers c.args.handler.now) g.H.Output.Responder.responds)
+    headline_as (AreReplies s capacity)
+    (ArePickedReplies (g.H.Handler.answers c.args.handler.now) g.H.Output.Responder.responds
+    capacity)
     (AppendsScriptCalls s old new) (AppendsPickedCalls old new)
     (λ came text replies handler meets. replies picked_arguments handler picked_meets meets)
     (λ came calls. calls picked_arguments picked_meets)
     c.run_over.result (g.I.Input.state c.args.input.now) (g.I.Input.state c.run_over.new.input)
     (g.O.Output.state c.args.output.now) (g.O.Output.state c.run_over.new.output)
-    (c.run_over.ensures.headline words)
+    (c.run_over.ensures.headline capacity words)
 
 pub returns-clause-replays : goal.returns-clause-replays
 returns-clause-replays g c = λ load words.

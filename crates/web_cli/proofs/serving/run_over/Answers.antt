@@ -1,7 +1,19 @@
 use Rattle.std.proofs.Common.{◌∙◌, ap, sym, refl}
 use Rattle.std.specs.Prelude.{Some}
-use Rattle.web_cli.proofs.RunLemmas.{replayed_load, usage_written}
+use Rattle.web_cli.proofs.RunLemmas.{replayed_load, served_capacity, usage_written}
 use Rattle.web_cli.proofs.serving.run_over.Goals as goal
+
+pub returns-in-Some-Serve-clause-serves : goal.returns-in-Some-Serve-clause-serves
+returns-in-Some-Serve-clause-serves g c = λ capacity words.
+    let same = served_capacity c.in-Some-Serve.capacity capacity
+    (sym (c.in-Some-Serve.is ∙ ap Some c.in-Some-Serve.field-0-is) ∙ c.command_of.ensures ∙ words) in
+    rw (← same) c.serve.ensures.serves
+
+pub returns-in-Some-Serve-clause-headline : goal.returns-in-Some-Serve-clause-headline
+returns-in-Some-Serve-clause-headline g c = λ capacity words.
+    let same = served_capacity c.in-Some-Serve.capacity capacity
+    (sym (c.in-Some-Serve.is ∙ ap Some c.in-Some-Serve.field-0-is) ∙ c.command_of.ensures ∙ words) in
+    rw (← same) c.serve.ensures.headline
 
 pub returns-in-Some-Replay-clause-replays : goal.returns-in-Some-Replay-clause-replays
 returns-in-Some-Replay-clause-replays g c = λ load words.

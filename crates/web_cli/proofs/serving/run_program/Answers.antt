@@ -8,23 +8,23 @@ use Rattle.web_cli.proofs.RunLemmas.{alone_as, demo_meets, headline_as, result_a
 use Rattle.web_cli.proofs.serving.run_program.Goals as goal
 
 pub returns-clause-serves : goal.returns-clause-serves
-returns-clause-serves g c = λ words.
-    let h = c.run.ensures.serves words in (
+returns-clause-serves g c = λ capacity words.
+    let h = c.run.ensures.serves capacity words in (
       h.0,
-      result_as (ArePickedReplies (λ p n y. HandlerAnswers p n y) (λ y q r. r ≡ output_reply y))
-          IsDemoText (AppendsPickedCalls None None) (λ came. ⊤)
+      result_as (ArePickedReplies (λ p n y. HandlerAnswers p n y) (λ y q r. r ≡ output_reply y) capacity)
+          (IsDemoText capacity) (AppendsPickedCalls None None) (λ came. ⊤)
           (λ came text replies. replies demo_handler demo_meets) (λ came calls. tt)
           _ ⊤ (λ same. tt) c.run.result h.0 _ _ _ _ h.1,
     )
 
 pub returns-clause-headline : goal.returns-clause-headline
-returns-clause-headline g c = λ words.
-    headline_as (ArePickedReplies (λ p n y. HandlerAnswers p n y) (λ y q r. r ≡ output_reply y))
-    IsDemoText (AppendsPickedCalls None None) (λ came. ⊤)
+returns-clause-headline g c = λ capacity words.
+    headline_as (ArePickedReplies (λ p n y. HandlerAnswers p n y) (λ y q r. r ≡ output_reply y) capacity)
+    (IsDemoText capacity) (AppendsPickedCalls None None) (λ came. ⊤)
     (λ came text replies. replies demo_handler demo_meets) (λ came calls. tt)
     c.run.result (g.I.Input.state c.args.input.now) (g.I.Input.state c.run.new.input)
     (g.O.Output.state c.args.output.now) (g.O.Output.state c.run.new.output)
-    (c.run.ensures.headline words)
+    (c.run.ensures.headline capacity words)
 
 pub returns-clause-replays : goal.returns-clause-replays
 returns-clause-replays g c = λ load words.

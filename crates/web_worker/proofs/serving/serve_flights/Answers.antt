@@ -1,17 +1,20 @@
-use Rattle.std.proofs.Common.{◌≡◌, ◌+◌, ◌∙◌, ◌++◌, ◌∷◌, [], ℕ, List, arith, length, map, sym, subst, take}
+use Rattle.std.proofs.Common.{◌≡◌, ◌+◌, ◌∙◌, ◌++◌, ◌∷◌, [], ℕ, List, ap, arith, length, map, refl, sym, subst, take}
 use Rattle.web_request.specs.Pool.{Pool}
 use Rattle.web_worker.specs.Flights.{flight_outcome}
 use Rattle.web_worker.specs.Outcomes.{OutcomeView}
 use Rattle.web_worker.specs.PlanCalls.{AllowedCalls, AppendsCalls, LacksMemory}
-use Rattle.web_worker.specs.PlanOutcomes.{AllowedOutcomes, PlanRecords}
-use Rattle.web_worker.specs.RecordsMade.{having_made}
+use Rattle.web_worker.specs.PlanOutcomes.{AllowedOutcomes}
+use Rattle.web_worker.specs.PoolRun.{return_held, serial_state}
+use Rattle.web_worker.specs.PlanPools.{with_records}
 use Rattle.web_worker.specs.Setting.{setting_of}
 use Rattle.web_worker.proofs.CallsFunctionLemmas.{deterministic_calls}
 use Rattle.web_worker.proofs.OutcomeFunctionsLemmas.{deterministic_outcomes}
 use Rattle.web_worker.proofs.PlanCallsLemmas.{CallsAfter, allowed_calls, calls_next, calls_start}
 use Rattle.web_worker.proofs.PlanEndLemmas.{ended_answered, ended_outcomes, map_all, map_next}
 use Rattle.web_worker.proofs.PlanProgressLemmas.{FlightsAfter, allowed_outcomes, flights_next, flights_start}
-use Rattle.web_worker.proofs.RecordsMadeLemmas.{count_next, count_start, plan_records, room}
+use Rattle.web_worker.proofs.PoolCountLemmas.{polls_least, polls_most, polls_rest, room}
+use Rattle.web_worker.proofs.PoolEndLemmas.{returned_made, returned_rest}
+use Rattle.web_worker.proofs.PoolPlanLemmas.{RunSoFar, run_ends, run_more, run_start}
 use Rattle.web_worker.proofs.SamePromiseLemmas.{polls_as}
 use Rattle.web_worker.proofs.serving.serve_flights.Goals as goal
 
@@ -23,13 +26,16 @@ loop-entry-init g c =
       same_promises = record { kept = λ x n y h. h; same = λ x n y h. h };
       calls = calls_start s c.args.flights.now (g.H.Handler.calls c.args.handler.now);
       flights = flights_start s c.args.flights.now;
-      records = count_start c.args.flights.now c.args.worker.now;
+      most = omega arith;
+      least = omega arith;
+      rest = refl;
+      runs = run_start s c.args.flights.now c.args.worker.now;
     }
 
 pub poll_one-requires-clause-room : goal.poll_one-requires-clause-room
 poll_one-requires-clause-room g c =
     let few = room c.loop-entry.flights c.index.result in
-    let most = c.loop-entry.invariant.records.most in
+    let most = c.loop-entry.invariant.most in
     let small = c.requires.room in
     omega (arith, few, most, small)
 
@@ -40,21 +46,37 @@ loop-entry-preserved g c =
     let next : map (λ n. g.N.PlanEntry.number n) (take (c.loop-entry.entry-index + 1) c.args.plan.now) ≡ plan ++ c.index.result ∷ [] =
     rw c.index.ensures (rw c.entry-item.is (map_next (λ n. g.N.PlanEntry.number n) c.args.plan.now c.loop-entry.entry-index c.entry-item.result c.loop-entry-test.true)) in
     let polled = polls_as s (g.H.Handler.answers c.args.handler.now) (g.H.Handler.answers c.loop-entry.handler) c.loop-entry.invariant.same_promises
-    c.index.result c.loop-entry.flights c.poll_one.new.flights (having_made c.loop-entry.worker.made c.args.worker.now) c.poll_one.new.worker
-    (g.H.Handler.calls c.loop-entry.handler) (g.H.Handler.calls c.poll_one.new.handler) (rw c.loop-entry.invariant.records.rest at c.poll_one.ensures.polls) in
+    c.index.result c.loop-entry.flights c.poll_one.new.flights (with_records c.loop-entry.worker.serials c.loop-entry.worker.made c.args.worker.now) c.poll_one.new.worker
+    (g.H.Handler.calls c.loop-entry.handler) (g.H.Handler.calls c.poll_one.new.handler) (rw c.loop-entry.invariant.rest at c.poll_one.ensures.polls) in
     record {
       ready = c.poll_one.ensures.ready;
       same_promises = record {
         kept = λ x n y h. c.loop-entry.invariant.same_promises.kept x n y (c.poll_one.ensures.same_promises.kept x n y h);
         same = λ x n y h. c.poll_one.ensures.same_promises.same x n y (c.loop-entry.invariant.same_promises.same x n y h);
       };
-      calls = rw next (calls_next s plan c.index.result c.args.flights.now c.loop-entry.flights c.poll_one.new.flights (having_made c.loop-entry.worker.made c.args.worker.now) c.poll_one.new.worker
+      calls = rw next (calls_next s plan c.index.result c.args.flights.now c.loop-entry.flights c.poll_one.new.flights (with_records c.loop-entry.worker.serials c.loop-entry.worker.made c.args.worker.now) c.poll_one.new.worker
           (g.H.Handler.calls c.args.handler.now) (g.H.Handler.calls c.loop-entry.handler) (g.H.Handler.calls c.poll_one.new.handler) c.loop-entry.invariant.calls polled);
-      flights = rw next (flights_next s plan c.index.result c.args.flights.now c.loop-entry.flights c.poll_one.new.flights (having_made c.loop-entry.worker.made c.args.worker.now) c.poll_one.new.worker
+      flights = rw next (flights_next s plan c.index.result c.args.flights.now c.loop-entry.flights c.poll_one.new.flights (with_records c.loop-entry.worker.serials c.loop-entry.worker.made c.args.worker.now) c.poll_one.new.worker
           (g.H.Handler.calls c.loop-entry.handler) (g.H.Handler.calls c.poll_one.new.handler) c.loop-entry.invariant.flights polled);
-      records = count_next (setting_of g.Args.FromRequest.means g.Args.Error.Into.converts (g.H.Handler.answers c.loop-entry.handler) g.H.Output.Responder.responds g.A.Source.Source.feed g.Args.Future.Poll.gives g.H.Future.Poll.gives c.loop-entry.worker)
-          c.index.result c.args.flights.now c.loop-entry.flights c.poll_one.new.flights c.args.worker.now c.loop-entry.worker c.poll_one.new.worker
-          (g.H.Handler.calls c.loop-entry.handler) (g.H.Handler.calls c.poll_one.new.handler) c.loop-entry.invariant.records c.poll_one.ensures.polls;
+      most =
+          let m = polls_most (setting_of g.Args.FromRequest.means g.Args.Error.Into.converts (g.H.Handler.answers c.loop-entry.handler) g.H.Output.Responder.responds g.A.Source.Source.feed g.Args.Future.Poll.gives g.H.Future.Poll.gives c.loop-entry.worker)
+          c.index.result c.loop-entry.flights c.poll_one.new.flights c.loop-entry.worker c.poll_one.new.worker
+          (g.H.Handler.calls c.loop-entry.handler) (g.H.Handler.calls c.poll_one.new.handler) c.poll_one.ensures.polls in
+          let so_far = c.loop-entry.invariant.most in
+          omega (arith, m, so_far);
+      least =
+          let m = polls_least (setting_of g.Args.FromRequest.means g.Args.Error.Into.converts (g.H.Handler.answers c.loop-entry.handler) g.H.Output.Responder.responds g.A.Source.Source.feed g.Args.Future.Poll.gives g.H.Future.Poll.gives c.loop-entry.worker)
+          c.index.result c.loop-entry.flights c.poll_one.new.flights c.loop-entry.worker c.poll_one.new.worker
+          (g.H.Handler.calls c.loop-entry.handler) (g.H.Handler.calls c.poll_one.new.handler) c.poll_one.ensures.polls in
+          let so_far = c.loop-entry.invariant.least in
+          omega (arith, m, so_far);
+      rest =
+          polls_rest (setting_of g.Args.FromRequest.means g.Args.Error.Into.converts (g.H.Handler.answers c.loop-entry.handler) g.H.Output.Responder.responds g.A.Source.Source.feed g.Args.Future.Poll.gives g.H.Future.Poll.gives c.loop-entry.worker)
+          c.index.result c.loop-entry.flights c.poll_one.new.flights c.loop-entry.worker c.poll_one.new.worker
+          (g.H.Handler.calls c.loop-entry.handler) (g.H.Handler.calls c.poll_one.new.handler) c.poll_one.ensures.polls
+          ∙ ap (λ (z : Pool _). with_records c.poll_one.new.worker.serials c.poll_one.new.worker.made z) c.loop-entry.invariant.rest;
+      runs = rw next (run_more s plan c.index.result c.args.flights.now c.loop-entry.flights c.poll_one.new.flights c.args.worker.now c.loop-entry.worker c.poll_one.new.worker
+          (g.H.Handler.calls c.loop-entry.handler) (g.H.Handler.calls c.poll_one.new.handler) c.loop-entry.invariant.runs c.loop-entry.invariant.flights c.loop-entry.invariant.rest polled);
     }
 
 pub returns-clause-answered : goal.returns-clause-answered
@@ -93,13 +115,34 @@ returns-clause-called g c = λ xs e.
     deterministic_calls s (map (λ n. g.N.PlanEntry.number n) c.args.plan.now) xs (map (λ f. flight_outcome f) c.end_flights.new.flights) (g.H.Handler.calls c.args.handler.now) (g.H.Handler.calls c.loop-entry.handler)
     (returns-clause-calls g c xs e)
 
-pub returns-clause-records : goal.returns-clause-records
-returns-clause-records g c = λ xs e.
+pub returns-clause-pool : goal.returns-clause-pool
+returns-clause-pool g c = λ xs e.
     let s = setting_of g.Args.FromRequest.means g.Args.Error.Into.converts (g.H.Handler.answers c.args.handler.now) g.H.Output.Responder.responds g.A.Source.Source.feed g.Args.Future.Poll.gives g.H.Future.Poll.gives c.args.worker.now in
     let plan = map (λ n. g.N.PlanEntry.number n) c.args.plan.now in
     let last : c.loop-entry.entry-index ≡ length c.args.plan.now = (let a = c.loop-entry.auto.entry-index-end in let b = c.loop-entry-test.false in omega (arith, a, b)) in
-    let after : FlightsAfter s plan c.args.flights.now c.loop-entry.flights =
-    subst (λ (plan : List ℕ). FlightsAfter s plan c.args.flights.now c.loop-entry.flights) (map_all (λ n. g.N.PlanEntry.number n) c.args.plan.now c.loop-entry.entry-index last) c.loop-entry.invariant.flights in
-    subst (λ (q : Pool _). PlanRecords plan xs (map (λ f. flight_outcome f) c.end_flights.new.flights) c.args.worker.now q) (sym (c.end_flights.ensures.pool ∙ c.worker.view_is))
-    (subst (λ (os : List OutcomeView). PlanRecords plan xs os c.args.worker.now c.loop-entry.worker) (sym (ended_outcomes c.loop-entry.flights c.end_flights.new.flights c.end_flights.ensures.answered))
-    (plan_records s plan xs c.args.flights.now c.loop-entry.flights c.args.worker.now c.loop-entry.worker e after c.loop-entry.invariant.records))
+    let runs : RunSoFar s plan c.args.flights.now c.loop-entry.flights c.args.worker.now c.loop-entry.worker =
+    subst (λ (plan : List ℕ). RunSoFar s plan c.args.flights.now c.loop-entry.flights c.args.worker.now c.loop-entry.worker) (map_all (λ n. g.N.PlanEntry.number n) c.args.plan.now c.loop-entry.entry-index last) c.loop-entry.invariant.runs in
+    run_ends s plan c.args.flights.now c.loop-entry.flights c.args.worker.now c.loop-entry.worker c.end_flights.new.pool (map (λ f. flight_outcome f) c.end_flights.new.flights) runs
+    (c.end_flights.ensures.pool ∙ ap (λ (z : Pool _). return_held z (map (λ f. serial_state f) c.loop-entry.flights)) c.worker.view_is)
+    (ended_outcomes c.loop-entry.flights c.end_flights.new.flights c.end_flights.ensures.answered) xs e
+
+pub returns-clause-made : goal.returns-clause-made
+returns-clause-made g c =
+    let came = c.end_flights.ensures.pool ∙ ap (λ (z : Pool _). return_held z (map (λ f. serial_state f) c.loop-entry.flights)) c.worker.view_is in
+    let made = ap (λ (z : Pool _). z.made) came ∙ returned_made c.loop-entry.worker (map (λ f. serial_state f) c.loop-entry.flights) in
+    let most = c.loop-entry.invariant.most in
+    omega (arith, made, most)
+
+pub returns-clause-least : goal.returns-clause-least
+returns-clause-least g c =
+    let came = c.end_flights.ensures.pool ∙ ap (λ (z : Pool _). return_held z (map (λ f. serial_state f) c.loop-entry.flights)) c.worker.view_is in
+    let made = ap (λ (z : Pool _). z.made) came ∙ returned_made c.loop-entry.worker (map (λ f. serial_state f) c.loop-entry.flights) in
+    let least = c.loop-entry.invariant.least in
+    omega (arith, made, least)
+
+pub returns-clause-kept : goal.returns-clause-kept
+returns-clause-kept g c =
+    let came = c.end_flights.ensures.pool ∙ ap (λ (z : Pool _). return_held z (map (λ f. serial_state f) c.loop-entry.flights)) c.worker.view_is in
+    subst (λ (z : Pool _). z ≡ with_records z.serials z.made c.args.worker.now) (sym came)
+    (returned_rest c.loop-entry.worker (map (λ f. serial_state f) c.loop-entry.flights)
+    ∙ ap (λ (z : Pool _). with_records (return_held c.loop-entry.worker (map (λ f. serial_state f) c.loop-entry.flights)).serials (return_held c.loop-entry.worker (map (λ f. serial_state f) c.loop-entry.flights)).made z) c.loop-entry.invariant.rest)

@@ -1,0 +1,98 @@
+-- The handler of a proxy.
+use Rattle.std.proofs.Common.{◌≡◌, ℕ, ◌<◌, List, arith, ap, sym, ◌∙◌, inl, inr}
+use Rattle.std.specs.Prelude.{Option, Some, Result, Ok, Err}
+use Rattle.web_request.specs.declared.source.Mark.{Mark}
+use Rattle.web_request.specs.Feed.{Feed}
+use Rattle.web_request.specs.Pool.{Pool}
+use Rattle.web_request.specs.Request.{Record, Request}
+use Rattle.web_values.specs.Answers.{OrAll}
+use Rattle.web_body.specs.declared.payload.Payload.{Payload}
+use Rattle.web_body.specs.Payload.{payload_feed}
+use Rattle.web_reply.specs.declared.body.BoxBody.{BoxBody}
+use Rattle.web_reply.specs.ResponseBodies.{Plain, box_plain}
+use Rattle.web_reply.specs.Replies.{Fault, Reply, plain_reply}
+use Rattle.web_extract.specs.HeadArguments.{AllowsNow, IsRequest}
+use Rattle.web_extract.specs.ListMeanings.{Means2, Member}
+use Rattle.web_extract.specs.PayloadArgument.{IsUnread, MeansPayload}
+use Rattle.web_worker.specs.ExchangeRules.{Replies, RepliesBefore}
+use Rattle.web_worker.specs.Exchanges.{ExchangeView, request_of}
+use Rattle.web_worker.specs.OutcomeFunctions.{AnswersOnce}
+use Rattle.web_worker.specs.Setting.{Setting, setting_of}
+use Rattle.example_handlers.specs.Examples.{IsTold, marks_or_none}
+use Rattle.example_handlers.specs.Relays.{relayed_reply}
+use Rattle.example_handlers.proofs.ToldBodiesLemmas.{comes_before, is_told, once_told}
+
+-- where some payload has the marks, what is allowed is a payload that has them
+unread : {S : Type 0} (feed : S → Feed) (m : List Mark) (p : Payload S) → (payload_feed feed p).marks ≡ Some m
+    → (x : Result (Payload S) Fault) → OrAll (IsUnread feed m) x → IsUnread feed m x
+unread feed m p has x (inl is) = is
+unread feed m p has x (inr none) = absurd (none (Ok p) has)
+
+module _ {S L D C U W : Type 0} (feed : S → Feed)
+    (arguments : U → ℕ → Result (Record L D C × Payload S) Fault → Type 0)
+    (handling : W → ℕ → Reply (BoxBody S) → Type 0) (pool : Pool L) where
+  abbrev pub Arguments : Request L D C → List Mark → List Mark → ℕ → Result (Record L D C × Payload S) Fault → Type 0
+  Arguments q m rest n x =
+      Means2 (Member (λ e f. f ≡ e) (AllowsNow (IsRequest q)))
+      (Member (λ e f. f ≡ e) (λ m rest n x. MeansPayload feed m rest n x)) m rest n x
+
+  abbrev pub relay : Setting S L D C (Record L D C × Payload S) Fault (Reply (BoxBody S)) U W
+  relay = setting_of Arguments (λ e f. f ≡ e)
+      (λ v n y. (n ≡ 0) × (plain_reply (λ b. box_plain feed b) y
+      ≡ relayed_reply v.0.request.head.headers (payload_feed feed v.1).marks))
+      (λ y q r. r ≡ plain_reply (λ b. box_plain feed b) y) feed arguments handling pool
+
+  -- the request, and a payload with these marks
+  abbrev Came : Request L D C → List Mark → Result (Record L D C × Payload S) Fault → Type 0
+  Came q m (Ok v) = (v.0.request ≡ q) × ((payload_feed feed v.1).marks ≡ Some m)
+  Came q m (Err e) = ⊥
+
+  all_left : (q : Request L D C) (m left : List Mark) (k : ℕ) (y : Result (Record L D C) Fault)
+      → Member (λ e f. f ≡ e) (AllowsNow (IsRequest q)) m left k y → left ≡ m
+  all_left q m left k (Ok v) h = h.0
+  all_left q m left k (Err f) (e, h, turns) = h.0
+
+  -- where some payload has the marks, both come at the first poll
+  came : (q : Request L D C) (m : List Mark) (body : Payload S) → (payload_feed feed body).marks ≡ Some m
+      → (rest : List Mark) (n : ℕ) (x : Result (Record L D C × Payload S) Fault) → Arguments q m rest n x
+      → (n ≡ 0) × Came q m x
+  came q m body has rest n (Ok v) (left, (n1, n2, (all, first, is), (none, second, is_unread), at)) = (
+    omega (arith, first, second, at),
+    (is.0, unread feed left body (has ∙ ap Some (sym all)) (Ok v.1) is_unread ∙ ap Some all),
+  )
+  came q m body has rest n (Err f) (left, inl ((e, (all, first, is), turns), need)) = absurd is
+  came q m body has rest n (Err f) (left, inr ((e, (none, second, is_unread), turns), need)) =
+      absurd (need (λ k y h.
+      absurd (unread feed left body (has ∙ ap Some (sym (all_left q m left k y h))) (Err e) is_unread)))
+
+  once : (q : Request L D C) (m : List Mark) (body : Payload S) → (payload_feed feed body).marks ≡ Some m
+      → (k : ℕ) (p : Reply Plain) → Replies relay.rules q m k p
+      → (k ≡ 0) × (p ≡ relayed_reply q.head.headers (Some m))
+  once q m body has k p (rest, n, Ok v, allowed, (j, y, answer, response, sum)) =
+      let c = came q m body has rest n (Ok v) allowed in
+      let at = c.0 in
+      let now = answer.0 in (
+        omega (arith, at, now, sum),
+        response ∙ (answer.1
+            ∙ (ap (λ (r : Request L D C). relayed_reply r.head.headers (payload_feed feed v.1).marks) c.1.0
+            ∙ ap (λ (o : Option (List Mark)). relayed_reply q.head.headers o) c.1.1)),
+      )
+  once q m body has k p (rest, n, Err e, allowed, after) = absurd (came q m body has rest n (Err e) allowed).1
+
+  before : (q : Request L D C) (m : List Mark) (body : Payload S) → (payload_feed feed body).marks ≡ Some m
+      → (polls : ℕ) → 0 < polls → RepliesBefore relay.rules q m polls
+  before q m body has polls more rest n x allowed =
+      let at = (came q m body has rest n x allowed).0 in
+      comes_before relay.rules 0 (λ v k y answer. answer.0) polls n x (omega (arith, at, more))
+
+  pub relayed : (x : ExchangeView S L D C) → IsTold feed x
+      → AnswersOnce relay x 0 (relayed_reply x.parts.head.headers (payload_feed feed x.body).marks)
+  relayed x told =
+      let marks = (payload_feed feed x.body).marks in
+      let q = request_of pool x in
+      let m = marks_or_none marks in
+      let is = is_told marks told in
+      once_told relay x 0 (relayed_reply x.parts.head.headers marks) m is
+      (λ k p h. let one = once q m x.body is k p h in
+      (one.0, one.1 ∙ ap (λ (o : Option (List Mark)). relayed_reply x.parts.head.headers o) (sym is)))
+      (λ n. before q m x.body is n)

@@ -1,0 +1,52 @@
+//! A request of the tests' application.
+use http::{Method, Version};
+use http_header::HeaderMap;
+use http_uri::Uri;
+use std::alloc::Global;
+use std::process::Abort;
+use std::rc::Rc;
+use web_body::Marks;
+use web_request::{
+    AppConfig, HttpRequest, HttpRequestPool, IpAddr, NoData, PlainApp, RequestHead, RequestParts,
+    SocketAddr, Text,
+};
+
+/// The application of the tests.
+pub(crate) type Site = PlainApp<Marks>;
+
+fn pool(rt: &impl Abort, alloc: Global) -> HttpRequestPool<Site> {
+    let config = AppConfig {
+        host: Text::of(alloc, "localhost:8080").expect(rt, "memory"),
+        secure: false,
+        local_addr: SocketAddr {
+            ip: IpAddr::V4([127, 0, 0, 1]),
+            port: 8080,
+        },
+    };
+    let root = Rc::new(alloc, NoData).expect(rt, "memory");
+    HttpRequestPool::with_capacity(alloc, root, config, 0).expect(rt, "memory")
+}
+
+/// A request for this target, of a pool of its own.
+pub(crate) fn new_request(
+    rt: &impl Abort,
+    alloc: Global,
+    target: &'static str,
+) -> HttpRequest<Site> {
+    let parts = RequestParts {
+        head: RequestHead {
+            uri: Uri::from_static(target).expect(rt, "a target"),
+            method: Method::GET,
+            version: Version::HTTP_11,
+            headers: HeaderMap::new(alloc),
+            peer_addr: None,
+        },
+        params: Vec::new(alloc),
+        layers: Vec::new(alloc),
+        conn: None,
+        local: None,
+    };
+    let mut pool = pool(rt, alloc);
+    assert!(rt; pool.made() < 9);
+    pool.start(alloc, parts).ok().expect(rt, "memory")
+}

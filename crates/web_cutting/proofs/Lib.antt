@@ -1,0 +1,2 @@
+pub mod CutReadingLemmas
+pub mod CutFreeLemmas

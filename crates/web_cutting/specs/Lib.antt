@@ -1,0 +1,2 @@
+pub mod CutFree
+pub mod CutDecoders

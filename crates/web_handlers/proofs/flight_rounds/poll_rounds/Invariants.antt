@@ -1,4 +1,0 @@
-use Rattle.web_handlers.proofs.flight_rounds.poll_rounds.Given as goal
-
-abbrev pub invariant-loop : goal.invariant-loop
-invariant-loop g l = g.H.Handler.ready l.handler

@@ -1,0 +1,37 @@
+-- What a whole plan makes of the pool, where each exchange has one delay and one reply.
+use Rattle.std.specs.Prelude.{◌≡◌, ℕ, List, [], Bool, false, Some, map, slice_get}
+use Rattle.std.specs.List.{list_any}
+use Rattle.web_request.specs.Pool.{Pool}
+use Rattle.web_reply.specs.ResponseBodies.{Plain}
+use Rattle.web_reply.specs.Replies.{Reply}
+use Rattle.web_worker.specs.Outcomes.{OutcomeView}
+use Rattle.web_worker.specs.Exchanges.{ExchangeView}
+use Rattle.web_worker.specs.Setting.{Setting}
+use Rattle.web_worker.specs.OutcomeFunctions.{AnswersOnce}
+use Rattle.web_worker.specs.PlanOutcomes.{lacks_memory}
+use Rattle.web_worker.specs.PoolRun.{SerialState, NotTaken, return_held, run_entries}
+
+-- the pool that keeps these records and made so many
+abbrev pub with_records : {L : Type 0} → List ℕ → ℕ → Pool L → Pool L
+with_records serials made p = record p { serials = serials; made = made }
+
+-- the pool after a plan for exchanges that wait, where exchange k is answered by the entry that
+-- names it for the time `delay k + 1`; records that are then still held come back
+abbrev pub pool_after : {L X : Type 0} → (ℕ → ℕ) → Pool L → List X → List ℕ → Pool L
+pool_after delay p xs plan =
+    let ran = run_entries delay p (map (λ _. NotTaken) xs) [] plan in return_held ran.0 ran.1
+
+module _ {S L D C V E Y U W : Type 0} (s : Setting S L D C V E Y U W) where
+  -- each exchange has this one delay, and one reply
+  abbrev pub EachAnswersOnce : List (ExchangeView S L D C) → (ℕ → ℕ) → Type 0
+  EachAnswersOnce xs delay =
+      (k : ℕ) (x : ExchangeView S L D C) → slice_get xs k ≡ Some x
+      → (r : Reply Plain) × AnswersOnce s x (delay k) r
+
+  -- where each exchange has one delay and one reply, and no outcome lacks memory, the pool is the
+  -- one that the plan leaves
+  abbrev pub IsPoolAfter : List ℕ → List (ExchangeView S L D C) → List OutcomeView → Pool L → Pool L
+      → Type 0
+  IsPoolAfter plan xs os p q =
+      (delay : ℕ → ℕ) → EachAnswersOnce xs delay
+      → list_any lacks_memory os ≡ false → q ≡ pool_after delay p xs plan
