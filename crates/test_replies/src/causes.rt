@@ -178,3 +178,51 @@ fn other_faults_are_causes(rt: HostRuntime) {
     let custom = "Custom { status: 409, text: Text { text: \"x\" } }";
     assert_becomes(&rt, alloc, conflict(&rt, alloc), &(409, "x", custom));
 }
+
+const TWO_JOINED: Row = (
+    409,
+    "x\ninvalid UTF-8",
+    "Several(Causes { members: [Member { status: 409, text: Text { text: \"x\" } }, \
+     Member { status: 400, text: Text { text: \"invalid UTF-8\" } }] })",
+);
+
+const THREE_JOINED: Row = (
+    404,
+    "not found\nx\ninvalid UTF-8",
+    "Several(Causes { members: [Member { status: 404, text: Text { text: \"not found\" } }, \
+     Member { status: 409, text: Text { text: \"x\" } }, \
+     Member { status: 400, text: Text { text: \"invalid UTF-8\" } }] })",
+);
+
+/// Two errors as one.
+fn two_joined(rt: &impl Abort, alloc: Global) -> Error {
+    let conflict = Error::from(conflict(rt, alloc));
+    let errors = vec![in alloc; conflict, Error::from(Cause::Utf8)].expect(rt, "memory");
+    Error::join(alloc, errors).expect(rt, "memory")
+}
+
+#[test]
+fn errors_are_joined(rt: HostRuntime) {
+    let alloc = rt.alloc();
+    let alone = vec![in alloc; Error::from(Cause::Utf8)].expect(&rt, "memory");
+    let alone = Error::join(alloc, alone).expect(&rt, "memory");
+    assert_error(&rt, alloc, alone, &(400, "invalid UTF-8", "Utf8"));
+    assert_error(&rt, alloc, two_joined(&rt, alloc), &TWO_JOINED);
+    let missing = Error::from(Cause::Io(IoKind::NotFound));
+    let nested = vec![in alloc; missing, two_joined(&rt, alloc)].expect(&rt, "memory");
+    let all = Error::join(alloc, nested).expect(&rt, "memory");
+    assert_error(&rt, alloc, all, &THREE_JOINED);
+}
+
+#[test]
+fn members_of_joined_errors_are_read(rt: HostRuntime) {
+    let alloc = rt.alloc();
+    let error = two_joined(&rt, alloc);
+    let mut statuses = [0; 2];
+    if let Cause::Several(causes) = error.cause() {
+        for (status, member) in statuses.iter_mut().zip(causes.iter()) {
+            *status = member.status.as_u16();
+        }
+    }
+    assert_same(&rt, statuses, [409, 400]);
+}

@@ -8,7 +8,7 @@ use Rattle.web_body.specs.declared.query_error.QueryPayloadError.TheVariants as 
 use Rattle.web_values.specs.Answers.{OrAll}
 use Rattle.web_values.specs.FormPairs.{form_pairs}
 use Rattle.web_reply.specs.Replies.{Fault}
-use Rattle.web_extract.specs.ArgumentLists.{map_value}
+use Rattle.web_extract.specs.CollectedResults.{map_value}
 use Rattle.web_extract.specs.Refusals.{RefusedBy, path_fault, query_fault, refused_by}
 use Rattle.web_extract.specs.SomeAnswer.{itself}
 use Rattle.web_types.specs.EitherLaw.{Only, OnlyOf}

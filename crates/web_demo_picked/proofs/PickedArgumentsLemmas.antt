@@ -16,7 +16,7 @@ use Rattle.web_body.specs.MemoryBodies.{marks_feed}
 use Rattle.web_body.specs.declared.payload.Payload.{Payload}
 use Rattle.web_body.specs.declared.payload.Payload.TheVariants as payload
 use Rattle.web_reply.specs.Replies.{Fault}
-use Rattle.web_extract.specs.ArgumentLists.{map_value}
+use Rattle.web_extract.specs.CollectedResults.{map_value}
 use Rattle.web_extract.specs.ConvertedFutures.{GivesConvertedBy, converted_result}
 use Rattle.web_extract.specs.Extracts.{Extracts}
 use Rattle.web_extract.specs.HeadArguments.{IsRequest, immediate as at_once, seen_request}

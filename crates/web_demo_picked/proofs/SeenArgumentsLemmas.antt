@@ -1,9 +1,10 @@
 -- Arguments that allow one rest, one delay and one result, where the value is seen by a function.
-use Rattle.std.proofs.Common.{◌≡◌, ℕ, suc, List, refl, subst, ap, ◌∙◌, inl, inr}
+use Rattle.std.proofs.Common.{◌≡◌, ℕ, List, refl, subst, ap, ◌∙◌}
 use Rattle.std.specs.Prelude.{Result, Ok, Err}
 use Rattle.web_request.specs.declared.source.Mark.{Mark}
 use Rattle.web_reply.specs.Replies.{Fault}
-use Rattle.web_extract.specs.ArgumentLists.{Gives, Joins2, One, RefusedBefore, map_value, nested3}
+use Rattle.web_extract.specs.ArgumentLists.{Gives, Joins2, nested3}
+use Rattle.web_extract.specs.CollectedResults.{One, collected2, map_value}
 use Rattle.web_extract.specs.ConvertedFutures.{ConvertsResult, GivesConvertedBy, converted_result}
 use Rattle.web_extract.specs.ListResults.{DelayedResult, Exactly, list1, list2, list3}
 use Rattle.web_extract.specs.ListMeanings.{Meaning, Means1, Means2, Means3}
@@ -47,10 +48,12 @@ listed_seen f converts error only means rest a seen m left n (Ok v) h = seen m l
 listed_seen f converts error only means rest a seen m left n (Err e) h =
     rw (only h.0 e h.2) (seen m left n (Err h.0) h.1)
 
-refused_seen : {T V : Type 0} (f : T → V) (n k : ℕ) (x : Result T Fault)
-    → RefusedBefore n k (map_value f x) → RefusedBefore n k x
-refused_seen f n k (Ok v) h = h
-refused_seen f n k (Err e) h = h
+collected_seen : {T U V W : Type 0} (f : T → V) (g : U → W) (x : Result T Fault) (y : Result U Fault)
+    → map_value (λ v. (f v.0, g v.1)) (collected2 x y) ≡ collected2 (map_value f x) (map_value g y)
+collected_seen f g (Ok a) (Ok b) = refl
+collected_seen f g (Ok a) (Err e) = refl
+collected_seen f g (Err e) (Ok b) = refl
+collected_seen f g (Err e) (Err d) = refl
 
 -- two places, each seen by a function
 module _ {T U V W : Type 0} (f : T → V) (g : U → W)
@@ -59,11 +62,16 @@ module _ {T U V W : Type 0} (f : T → V) (g : U → W)
     (to_second : (n : ℕ) (x : Result U Fault) → second n x → second_as n (map_value g x)) where
   joins_seen : (n : ℕ) (x : Result (T × U) Fault) → Joins2 first second n x
       → Joins2 first_as second_as n (map_value (λ v. (f v.0, g v.1)) x)
-  joins_seen n (Ok v) j = (j.0, j.1, to_first j.0 (Ok v.0) j.2, to_second j.1 (Ok v.1) j.3, j.4)
-  joins_seen n (Err e) (inl j) =
-      inl (to_first n (Err e) j.0, λ p. j.1 (λ k y h. refused_seen g n k y (p k (map_value g y) (to_second k y h))))
-  joins_seen n (Err e) (inr j) =
-      inr (to_second n (Err e) j.0, λ p. j.1 (λ k y h. refused_seen f (suc n) k y (p k (map_value f y) (to_first k y h))))
+  joins_seen n x j = record {
+    n1 = j.n1;
+    x1 = map_value f j.x1;
+    first_gives = to_first j.n1 j.x1 j.first_gives;
+    n2 = j.n2;
+    x2 = map_value g j.x2;
+    second_gives = to_second j.n2 j.x2 j.second_gives;
+    delay = j.delay;
+    result = ap (map_value (λ v. (f v.0, g v.1))) j.result ∙ collected_seen f g j.x1 j.x2;
+  }
 
 module _ {T V : Type 0} (f : T → V) (first : Meaning T)
     (rest : List Mark → List Mark) (a : List Mark → DelayedResult V) (seen : Seen f first rest a) where

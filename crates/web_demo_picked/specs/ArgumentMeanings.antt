@@ -15,7 +15,7 @@ use Rattle.web_request.specs.Request.{Record}
 use Rattle.web_reply.specs.declared.cause.Cause.TheVariants.{Io, Parse}
 use Rattle.web_reply.specs.declared.cause.IoKind.TheVariants.{Other}
 use Rattle.web_reply.specs.Replies.{Fault, fault_of}
-use Rattle.web_extract.specs.ArgumentLists.{One}
+use Rattle.web_extract.specs.CollectedResults.{One}
 use Rattle.web_extract.specs.DataArguments.{data_result, request_data_result}
 use Rattle.web_extract.specs.Extracts.{AllowsSome}
 use Rattle.web_extract.specs.HeadArguments.{AllowsNow, IsRequest, MeansNow, immediate, now_some}

@@ -1,77 +1,15 @@
--- One poll of the places of an argument list.
-use Rattle.std.proofs.Common.{◌≡◌, ℕ, suc, max, Bool, true, false, refl, arith, inl, inr, subst, ◌&&◌}
-use Rattle.std.specs.Prelude.{Result, Ok, Err}
-use Rattle.web_body.specs.PollSteps.{GivesSome, IfReady}
+-- One poll of two places of an argument list.
+use Rattle.std.proofs.Common.{◌≡◌, ℕ, suc, max, Bool, true, false, ◌&&◌, refl, arith, subst, sym}
+use Rattle.std.specs.Prelude.{Result}
 use Rattle.web_reply.specs.Replies.{Fault}
+use Rattle.web_extract.specs.CollectedResults.{collected2}
 use Rattle.web_extract.specs.declared.place.Place.{Place}
-use Rattle.web_extract.specs.declared.place.Place.TheVariants.{Done}
-use Rattle.web_extract.specs.declared.place.Stop.{Stop}
-use Rattle.web_extract.specs.declared.place.Stop.TheVariants.{Refused, NoMemory}
-use Rattle.web_extract.specs.Place.{place_finished, place_gives, place_comes, stop_step, HoldsOrWaits, MayStop}
-use Rattle.web_extract.specs.ArgumentLists.{Gives, RefusedBefore, Precedes, NeedNot, Joins2}
-use Rattle.web_extract.specs.SomeAnswer.{Converted, place_some}
-
--- where the value is there, it came at this poll or before and comes at the next; else all comes one poll later
-abbrev pub Moved : {T : Type 0} → Bool → Gives T → Gives T → Type 0
-Moved {T} true old new = (v : T) × old 0 (Ok v) × ((n : ℕ) (x : Result T Fault) → new n x → (n ≡ 0) × (x ≡ Ok v))
-Moved {T} false old new = (n : ℕ) (x : Result T Fault) → new n x → old (suc n) x
-
-module _ {T E U : Type 0} (gives : U → ℕ → Result T E → Type 0) (c : E → Fault → Type 0) where
-  only_value : (p : Place U T) (v : T) → p ≡ Done v → (n : ℕ) (x : Result T Fault) → place_comes c gives p n x → (n ≡ 0) × (x ≡ Ok v)
-  only_value p v e n (Ok u) h = let d = subst (λ (q : Place U T). place_gives gives q n (Ok u)) e h in let same : u ≡ v = cc (d.1) in (d.0, rw same refl)
-  only_value p v e n (Err x) h = let d = subst (λ (q : Place U T). place_gives gives q n (Err h.0)) e h.1 in absurd (cc d.1)
-
-  later : (old new : Place U T) → HoldsOrWaits gives old false new → (n : ℕ) (x : Result T Fault) → place_comes c gives new n x → place_comes c gives old (suc n) x
-  later old new w n (Ok v) h = w n (Ok v) h
-  later old new w n (Err e) h = (h.0, w n (Err h.0) h.1, h.2)
-
-  pub moved : (has : Bool) (old new : Place U T) → HoldsOrWaits gives old has new → Moved has (place_comes c gives old) (place_comes c gives new)
-  moved true old new w = (w.0, w.2, only_value new w.0 w.1)
-  moved false old new w = later old new w
-
-never_before_zero : {T : Type 0} (k : ℕ) (x : Result T Fault) → RefusedBefore 0 k x → ⊥
-never_before_zero k (Ok v) h = h
-never_before_zero k (Err e) h = absurd (omega arith)
-
-before_less : {T : Type 0} (n k : ℕ) (x : Result T Fault) → RefusedBefore (suc n) (suc k) x → RefusedBefore n k x
-before_less n k (Ok v) h = h
-before_less n k (Err e) h = omega arith
-
--- what can come does not precede a refusal at zero
-pub not_first : {T : Type 0} (g : Gives T) → GivesSome g → Precedes g 0 → ⊥
-not_first g some p = some (λ k x h. never_before_zero k x (p k x h))
-
-module _ {T : Type 0} (old new : Gives T) where
-  moved_not_first : (has : Bool) → Moved has old new → GivesSome new → Precedes old 1 → ⊥
-  moved_not_first true w some p = p 0 (Ok w.0) w.1
-  moved_not_first false w some p = some (λ k x h. never_before_zero k x (before_less 0 k x (p (suc k) x (w k x h))))
-
-  refuses_later : (has : Bool) → Moved has old new → (n : ℕ) (e : Fault) → new n (Err e) → old (suc n) (Err e)
-  refuses_later true w n e h = let d = w.2 n (Err e) h in absurd (cc d.1)
-  refuses_later false w n e h = w n (Err e) h
-
-  precedes_later : (has : Bool) → Moved has old new → (n : ℕ) → Precedes old (suc n) → Precedes new n
-  precedes_later true w n p k x h = absurd (p 0 (Ok w.0) w.1)
-  precedes_later false w n p k x h = before_less n k x (p (suc k) x (w k x h))
-
--- a place that was polled without a refusal does not precede one at the next poll
-pub not_refused : {T E U : Type 0} (finished : U → Bool) (gives : U → ℕ → Result T E → Type 0) → ((f : U) → finished f ≡ false → GivesSome (gives f))
-    → (c : E → Fault → Type 0) → Converted c
-    → (has : Bool) (old new : Place U T) → place_finished finished new ≡ false → HoldsOrWaits gives old has new → Precedes (place_comes c gives old) 1 → ⊥
-not_refused finished gives some c t has old new h w =
-    moved_not_first (place_comes c gives old) (place_comes c gives new) has (moved gives c has old new w)
-    (place_some c t finished gives some new h)
+use Rattle.web_extract.specs.Place.{HoldsOrWaits, place_comes}
+use Rattle.web_extract.specs.ArgumentLists.{Gives, Joins2}
 
 abbrev WhenLater : Bool → ℕ → ℕ → Type 0
 WhenLater true n k = (n ≡ 0) × (k ≡ 0)
 WhenLater false n k = k ≡ suc n
-
-value_later : {T : Type 0} (old new : Gives T) (has : Bool) → Moved has old new → (n : ℕ) (v : T) → new n (Ok v) → (k : ℕ) × old k (Ok v) × WhenLater has n k
-value_later {T} old new true w n v h =
-    let d = w.2 n (Ok v) h in
-    let same : w.0 ≡ v = cc (d.1) in
-    (0, subst (λ (u : T). old 0 (Ok u)) same w.1, (d.0, refl))
-value_later old new false w n v h = (suc n, w n (Ok v) h, refl)
 
 max_later : (b1 b2 : Bool) → (b1 && b2) ≡ false → (n1 n2 k1 k2 n : ℕ) → WhenLater b1 n1 k1 → WhenLater b2 n2 k2 → n ≡ max n1 n2 → suc n ≡ max k1 k2
 max_later true true e n1 n2 k1 k2 n h1 h2 h = absurd cc
@@ -79,24 +17,44 @@ max_later true false e n1 n2 k1 k2 n h1 h2 h = omega arith
 max_later false true e n1 n2 k1 k2 n h1 h2 h = omega arith
 max_later false false e n1 n2 k1 k2 n h1 h2 h = omega arith
 
-module _ {A B : Type 0} (old1 new1 : Gives A) (old2 new2 : Gives B) where
-  pub shifts2 : (b1 b2 : Bool) → Moved b1 old1 new1 → Moved b2 old2 new2 → (b1 && b2) ≡ false
-      → (n : ℕ) (x : Result (A × B) Fault) → Joins2 new1 new2 n x → Joins2 old1 old2 (suc n) x
-  shifts2 b1 b2 w1 w2 e n (Ok v) h =
-      let k1 = value_later old1 new1 b1 w1 h.0 v.0 h.2 in
-      let k2 = value_later old2 new2 b2 w2 h.1 v.1 h.3 in
-      (k1.0, k2.0, k1.1, k2.1, max_later b1 b2 e h.0 h.1 k1.0 k2.0 n k1.2 k2.2 h.4)
-  shifts2 b1 b2 w1 w2 e n (Err x) (inl h) = inl (refuses_later old1 new1 b1 w1 n x h.0, λ p. h.1 (precedes_later old2 new2 b2 w2 n p))
-  shifts2 b1 b2 w1 w2 e n (Err x) (inr h) = inr (refuses_later old2 new2 b2 w2 n x h.0, λ p. h.1 (precedes_later old1 new1 b1 w1 (suc n) p))
+-- what may come of a place after a poll might have come before it, at the same poll or one later
+module _ {F T E : Type 0} (c : E → Fault → Type 0) (gives : F → ℕ → Result T E → Type 0) where
+  later : (old new : Place F T) (has : Bool) → HoldsOrWaits (place_comes c gives) old has new
+      → (n : ℕ) (x : Result T Fault) → place_comes c gives new n x → (k : ℕ) × place_comes c gives old k x × WhenLater has n k
+  later old new true w n x h =
+      let there = subst (λ (p : Place F T). place_comes c gives p n x) w.1 h in
+      (0, subst (λ (y : Result T Fault). place_comes c gives old 0 y) (sym there.1) w.2, (there.0, refl))
+  later old new false w n x h = (suc n, w n x h, refl)
 
--- what the poll of a list returns where a place ends it
-module _ {T E U : Type 0} (c : E → Fault → Type 0) (gives : U → ℕ → Result T E → Type 0) (old : Place U T) where
-  pub first_stops : {B : Type 0} (second : Gives B) → GivesSome second
-      → (stop : Stop) → MayStop c gives old stop → IfReady (stop_step stop) (λ x. Joins2 (place_comes c gives old) second 0 x)
-  first_stops second some (Refused x) h = inl (h, not_first second some)
-  first_stops second some NoMemory h = tt
+module _ {F T D G U E : Type 0} (c1 : D → Fault → Type 0) (gives1 : F → ℕ → Result T D → Type 0) (c2 : E → Fault → Type 0) (gives2 : G → ℕ → Result U E → Type 0) where
+  pub shifts2 : (old1 new1 : Place F T) (old2 new2 : Place G U) (b1 b2 : Bool)
+      → HoldsOrWaits (place_comes c1 gives1) old1 b1 new1 → HoldsOrWaits (place_comes c2 gives2) old2 b2 new2 → (b1 && b2) ≡ false
+      → (n : ℕ) (x : Result (T × U) Fault) → Joins2 (place_comes c1 gives1 new1) (place_comes c2 gives2 new2) n x
+      → Joins2 (place_comes c1 gives1 old1) (place_comes c2 gives2 old2) (suc n) x
+  shifts2 old1 new1 old2 new2 b1 b2 w1 w2 e n x h =
+      let k1 = later c1 gives1 old1 new1 b1 w1 h.n1 h.x1 h.first_gives in
+      let k2 = later c2 gives2 old2 new2 b2 w2 h.n2 h.x2 h.second_gives in
+      record {
+        n1 = k1.0;
+        x1 = h.x1;
+        first_gives = k1.1;
+        n2 = k2.0;
+        x2 = h.x2;
+        second_gives = k2.1;
+        delay = max_later b1 b2 e h.n1 h.n2 k1.0 k2.0 n k1.2 k2.2 h.delay;
+        result = h.result;
+      }
 
-  pub second_stops : {A : Type 0} (first : Gives A) → NeedNot first 1
-      → (stop : Stop) → MayStop c gives old stop → IfReady (stop_step stop) (λ x. Joins2 first (place_comes c gives old) 0 x)
-  second_stops first need (Refused x) h = inr (h, need)
-  second_stops first need NoMemory h = tt
+-- both results are there
+pub comes2 : {A B : Type 0} (first : Gives A) (second : Gives B) (x1 : Result A Fault) (x2 : Result B Fault) → first 0 x1 → second 0 x2
+    → (x : Result (A × B) Fault) → x ≡ collected2 x1 x2 → Joins2 first second 0 x
+comes2 first second x1 x2 h1 h2 x is = record {
+  n1 = 0;
+  x1 = x1;
+  first_gives = h1;
+  n2 = 0;
+  x2 = x2;
+  second_gives = h2;
+  delay = refl;
+  result = is;
+}

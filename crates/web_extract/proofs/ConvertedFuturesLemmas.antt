@@ -6,7 +6,8 @@ use Rattle.web_body.specs.PollSteps.{IfReady, Shifts}
 use Rattle.web_body.specs.declared.poll.Step.{Step}
 use Rattle.web_body.specs.declared.poll.Step.TheVariants.{Pending, Ready, NoMemory}
 use Rattle.web_reply.specs.Replies.{Fault}
-use Rattle.web_extract.specs.ArgumentLists.{ConvertsRefusal, Joins1, One}
+use Rattle.web_extract.specs.ArgumentLists.{ConvertsRefusal, Joins1}
+use Rattle.web_extract.specs.CollectedResults.{One}
 use Rattle.web_extract.specs.Extracts.{Extracts}
 use Rattle.web_extract.specs.ConvertedFutures.{ConvertsResult, ConvertsStep, GivesConverted}
 use Rattle.web_extract.specs.ConvertedFutures.{GivesConvertedBy, converted_result}

@@ -1,10 +1,10 @@
 -- What the members' futures give carries over to the whole.
-use Rattle.std.proofs.Common.{◌≡◌, ℕ, List, suc, subst, sym, inl, inr}
+use Rattle.std.proofs.Common.{◌≡◌, ℕ, List, subst, sym}
 use Rattle.std.specs.Prelude.{Option, None, Some, Result, Ok, Err}
 use Rattle.web_request.specs.declared.source.Mark.{Mark}
 use Rattle.web_reply.specs.Replies.{Fault}
 use Rattle.web_extract.specs.Extracts.{Extracts, ExtractsBoth}
-use Rattle.web_extract.specs.ArgumentLists.{Gives, ConvertsRefusal, Precedes, Joins1, Joins2, nested3, nested4}
+use Rattle.web_extract.specs.ArgumentLists.{Gives, ConvertsRefusal, Joins1, Joins2, nested3, nested4}
 use Rattle.web_extract.specs.ListMeanings.{Member, Means1, Means2, Means3, Means4}
 use Rattle.web_extract.specs.OptionArgument.{GivesOption}
 use Rattle.web_extract.specs.ResultArgument.{GivesResult}
@@ -35,13 +35,17 @@ joins1_within : {A : Type 0} (g k : Gives A) → Within g k → Within (Joins1 g
 joins1_within g k f n (Ok v) h = f n (Ok v.0) h
 joins1_within g k f n (Err x) h = f n (Err x) h
 
-precedes_within : {T : Type 0} (g k : Gives T) → Within g k → (n : ℕ) → Precedes k n → Precedes g n
-precedes_within g k f n p m x h = p m x (f m x h)
-
 pub joins2_within : {A B : Type 0} (g1 k1 : Gives A) (g2 k2 : Gives B) → Within g1 k1 → Within g2 k2 → Within (Joins2 g1 g2) (Joins2 k1 k2)
-joins2_within g1 k1 g2 k2 f1 f2 n (Ok v) h = (h.0, h.1, f1 h.0 (Ok v.0) h.2, f2 h.1 (Ok v.1) h.3, h.4)
-joins2_within g1 k1 g2 k2 f1 f2 n (Err x) (inl h) = inl (f1 n (Err x) h.0, λ p. h.1 (precedes_within g2 k2 f2 n p))
-joins2_within g1 k1 g2 k2 f1 f2 n (Err x) (inr h) = inr (f2 n (Err x) h.0, λ p. h.1 (precedes_within g1 k1 f1 (suc n) p))
+joins2_within g1 k1 g2 k2 f1 f2 n x h = record {
+  n1 = h.n1;
+  x1 = h.x1;
+  first_gives = f1 h.n1 h.x1 h.first_gives;
+  n2 = h.n2;
+  x2 = h.x2;
+  second_gives = f2 h.n2 h.x2 h.second_gives;
+  delay = h.delay;
+  result = h.result;
+}
 
 -- a refusal that is converted into itself
 abbrev pub itself : Fault → Fault → Type 0

@@ -1,20 +1,16 @@
 -- Marks that are handed on from place to place.
-use Rattle.std.proofs.Common.{◌≡◌, ℕ, max, List, refl, sym, ap, ◌∙◌, inl, inr, subst, arith}
+use Rattle.std.proofs.Common.{◌≡◌, ℕ, max, List, refl, sym, ap, subst, arith}
 use Rattle.std.specs.Prelude.{Result, Ok, Err}
 use Rattle.web_request.specs.declared.source.Mark.{Mark}
 use Rattle.web_reply.specs.Replies.{Fault}
-use Rattle.web_extract.specs.ArgumentLists.{Gives, One, Joins1, Joins2, map_value, nested3, nested4}
+use Rattle.web_extract.specs.ArgumentLists.{Gives, Joins1, Joins2, nested3, nested4}
+use Rattle.web_extract.specs.CollectedResults.{One, map_value}
 use Rattle.web_extract.specs.ListMeanings.{Meaning, Means1, Means2, Means3, Means4}
 use Rattle.web_extract.specs.ListResults.{DelayedResult, Exactly, list1, list2, list3, list4, with_value, Decides1, Decides2, Decides3, Decides4}
 use Rattle.web_extract.proofs.ListResultsLemmas.{Only, comes, joins_only}
 use Rattle.web_extract.proofs.ExtractsLemmas.{joins2_within}
 use Rattle.web_extract.proofs.GroupedListsLemmas.{three, right}
-use Rattle.web_extract.proofs.MarksEqualityLemmas.{same_marks}
-
--- where something may come, the rest is the one that is left
-rest_is : {T : Type 0} (means : Meaning T) (m rest : List Mark) (v : DelayedResult T) → Exactly means m rest v
-    → (left : List Mark) → (((n : ℕ) (x : Result T Fault) → means m left n x → ⊥) → ⊥) → left ≡ rest
-rest_is means m rest v h left some = same_marks left rest (λ not. some (λ n x a. not ((h left n x).0 a).0))
+use Rattle.web_extract.proofs.PerPlaceLemmas.{ungroup}
 
 only_at : {T : Type 0} (means : Meaning T) (m rest : List Mark) (v : DelayedResult T) → Exactly means m rest v → Only (means m rest) v
 only_at means m rest v h n x = (λ a. let q = (h rest n x).0 a in (q.1, q.2), λ e. (h rest n x).1 (refl, e.0, e.1))
@@ -22,17 +18,13 @@ only_at means m rest v h n x = (λ a. let q = (h rest n x).0 a in (q.1, q.2), λ
 module _ {A B : Type 0} (first : Meaning A) (second : Meaning B) (m m1 m2 : List Mark) (a : DelayedResult A) (b : DelayedResult B)
     (h1 : Exactly first m m1 a) (h2 : Exactly second m1 m2 b) where
   first_left : (left1 left : List Mark) (n : ℕ) (x : Result (A × B) Fault) → Joins2 (first m left1) (second left1 left) n x → left1 ≡ m1
-  first_left left1 left n (Ok v) j = ((h1 left1 j.0 (Ok v.0)).0 j.2).0
-  first_left left1 left n (Err x) (inl j) = ((h1 left1 n (Err x)).0 j.0).0
-  first_left left1 left n (Err x) (inr j) = rest_is first m m1 a h1 left1 (λ none. j.1 (λ k y g. absurd (none k y g)))
+  first_left left1 left n x j = ((h1 left1 j.n1 j.x1).0 j.first_gives).0
 
   second_left : (left : List Mark) (n : ℕ) (x : Result (A × B) Fault) → Joins2 (first m m1) (second m1 left) n x → left ≡ m2
-  second_left left n (Ok v) j = ((h2 left j.1 (Ok v.1)).0 j.3).0
-  second_left left n (Err x) (inl j) = rest_is second m1 m2 b h2 left (λ none. j.1 (λ k y g. absurd (none k y g)))
-  second_left left n (Err x) (inr j) = ((h2 left n (Err x)).0 j.0).0
+  second_left left n x j = ((h2 left j.n2 j.x2).0 j.second_gives).0
 
-  piece_bytes : Only (Joins2 (first m m1) (second m1 m2)) (list2 a b)
-  piece_bytes = joins_only (first m m1) (second m1 m2) a b (only_at first m m1 a h1) (only_at second m1 m2 b h2)
+  both_only : Only (Joins2 (first m m1) (second m1 m2)) (list2 a b)
+  both_only = joins_only (first m m1) (second m1 m2) a b (only_at first m m1 a h1) (only_at second m1 m2 b h2)
 
   means2_to : (left : List Mark) (n : ℕ) (x : Result (A × B) Fault) → Means2 first second m left n x → (left ≡ m2) × (n ≡ (list2 a b).delay) × (x ≡ (list2 a b).result)
   means2_to left n x d =
@@ -40,22 +32,16 @@ module _ {A B : Type 0} (first : Meaning A) (second : Meaning B) (m m1 m2 : List
       let j1 = subst (λ (l : List Mark). Joins2 (first m l) (second l left) n x) e1 d.1 in
       let e2 = second_left left n x j1 in
       let j2 = subst (λ (l : List Mark). Joins2 (first m m1) (second m1 l) n x) e2 j1 in
-      let q = (piece_bytes n x).0 j2 in
+      let q = (both_only n x).0 j2 in
       (e2, q.0, q.1)
 
   means2_from : (left : List Mark) (n : ℕ) (x : Result (A × B) Fault) → (left ≡ m2) × (n ≡ (list2 a b).delay) × (x ≡ (list2 a b).result) → Means2 first second m left n x
   means2_from left n x e =
-      (m1, subst (λ (l : List Mark). Joins2 (first m m1) (second m1 l) n x) (sym e.0) ((piece_bytes n x).1 (e.1, e.2)))
+      (m1, subst (λ (l : List Mark). Joins2 (first m m1) (second m1 l) n x) (sym e.0) ((both_only n x).1 (e.1, e.2)))
 
 pub decides2 : {A B : Type 0} (first : Meaning A) (second : Meaning B) → Decides2 first second
 decides2 first second m m1 m2 a b h1 h2 left n x =
     (means2_to first second m m1 m2 a b h1 h2 left n x, means2_from first second m m1 m2 a b h1 h2 left n x)
-
-ungroup : {T U : Type 0} (f : T → U) (back : U → T) → ((t : T) → back (f t) ≡ t) → (x y : Result T Fault) → map_value f x ≡ map_value f y → x ≡ y
-ungroup {T} {U} f back inv (Ok v) (Ok w) e = let d : f v ≡ f w = cc e in ap (λ (t : T). Ok t) (sym (inv v) ∙ ap back d ∙ inv w)
-ungroup f back inv (Ok v) (Err y) e = absurd (cc e)
-ungroup f back inv (Err x) (Ok w) e = absurd (cc e)
-ungroup f back inv (Err x) (Err y) e = let d : x ≡ y = cc e in rw d refl
 
 -- a meaning that is another one with its values grouped otherwise
 module _ {T U : Type 0} (flat : Meaning T) (nested : Meaning U) (f : T → U) (back : U → T) (inv : (t : T) → back (f t) ≡ t)
@@ -78,7 +64,7 @@ at n x = record { delay = n; result = x }
 
 one_is : {A : Type 0} (n : ℕ) (x : Result A Fault) → record { delay = n; result = x } ≡ with_value (λ v. v.0) (list1 (record { delay = n; result = x }))
 one_is {A} n (Ok v) = let e : n ≡ max n 0 = omega arith in ap (λ (k : ℕ). at k (Ok v)) e
-one_is n (Err e) = refl
+one_is n (Err e) = let d : n ≡ max n 0 = omega arith in ap (λ (k : ℕ). at k (Err e)) d
 
 joins1_to : {A : Type 0} (g : Gives A) (n : ℕ) (x : Result (One A) Fault) → Joins1 g n x → g n (map_value (λ v. v.0) x)
 joins1_to g n (Ok v) h = h

@@ -1,7 +1,8 @@
 -- Argument lists. Of each place there is a relation: which result may come after which number of
 -- polls that return Pending.
-use Rattle.std.specs.Prelude.{◌≡◌, ℕ, suc, ◌<◌, ◌⊎◌, max, Result, Ok, Err}
+use Rattle.std.specs.Prelude.{◌≡◌, ℕ, max, Result, Ok, Err}
 use Rattle.web_reply.specs.Replies.{Fault}
+use Rattle.web_extract.specs.CollectedResults.{One, collected2, map_value}
 
 abbrev pub Gives : Type 0 → Type 1
 Gives T = ℕ → Result T Fault → Type 0
@@ -12,40 +13,22 @@ abbrev pub ConvertsRefusal :
 ConvertsRefusal converts gives n (Ok v) = gives n (Ok v)
 ConvertsRefusal {T} {E} converts gives n (Err x) = (e : E) × gives n (Err e) × converts e x
 
--- a refusal that comes before n polls
-abbrev pub RefusedBefore : {T : Type 0} → ℕ → ℕ → Result T Fault → Type 0
-RefusedBefore n k (Ok v) = ⊥
-RefusedBefore n k (Err e) = k < n
-
--- whatever comes is a refusal before n polls, so that it decides before a refusal at n
-abbrev pub Precedes : {T : Type 0} → Gives T → ℕ → Type 0
-Precedes {T} place n = (k : ℕ) (x : Result T Fault) → place k x → RefusedBefore n k x
-
--- it need not have refused before n polls
-abbrev pub NeedNot : {T : Type 0} → Gives T → ℕ → Type 0
-NeedNot place n = Precedes place n → ⊥
-
--- a list of one value
-abbrev pub One : Type 0 → Type 0
-One A = record { 0 : A }
-
 -- one place
 abbrev pub Joins1 : {A : Type 0} → Gives A → Gives (One A)
 Joins1 first n (Ok v) = first n (Ok v.0)
 Joins1 first n (Err x) = first n (Err x)
 
--- two places: both values, at the greater number; or the first refuses at n, and the second need
--- not have refused before; or the second refuses at n, and the first need not have refused by then
-abbrev pub Joins2 : {A B : Type 0} → Gives A → Gives B → Gives (A × B)
-Joins2 first second n (Ok v) =
-    (n1 n2 : ℕ) × first n1 (Ok v.0) × second n2 (Ok v.1) × (n ≡ max n1 n2)
-Joins2 first second n (Err x) =
-    (first n (Err x) × NeedNot second n) ⊎ (second n (Err x) × NeedNot first (suc n))
-
--- the result with another form of its value
-abbrev pub map_value : {T U : Type 0} → (T → U) → Result T Fault → Result U Fault
-map_value group (Ok v) = Ok (group v)
-map_value group (Err x) = Err x
+-- two places: what their results come to, at the greater number
+pub record Joins2 {A B : Type 0} (first : Gives A) (second : Gives B) (n : ℕ)
+    (x : Result (A × B) Fault) : Type 0 where
+  pub n1 : ℕ
+  pub x1 : Result A Fault
+  pub first_gives : first n1 x1
+  pub n2 : ℕ
+  pub x2 : Result B Fault
+  pub second_gives : second n2 x2
+  pub delay : n ≡ max n1 n2
+  pub result : x ≡ collected2 x1 x2
 
 -- a list of three or four values as nested pairs
 abbrev pub nested3 : {A B C : Type 0} → Result (A × B × C) Fault → Result (A × (B × C)) Fault
@@ -63,3 +46,7 @@ abbrev pub Joins4 :
     {A B C D : Type 0} → Gives A → Gives B → Gives C → Gives D → Gives (A × B × C × D)
 Joins4 first second third fourth n x =
     Joins2 first (Joins2 second (Joins2 third fourth)) n (nested4 x)
+
+-- it cannot be that both refuse at the next poll
+abbrev pub NotBothRefuse : {A B : Type 0} → Gives A → Gives B → Type 0
+NotBothRefuse first second = (e f : Fault) → first 0 (Err e) → second 0 (Err f) → ⊥

@@ -3,6 +3,7 @@ pub mod BytesArgument
 pub mod ListResults
 pub mod Extracts
 pub mod ResultArgument
+pub mod CollectedResults
 pub mod ArgumentLists
 pub mod ListMeanings
 pub mod Never

@@ -3,8 +3,9 @@
 use Rattle.std.specs.Prelude.{ℕ, List, Result}
 use Rattle.web_request.specs.declared.source.Mark.{Mark}
 use Rattle.web_reply.specs.Replies.{Fault}
-use Rattle.web_extract.specs.ArgumentLists.{Gives, ConvertsRefusal, One}
+use Rattle.web_extract.specs.ArgumentLists.{Gives, ConvertsRefusal}
 use Rattle.web_extract.specs.ArgumentLists.{Joins1, Joins2, Joins3, Joins4}
+use Rattle.web_extract.specs.CollectedResults.{One}
 
 -- what may come of these marks, with these left over
 abbrev pub Meaning : Type 0 → Type 1

@@ -1,17 +1,15 @@
 -- An argument list allows some result where each place does.
-use Rattle.std.specs.Prelude.{◌≡◌, ℕ, ◌<◌, ◌≤◌, ◌⊎◌, ◌||◌, max, Bool, true, false, List, Result, Ok}
-use Rattle.std.specs.Prelude.{Err, refl}
-use Rattle.std.proofs.Common.{inl, inr, arith}
-use Rattle.std.proofs.lemmas.Bool.{cases_lt}
+use Rattle.std.specs.Prelude.{◌≡◌, ℕ, ◌||◌, max, Bool, true, false, List, Result, Ok, Err, refl}
 use Rattle.web_request.specs.declared.source.Mark.{Mark}
 use Rattle.web_reply.specs.Replies.{Fault}
 use Rattle.web_body.specs.PollSteps.{GivesSome}
+use Rattle.web_extract.specs.CollectedResults.{collected2}
 use Rattle.web_extract.specs.Extracts.{AllowsSome}
 use Rattle.web_extract.specs.declared.place.Place.{Place}
-use Rattle.web_extract.specs.Place.{place_finished, place_gives, place_comes, unfinished_some}
+use Rattle.web_extract.specs.declared.place.Place.TheVariants.{Waiting, Done, Taken}
+use Rattle.web_extract.specs.Place.{place_finished, place_comes}
 use Rattle.web_extract.specs.ArgumentLists.{Gives, ConvertsRefusal, Joins1, Joins2, Joins3}
-use Rattle.web_extract.specs.ArgumentLists.{Joins4, nested3}
-use Rattle.web_extract.specs.ArgumentLists.{nested4}
+use Rattle.web_extract.specs.ArgumentLists.{Joins4, nested3, nested4}
 use Rattle.web_extract.specs.ListMeanings.{Meaning, Member, Means1, Means2, Means3, Means4}
 
 -- each error converts into something
@@ -42,29 +40,32 @@ pub place_some :
     → (finished : F → Bool) (gives : F → ℕ → Result T E → Type 0)
     → ((f : F) → finished f ≡ false → GivesSome (gives f))
     → (p : Place F T) → place_finished finished p ≡ false → GivesSome (place_comes c gives p)
-place_some c t finished gives some p h =
-    turned_some c t (place_gives gives p) (unfinished_some finished gives some p h)
+place_some c t finished gives some (Waiting f) h = turned_some c t (gives f) (some f h)
+place_some c t finished gives some (Done x) h = λ none. none 0 x (refl, refl)
+place_some c t finished gives some Taken h = absurd cc
 
 join1 : {A : Type 0} (g : Gives A) (n : ℕ) (x : Result A Fault) → g n x → Answer (Joins1 g)
 join1 g n (Ok a) h = (n, Ok record { 0 = a }, h)
 join1 g n (Err e) h = (n, Err e, h)
 
 module _ {A B : Type 0} (g1 : Gives A) (g2 : Gives B) where
-  both_refuse :
-      (n1 n2 : ℕ) (e f : Fault) → g1 n1 (Err e) → g2 n2 (Err f) → (n2 < n1) ⊎ (n1 ≤ n2)
-      → Answer (Joins2 g1 g2)
-  both_refuse n1 n2 e f h1 h2 (inr le) =
-      (n1, Err e, inl (h1, λ p. let q = p n2 (Err f) h2 in omega arith))
-  both_refuse n1 n2 e f h1 h2 (inl lt) =
-      (n2, Err f, inr (h2, λ p. let q = p n1 (Err e) h1 in omega arith))
-
   join2 :
       (n1 : ℕ) (x1 : Result A Fault) (n2 : ℕ) (x2 : Result B Fault) → g1 n1 x1 → g2 n2 x2
       → Answer (Joins2 g1 g2)
-  join2 n1 (Ok a) n2 (Ok b) h1 h2 = (max n1 n2, Ok (a, b), (n1, n2, h1, h2, refl))
-  join2 n1 (Err e) n2 (Ok b) h1 h2 = (n1, Err e, inl (h1, λ p. p n2 (Ok b) h2))
-  join2 n1 (Ok a) n2 (Err f) h1 h2 = (n2, Err f, inr (h2, λ p. p n1 (Ok a) h1))
-  join2 n1 (Err e) n2 (Err f) h1 h2 = both_refuse n1 n2 e f h1 h2 (cases_lt n2 n1)
+  join2 n1 x1 n2 x2 h1 h2 = (
+    max n1 n2,
+    collected2 x1 x2,
+    record {
+      n1 = n1;
+      x1 = x1;
+      first_gives = h1;
+      n2 = n2;
+      x2 = x2;
+      second_gives = h2;
+      delay = refl;
+      result = refl;
+    },
+  )
 
   pub joins2_some : GivesSome g1 → GivesSome g2 → GivesSome (Joins2 g1 g2)
   joins2_some some1 some2 none =
@@ -77,7 +78,7 @@ or_first : (a b : Bool) → (a || b) ≡ false → a ≡ false
 or_first true b h = h
 or_first false b h = refl
 
-pub or_second : (a b : Bool) → (a || b) ≡ false → b ≡ false
+or_second : (a b : Bool) → (a || b) ≡ false → b ≡ false
 or_second true b h = absurd cc
 or_second false b h = h
 

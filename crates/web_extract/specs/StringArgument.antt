@@ -14,7 +14,7 @@ use Rattle.web_body.specs.PayloadSettings.{PayloadSettings}
 use Rattle.web_body.specs.PollSteps.{GivesSome}
 use Rattle.web_body.specs.declared.message_body.PayloadError.TheVariants.{Overflow}
 use Rattle.web_reply.specs.Replies.{Fault}
-use Rattle.web_extract.specs.ArgumentLists.{map_value}
+use Rattle.web_extract.specs.CollectedResults.{map_value}
 use Rattle.web_extract.specs.BodyArguments.{MeansBodyAfter, bad_request, body_after_some}
 use Rattle.web_extract.specs.BodyArguments.{body_result, charset_refusal}
 use Rattle.web_extract.specs.BodyArguments.{payload_fault, rest_after, type_refusal}

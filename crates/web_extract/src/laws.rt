@@ -32,10 +32,11 @@ where
         (Member ⟦<Never as Into<Error>>⟧.converts (⟦<Result<T, E> as FromRequest<P>>⟧.means q)) }
 {}
 
-/// What a list of one to four arguments means where each of them allows exactly one result. If some
-/// of them refuse, the refusal of least delay decides, of equal ones the first, with that delay;
-/// otherwise all values come, at the greatest delay. Each argument gets the marks that the one
-/// before leaves, and the list leaves what the last one leaves.
+/// What a list of one to four arguments means where each of them allows exactly one result. It
+/// comes at the greatest delay. If none of them refuses, it is all values; if one does, that
+/// refusal; if several do, their errors in the order of places, joined as by `Error::join`. Each
+/// argument gets the marks that the one before leaves, and the list leaves what the last one
+/// leaves.
 pub fn list_law<
     P: App,
     A: FromRequest<P>,
@@ -59,9 +60,9 @@ pub fn list_law<
         (Member D.Error.converts (D.means q)) }
 {}
 
-/// A list of three or four arguments place by place, whatever they allow. Either all values come,
-/// at the greatest delay; or a place refuses, and no earlier place need have refused by then, and
-/// no later one before. `m` to `m4` are the marks before and after each place.
+/// A list of three or four arguments place by place, whatever they allow: what a result of each
+/// place comes to, all values or the errors of those that refuse, joined, at the greatest of their
+/// delays. `m` to `m4` are the marks before and after each place.
 pub fn place_law<
     P: App,
     A: FromRequest<P>,

@@ -9,7 +9,8 @@ use web_body::{Payload, Poll, Step};
 use web_reply::Error;
 use web_request::{App, HttpRequest, NoMemory};
 
-/// The future of four arguments. Each poll polls those that are still to come, in their order.
+/// The future of four arguments. Each poll polls those that are still to come, in their order. The
+/// list is ready when all four are, also where some of them are refused.
 #[derive(Drop)]
 pub struct TupleFromRequest4<
     P: App,

@@ -9,7 +9,8 @@ use web_body::{Payload, Poll, Step};
 use web_reply::Error;
 use web_request::{App, HttpRequest, NoMemory};
 
-/// The future of three arguments. Each poll polls those that are still to come, in their order.
+/// The future of three arguments. Each poll polls those that are still to come, in their order. The
+/// list is ready when all three are, also where some of them are refused.
 #[derive(Drop)]
 pub struct TupleFromRequest3<P: App, A: FromRequest<P>, B: FromRequest<P>, C: FromRequest<P>> {
     nested: TupleFromRequest2<P, A, (B, C)>,

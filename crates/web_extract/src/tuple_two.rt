@@ -1,6 +1,9 @@
 //! Lists of two arguments.
-ghost use Rattle.std.specs.Prelude.{◌≡◌, ◌⊎◌, ◌||◌, IsOk, IfOk, false};
+ghost use Rattle.std.specs.Prelude.{◌≡◌, ◌⊎◌, ◌||◌, ◌∷◌, [], IsOk, IfOk, Some, false};
 ghost use Rattle.web_body.specs.Payload.{payload_feed};
+ghost use Rattle.web_body.specs.PollSteps.{IfReady, IsPending, NeverNoMemory};
+ghost use Rattle.web_reply.specs.JoinedErrors.{join};
+ghost use Rattle.web_extract.specs.CollectedResults.{IsOneRefusal, collected2};
 ghost use Rattle.web_extract.specs.Extracts.{ExtractsBoth};
 ghost use Rattle.web_extract.specs.Place.{PlaceNeedsNoMemory, place_finished, place_comes};
 
@@ -12,7 +15,8 @@ use web_body::{Payload, Poll, Step};
 use web_reply::Error;
 use web_request::{App, HttpRequest, NoMemory};
 
-/// The future of two arguments. Each poll polls those that are still to come, in their order.
+/// The future of two arguments. Each poll polls those that are still to come, in their order. The
+/// list is ready when both are, also where one of them is refused.
 #[derive(Drop)]
 pub struct TupleFromRequest2<P: App, A: FromRequest<P>, B: FromRequest<P>> {
     pub(crate) first: Place<A::Future, A>,
@@ -20,7 +24,7 @@ pub struct TupleFromRequest2<P: App, A: FromRequest<P>, B: FromRequest<P>> {
 }
 
 impl<P: App, A: FromRequest<P>, B: FromRequest<P>> Poll for TupleFromRequest2<P, A, B> {
-    ghost use Rattle.web_extract.specs.ArgumentLists.{Joins2};
+    ghost use Rattle.web_extract.specs.ArgumentLists.{Joins2, NotBothRefuse};
     ghost use Rattle.web_extract.specs.SomeAnswer.{places_some};
 
     type Output = Result<(A, B), Error>;
@@ -33,7 +37,10 @@ impl<P: App, A: FromRequest<P>, B: FromRequest<P>> Poll for TupleFromRequest2<P,
         (place_comes B.Error.converts B.Future.gives f.second) n x };
 
     ghost needs_no_memory = { λ f. PlaceNeedsNoMemory A.Future.needs_no_memory f.first
-        × PlaceNeedsNoMemory B.Future.needs_no_memory f.second };
+        × PlaceNeedsNoMemory B.Future.needs_no_memory f.second
+        × NotBothRefuse
+        (place_comes A.Error.converts A.Future.gives f.first)
+        (place_comes B.Error.converts B.Future.gives f.second) };
 
     ghost some = { λ f h. places_some
         A.Error.converts A.converted A.Future.is_finished A.Future.gives A.Future.some
@@ -47,11 +54,11 @@ impl<P: App, A: FromRequest<P>, B: FromRequest<P>> Poll for TupleFromRequest2<P,
     fn poll(&mut self, alloc: Global) -> Step<Result<(A, B), Error>> {
         let has_first = match self.first.advance(alloc) {
             Ok(has) => has,
-            Err(stop) => return stop.into_step(),
+            Err(NoMemory) => return Step::NoMemory,
         };
         let has_second = match self.second.advance(alloc) {
             Ok(has) => has,
-            Err(stop) => return stop.into_step(),
+            Err(NoMemory) => return Step::NoMemory,
         };
         if !(has_first & has_second) {
             return Step::Pending;
@@ -59,10 +66,37 @@ impl<P: App, A: FromRequest<P>, B: FromRequest<P>> Poll for TupleFromRequest2<P,
         let first = mem::replace(&mut self.first, Place::Taken);
         let second = mem::replace(&mut self.second, Place::Taken);
         match (first, second) {
-            (Place::Done(a), Place::Done(b)) => Step::Ready(Ok((a, b))),
+            (Place::Done(a), Place::Done(b)) => collected_step(alloc, a, b),
             _ => unreachable!(),
         }
     }
+}
+
+/// Both values, or the one refusal, or both refusals joined.
+fn collected_step<A: Drop, B: Drop>(
+    alloc: Global,
+    first: Result<A, Error>,
+    second: Result<B, Error>,
+) -> Step<Result<(A, B), Error>>
+    ensures ready { IfReady result (λ x. x ≡ collected2 first second) }
+    ensures never { IsPending result → ⊥ }
+    ensures memory { IsOneRefusal first second → NeverNoMemory result }
+{
+    match (first, second) {
+        (Ok(a), Ok(b)) => Step::Ready(Ok((a, b))),
+        (Ok(_), Err(refusal)) => Step::Ready(Err(refusal)),
+        (Err(refusal), Ok(_)) => Step::Ready(Err(refusal)),
+        (Err(refusal), Err(other)) => match both_refusals(alloc, refusal, other) {
+            Ok(error) => Step::Ready(Err(error)),
+            Err(NoMemory) => Step::NoMemory,
+        },
+    }
+}
+
+fn both_refusals(alloc: Global, first: Error, second: Error) -> Result<Error, NoMemory>
+    ensures { IfOk result (λ error. join (first ∷ second ∷ []) ≡ Some error) }
+{
+    Error::join(alloc, vec![in alloc; first, second]?)
 }
 
 /// Begins two arguments, the second with the payload as the first leaves it.

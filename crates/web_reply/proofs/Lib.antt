@@ -1,3 +1,4 @@
 pub mod CookieItemLemmas
 pub mod HeaderStepLemmas
 pub mod ResponseCookieLemmas
+mod JoinedErrorsLemmas

@@ -13,11 +13,13 @@ use Rattle.web_body.specs.declared.lines_error.ReadlinesError.{ReadlinesError}
 use Rattle.web_body.specs.declared.lines_error.ReadlinesError.TheVariants as lines
 use Rattle.web_body.specs.LinesErrorTexts.{lines_error_text}
 use Rattle.web_values.specs.FaultTexts.{json_fault_text}
+use Rattle.web_reply.specs.SeveralCauses.{several_status, several_text}
 use Rattle.web_reply.specs.declared.cause.Cause.{Cause}
 use Rattle.web_reply.specs.declared.cause.Cause.TheVariants.{Payload, Http, Utf8, Io, Custom}
 use Rattle.web_reply.specs.declared.cause.Cause.TheVariants.{ContentType, Parse, HeaderValue}
 use Rattle.web_reply.specs.declared.cause.Cause.TheVariants.{Json, Form, Read, JsonText, Write}
 use Rattle.web_reply.specs.declared.cause.Cause.TheVariants.{Path, Query, Lines, MissingPeer}
+use Rattle.web_reply.specs.declared.cause.Cause.TheVariants.{Several}
 use Rattle.web_reply.specs.declared.cause.HttpError.{HttpError}
 use Rattle.web_reply.specs.declared.cause.HttpError.TheVariants.{Name, Value, MaxSize}
 use Rattle.web_reply.specs.declared.cause.IoKind.{IoKind}
@@ -50,6 +52,7 @@ cause_text (JsonText e) = json_fault_text e
 cause_text (Write e) = e.text
 cause_text Utf8 = codes "invalid UTF-8"
 cause_text (Io e) = io_text e
+cause_text (Several members) = several_text members
 cause_text (Custom status text) = text
 
 abbrev pub payload_status : PayloadError → ℕ
@@ -104,4 +107,5 @@ cause_status (JsonText e) = 500
 cause_status (Write e) = 500
 cause_status Utf8 = 400
 cause_status (Io e) = io_status e
+cause_status (Several members) = several_status members
 cause_status (Custom status text) = status

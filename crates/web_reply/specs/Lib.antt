@@ -1,10 +1,12 @@
 pub mod ResponseBodies
+pub mod SeveralCauses
 pub mod Causes
 pub mod ResponseHeads
 pub mod LentParts
 pub mod BodyMaps
 pub mod PreparedReplies
 pub mod Replies
+pub mod JoinedErrors
 pub mod InternalErrors
 pub mod Mappers
 pub mod Responders

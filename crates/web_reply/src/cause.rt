@@ -1,13 +1,19 @@
 //! The causes of error replies.
+ghost use Rattle.std.specs.Prelude.{◌≡◌, ◌<◌, ◌++◌, IfOk, OnOk, length};
+ghost use Rattle.web_reply.specs.JoinedErrors.{as_member, cause_members};
 
+use crate::error::ResponseError;
+use crate::several::{Causes, Member};
 use http::StatusCode;
+use std::alloc::Global;
 use std::fmt;
+use std::fmt::Display;
 use web_body::{
     JsonFault, JsonPayloadError, PathError, PayloadError, QueryPayloadError, ReadFault,
     ReadlinesError, UrlencodedError, WriteFault,
 };
 use web_request::MissingPeerAddr;
-use web_texts::{ContentTypeError, InvalidHeaderValue, ParseError, Text};
+use web_texts::{ContentTypeError, InvalidHeaderValue, NoMemory, ParseError, Text};
 
 /// Why a header could not be set.
 #[derive(Clone, Copy, Debug, PartialEq, Eq)]
@@ -66,6 +72,8 @@ pub enum Cause {
     Utf8,
     /// Input or output failed: 404 for `NotFound`, 403 for `PermissionDenied`, otherwise 500.
     Io(IoKind),
+    /// Several refusals: the status of the first, and their texts, one a line.
+    Several(Causes),
     /// A cause of the application, with a status and a text of its own.
     Custom { status: StatusCode, text: Text },
 }
@@ -124,7 +132,44 @@ impl fmt::Display for Cause {
             Cause::Write(fault) => write!(f, "{fault}"),
             Cause::Utf8 => f.write_str("invalid UTF-8"),
             Cause::Io(kind) => write!(f, "{kind}"),
+            Cause::Several(causes) => write!(f, "{causes}"),
             Cause::Custom { status: _, text } => f.write_str(text.as_str()),
         }
+    }
+}
+
+impl Cause {
+    /// The status and the text of this cause.
+    fn as_member(&self, alloc: Global) -> Result<Member, NoMemory>
+        ensures { IfOk result (λ member. member ≡ as_member self.now) }
+    {
+        Ok(Member {
+            status: self.status_code(),
+            text: Text::from(self.to_string(alloc)?),
+        })
+    }
+
+    /// Appends the refusals of this cause: those of several, otherwise the one of its status and
+    /// its text.
+    pub(crate) fn append_members(
+        self,
+        alloc: Global,
+        members: &mut Vec<Member>,
+    ) -> Result<(), NoMemory>
+        ensures members { OnOk result (members.new.items
+            ≡ members.old.items ++ cause_members self) }
+        ensures more { OnOk result (length members.old.items < length members.new.items) }
+    {
+        match self {
+            Cause::Several(causes) => {
+                let mut own = causes.into_members();
+                members.append(&mut own)?;
+            }
+            cause => {
+                let member = cause.as_member(alloc)?;
+                members.push(member)?;
+            }
+        }
+        Ok(())
     }
 }

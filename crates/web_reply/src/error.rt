@@ -1,14 +1,18 @@
 //! Errors and their replies.
-ghost use Rattle.std.specs.Prelude.{◌≡◌, ℕ, IfOk, OnOk, OnErr};
+ghost use Rattle.std.specs.Prelude.{◌≡◌, ◌<◌, ℕ, IfOk, OnOk, OnErr, Some, length};
 ghost use Rattle.web_reply.specs.Causes.{form_status, json_status, lines_status, payload_status};
+ghost use Rattle.web_reply.specs.JoinedErrors.{join, members};
 ghost use Rattle.web_reply.specs.PreparedReplies.{prepared_map};
 ghost use Rattle.web_reply.specs.Replies.{Reply, after_giving, default_reply, given_reply};
+ghost use Rattle.web_reply.specs.Replies.{fault_of};
 ghost use Rattle.web_reply.specs.declared.body.WholeBody.{WholeBody};
+ghost use Rattle.web_reply.specs.declared.cause.Cause.TheVariants.{Several};
 
 use crate::body::WholeBody;
 use crate::cause::{Cause, HttpError, IoKind};
 use crate::prepared::Prepared;
 use crate::response::HttpResponse;
+use crate::several::Causes;
 use crate::typed::{PLAIN_TEXT, typed};
 use bytes::Bytes;
 use http::StatusCode;
@@ -74,6 +78,7 @@ impl ResponseError for Cause {
             Cause::Io(IoKind::NotFound) => StatusCode::NOT_FOUND,
             Cause::Io(IoKind::PermissionDenied) => StatusCode::FORBIDDEN,
             Cause::Io(IoKind::Other) => StatusCode::INTERNAL_SERVER_ERROR,
+            Cause::Several(causes) => causes.status(),
             Cause::Custom { status, text: _ } => *status,
         }
     }
@@ -196,6 +201,20 @@ impl Error {
         }
     }
 
+    /// The errors as one. A single error is given back as it is. Of two or more the cause is
+    /// `Cause::Several`: the status and the text of each cause in order, where a cause that is
+    /// `Several` itself stands by its own. Nothing is kept of replies that were prepared and of
+    /// mappers.
+    pub fn join(alloc: Global, mut errors: Vec<Error>) -> Result<Error, NoMemory>
+        requires some { 0 < length errors.items }
+        ensures { IfOk result (λ error. join errors.items ≡ Some error) }
+    {
+        if errors.len() > 1 {
+            return join_all(alloc, errors);
+        }
+        Ok(errors.swap_remove(0))
+    }
+
     /// An error of this cause, with its reply prepared.
     pub(crate) fn with_prepared(
         cause: Cause,
@@ -232,6 +251,18 @@ impl Error {
     {
         self.cause
     }
+}
+
+/// Two errors or more as one.
+fn join_all(alloc: Global, errors: Vec<Error>) -> Result<Error, NoMemory>
+    requires several { 1 < length errors.items }
+    ensures { IfOk result (λ error. error ≡ fault_of (Several (members errors.items))) }
+{
+    let mut members = Vec::new(alloc);
+    for error in errors {
+        error.into_cause().append_members(alloc, &mut members)?;
+    }
+    Ok(Error::from(Cause::Several(Causes::new(members))))
 }
 
 impl From<Cause> for Error {
