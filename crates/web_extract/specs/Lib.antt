@@ -23,3 +23,4 @@ pub mod HeadArguments
 pub mod DataArguments
 pub mod PayloadArgument
 pub mod PeerArgument
+pub mod CappedArguments

@@ -3,8 +3,9 @@ ghost use Rattle.std.specs.Prelude.{◌≡◌, IfOk};
 
 use crate::body_futures::BytesExtractFut;
 use crate::from_request::FromRequest;
-use crate::head_tests::{limit_of, payload_config, required_type, type_refusal};
+use crate::head_tests::{capped_limit, limit_of, payload_config, required_type, type_refusal};
 use crate::layer_configs::Configs;
+use crate::with_cap::WithCap;
 use bytes::Bytes;
 use std::alloc::Global;
 use web_body::Payload;
@@ -50,5 +51,38 @@ where
         let config = payload_config(req);
         let refusal = type_refusal(alloc, req, required_type(config))?;
         Ok(BytesExtractFut::new(alloc, req, payload, refusal, limit_of(config)))
+    }
+}
+
+/// The same under the lesser of the configured limit and a cap.
+impl<A: App> WithCap<A> for Bytes
+where
+    A::Layer: Configs,
+{
+    ghost use Rattle.std.specs.Prelude.{◌≡◌, None};
+    ghost use Rattle.web_extract.specs.BytesArgument.{MeansBytes, bytes_some};
+    ghost use Rattle.web_extract.specs.CappedArguments.{capped_settings};
+    ghost use Rattle.web_extract.specs.LayerConfigurations.{payload_settings};
+
+    ghost means_capped = { λ cap q m rest n x. MeansBytes
+        (capped_settings cap (payload_settings A.Layer.Configs.configurations q.layers))
+        q.head.headers m rest n x };
+
+    ghost capped_needs_no_memory = { λ q.
+        (payload_settings A.Layer.Configs.configurations q.layers).required_type ≡ None };
+
+    ghost some_capped = { λ cap q m. bytes_some
+        (capped_settings cap (payload_settings A.Layer.Configs.configurations q.layers))
+        q.head.headers m };
+
+    fn from_request_capped(
+        alloc: Global,
+        req: &HttpRequest<A>,
+        payload: &mut Payload<A::Source>,
+        cap: usize,
+    ) -> Result<BytesExtractFut<A::Source>, NoMemory> {
+        let config = payload_config(req);
+        let refusal = type_refusal(alloc, req, required_type(config))?;
+        Ok(BytesExtractFut::new(alloc, req, payload, refusal, capped_limit(config, cap)))
     }
 }

@@ -6,6 +6,7 @@ ghost use Rattle.web_request.specs.MessageFields.{first_content_type, is_utf8_na
 ghost use Rattle.web_body.specs.PayloadSettings.{default_payload_settings};
 ghost use Rattle.web_extract.specs.BodyArguments.{charset_refusal, error_of, type_refusal};
 ghost use Rattle.web_extract.specs.BodyArguments.{unexpected_type};
+ghost use Rattle.web_extract.specs.CappedArguments.{capped_settings};
 ghost use Rattle.web_extract.specs.LayerConfigurations.{payload_settings};
 
 use crate::bad_request::bad_request;
@@ -35,6 +36,14 @@ pub(crate) fn limit_of(config: Option<&PayloadConfig>) -> usize
         Some(config) => config.max_len(),
         None => DEFAULT_LIMIT,
     }
+}
+
+/// The lesser of the limit of a configuration and a cap, in bytes.
+pub(crate) fn capped_limit(config: Option<&PayloadConfig>, cap: usize) -> usize
+    ensures { result ≡ (capped_settings cap
+        (unwrap_or (option_copied config.entry) default_payload_settings)).limit }
+{
+    limit_of(config).min(cap)
 }
 
 /// The media type that a configuration requires.

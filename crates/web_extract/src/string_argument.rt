@@ -3,8 +3,9 @@ ghost use Rattle.std.specs.Prelude.{◌≡◌, IfOk};
 
 use crate::body_futures::{BytesExtractFut, StringExtractFut};
 use crate::from_request::FromRequest;
-use crate::head_tests::{limit_of, payload_config, required_type, text_refusal};
+use crate::head_tests::{capped_limit, limit_of, payload_config, required_type, text_refusal};
 use crate::layer_configs::Configs;
+use crate::with_cap::WithCap;
 use std::alloc::Global;
 use web_body::Payload;
 use web_reply::Error;
@@ -49,6 +50,43 @@ where
         let config = payload_config(req);
         let refusal = text_refusal(alloc, req, required_type(config))?;
         let body = BytesExtractFut::new(alloc, req, payload, refusal, limit_of(config));
+        Ok(StringExtractFut::new(body))
+    }
+}
+
+/// The same under the lesser of the configured limit and a cap.
+impl<A: App> WithCap<A> for String
+where
+    A::Layer: Configs,
+{
+    ghost use Rattle.std.specs.Prelude.{◌≡◌, None};
+    ghost use Rattle.web_request.specs.MessageFields.{first_content_type};
+    ghost use Rattle.web_extract.specs.CappedArguments.{capped_settings};
+    ghost use Rattle.web_extract.specs.LayerConfigurations.{payload_settings};
+    ghost use Rattle.web_extract.specs.StringArgument.{MeansString, string_some};
+
+    ghost means_capped = { λ cap q m rest n x. MeansString
+        (capped_settings cap (payload_settings A.Layer.Configs.configurations q.layers))
+        q.head.headers m rest n x };
+
+    ghost capped_needs_no_memory = { λ q.
+        ((payload_settings A.Layer.Configs.configurations q.layers).required_type ≡ None)
+        × (first_content_type q.head.headers ≡ None) };
+
+    ghost some_capped = { λ cap q m. string_some
+        (capped_settings cap (payload_settings A.Layer.Configs.configurations q.layers))
+        q.head.headers m };
+
+    fn from_request_capped(
+        alloc: Global,
+        req: &HttpRequest<A>,
+        payload: &mut Payload<A::Source>,
+        cap: usize,
+    ) -> Result<StringExtractFut<A::Source>, NoMemory> {
+        let config = payload_config(req);
+        let refusal = text_refusal(alloc, req, required_type(config))?;
+        let limit = capped_limit(config, cap);
+        let body = BytesExtractFut::new(alloc, req, payload, refusal, limit);
         Ok(StringExtractFut::new(body))
     }
 }

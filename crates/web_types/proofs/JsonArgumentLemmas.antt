@@ -18,17 +18,22 @@ use Rattle.web_types.proofs.HandledLemmas.{extracts_kept}
 
 module _ {L D C J F P Q T V : Type 0} (of_layer : L → Configurations J F P Q T) (refuses : Handler J JsonPayloadError)
     (allows : Predicate T) (reads : JsonReader V) (q : Request L D C) where
-  pub json_extracted : (handler : Option J) (config : Option (JsonSettings J T))
+  abbrev lowered : (ℕ → ℕ) → JsonSettings J T → JsonSettings J T
+  lowered lower settings = record settings { limit = lower settings.limit }
+
+  pub json_extracted : (lower : ℕ → ℕ) (handler : Option J) (config : Option (JsonSettings J T))
       → handler ≡ (unwrap_or config default_json_settings).handler
+      → (limit : ℕ) → limit ≡ lower (unwrap_or config default_json_settings).limit
       → config ≡ nearest_config (λ l. (of_layer l).json) (λ l. (of_layer l).shared_json) q.layers
       → (kept : Option (Record L D C)) → IsKept handler q kept
       → (gives : ℕ → Result V JsonPayloadError → Type 0) (old new : Option (List Mark))
-      → Extracts (λ m rest n y. MeansJsonBody (unwrap_or config default_json_settings) allows reads q.head.headers m rest n y) gives old new
-      → Extracts (λ m rest n x. MeansJson (json_settings of_layer q.layers) refuses allows reads q.head m rest n x)
+      → Extracts (λ m rest n y. MeansJsonBody (record (unwrap_or config default_json_settings) { limit = limit }) allows reads q.head.headers m rest n y) gives old new
+      → Extracts (λ m rest n x. MeansJson (lowered lower (json_settings of_layer q.layers)) refuses allows reads q.head m rest n x)
       (λ n x. GivesHandled json_of (KeptErrors refuses json_fault (json_handler of_layer) kept) gives n x) old new
-  json_extracted handler config is counts kept k gives old new h =
+  json_extracted lower handler config is limit is_limit counts kept k gives old new h =
       let found = is ∙ ap (λ (c : Option (JsonSettings J T)). (unwrap_or c default_json_settings).handler) counts in
       extracts_kept refuses json_fault (json_handler of_layer) q json_of kept
       (subst (λ (o : Option J). IsKept o q kept) found k)
-      (MeansJsonBody (json_settings of_layer q.layers) allows reads q.head.headers) gives old new
-      (subst (λ (c : Option (JsonSettings J T)). Extracts (λ m rest n y. MeansJsonBody (unwrap_or c default_json_settings) allows reads q.head.headers m rest n y) gives old new) counts h)
+      (MeansJsonBody (lowered lower (json_settings of_layer q.layers)) allows reads q.head.headers) gives old new
+      (subst (λ (c : Option (JsonSettings J T)). Extracts (λ m rest n y. MeansJsonBody (lowered lower (unwrap_or c default_json_settings)) allows reads q.head.headers m rest n y) gives old new) counts
+      (subst (λ (l : ℕ). Extracts (λ m rest n y. MeansJsonBody (record (unwrap_or config default_json_settings) { limit = l }) allows reads q.head.headers m rest n y) gives old new) is_limit h))

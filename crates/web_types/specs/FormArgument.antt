@@ -1,5 +1,5 @@
 -- Forms as arguments.
-use Rattle.std.specs.Prelude.{◌≡◌, ℕ, List, Option, Result, refl}
+use Rattle.std.specs.Prelude.{◌≡◌, ℕ, List, Option, Result, min, refl}
 use Rattle.std.specs.Option.{IfNone}
 use Rattle.http_header.specs.FieldValue.{FieldValue}
 use Rattle.http_header.specs.HeaderMap.{Entries}
@@ -29,6 +29,10 @@ use Rattle.web_types.specs.declared.form_value.Form.{Form}
 abbrev pub form_of : {T : Type 0} → T → Form T
 form_of v = record { 0 = v }
 
+-- the same settings under the lesser of their limit and this cap
+abbrev pub capped_form : {H : Type 0} → ℕ → FormSettings H → FormSettings H
+capped_form cap settings = record settings { limit = min settings.limit cap }
+
 -- the handler of refusals that counts for these layers
 abbrev pub form_handler : {L J F P Q T : Type 0}
     → (L → Configurations J F P Q T) → List L → Option F
@@ -38,19 +42,18 @@ form_handler of_layer layers = (form_settings of_layer layers).handler
 abbrev pub form_rest : Entries FieldValue → List Mark → List Mark
 form_rest headers m = rest_where (takes_form (form_head headers)) m
 
-module _ {H T : Type 0} (settings : FormSettings H) (reads : PairReader T)
-    (headers : Entries FieldValue) where
+module _ {T : Type 0} (limit : ℕ) (reads : PairReader T) (headers : Entries FieldValue) where
   -- After the tests of the head, the body is read and decoded.
   abbrev pub MeansFormBody : List Mark → List Mark → ℕ → Result T UrlencodedError → Type 0
   MeansFormBody m rest n y =
       (rest ≡ form_rest headers m)
-      × ReadsBody (FormAnswer reads settings.limit) settings.limit
-      (form_refusal (form_head headers) settings.limit) m n y
+      × ReadsBody (FormAnswer reads limit) limit
+      (form_refusal (form_head headers) limit) m n y
 
   pub form_body_some : (m : List Mark) → AllowsSome (MeansFormBody m)
   form_body_some m none =
-      reads_some (FormAnswer reads settings.limit) (form_answer_some reads settings.limit)
-      settings.limit (form_refusal (form_head headers) settings.limit) m (λ n y k.
+      reads_some (FormAnswer reads limit) (form_answer_some reads limit)
+      limit (form_refusal (form_head headers) limit) m (λ n y k.
       none (form_rest headers m) n y (refl, k))
 
 module _ {H T : Type 0} (settings : FormSettings H) (refuses : Handler H UrlencodedError)
@@ -62,14 +65,14 @@ module _ {H T : Type 0} (settings : FormSettings H) (refuses : Handler H Urlenco
   -- A refusal goes through the configured handler, where there is one.
   abbrev pub MeansForm : List Mark → List Mark → ℕ → Result (Form T) Fault → Type 0
   MeansForm m rest n x =
-      GivesHandled form_of FormErrors (MeansFormBody settings reads head.headers m rest) n x
+      GivesHandled form_of FormErrors (MeansFormBody settings.limit reads head.headers m rest) n x
 
   pub form_some : (m : List Mark) → AllowsSome (MeansForm m)
   form_some m none =
-      form_body_some settings reads head.headers m (λ rest n y h.
+      form_body_some settings.limit reads head.headers m (λ rest n y h.
       handled_some form_of FormErrors
       (λ e. refused_some refuses form_fault settings.handler e head)
-      (MeansFormBody settings reads head.headers m rest)
+      (MeansFormBody settings.limit reads head.headers m rest)
       (λ without. without n y h) (λ k x g. none rest k x g))
 
 -- the result with its delay, where the handler and the reader are functions

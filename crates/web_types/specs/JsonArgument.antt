@@ -1,5 +1,5 @@
 -- JSON values as arguments and as responses.
-use Rattle.std.specs.Prelude.{◌≡◌, ℕ, Bool, List, Option, Result, refl}
+use Rattle.std.specs.Prelude.{◌≡◌, ℕ, Bool, List, Option, Result, min, refl}
 use Rattle.std.specs.Option.{IfNone}
 use Rattle.http_header.specs.FieldValue.{FieldValue}
 use Rattle.http_header.specs.HeaderMap.{Entries}
@@ -31,6 +31,10 @@ use Rattle.web_types.specs.declared.json_value.Json.{Json}
 
 abbrev pub json_of : {T : Type 0} → T → Json T
 json_of v = record { 0 = v }
+
+-- the same settings under the lesser of their limit and this cap
+abbrev pub capped_json : {H P : Type 0} → ℕ → JsonSettings H P → JsonSettings H P
+capped_json cap settings = record settings { limit = min settings.limit cap }
 
 -- the handler of refusals that counts for these layers
 abbrev pub json_handler : {L J F P Q T : Type 0}

@@ -1,5 +1,5 @@
 //! A form as an argument.
-ghost use Rattle.std.specs.Prelude.{◌≡◌, ◌⊎◌, false, IfOk, option_copied};
+ghost use Rattle.std.specs.Prelude.{◌≡◌, ◌⊎◌, false, IfOk, min, option_copied};
 ghost use Rattle.std.specs.Option.{unwrap_or};
 ghost use Rattle.web_body.specs.Payload.{payload_feed};
 ghost use Rattle.web_decoders.specs.DecoderSettings.{default_form_settings};
@@ -13,7 +13,7 @@ use crate::kept_request::kept_request;
 use std::alloc::Global;
 use web_body::Payload;
 use web_decoders::{DEFAULT_FORM_CONFIG_LIMIT, FormConfig, UrlEncoded};
-use web_extract::{Configs, FormChoice, FromRequest};
+use web_extract::{Configs, FormChoice, FromRequest, WithCap};
 use web_reply::Error;
 use web_request::{App, HttpRequest, NoMemory};
 use web_values::ReadPairs;
@@ -58,29 +58,57 @@ where
     ) -> Result<FormExtractFut<T, A>, NoMemory> {
         let config = req.nearest_config::<FormChoice>();
         let request = kept_request(alloc, req, handler_of(config))?;
-        let body = form_body(alloc, req, payload, config)?;
+        let body = form_body(alloc, req, payload, limit_of(config))?;
         Ok(FormExtractFut::new(body, request))
     }
 }
 
-/// The collector of the body, under a configuration.
-fn form_body<A: App, T: ReadPairs, H>(
+/// The same under the lesser of the configured limit and a cap.
+impl<A: App, T: ReadPairs> WithCap<A> for Form<T>
+where
+    A::Layer: Configs,
+{
+    ghost use Rattle.web_extract.specs.LayerConfigurations.{form_settings};
+    ghost use Rattle.web_types.specs.FormArgument.{MeansForm, capped_form, form_some};
+
+    ghost means_capped = { λ cap q m rest n x. MeansForm
+        (capped_form cap (form_settings A.Layer.Configs.configurations q.layers))
+        A.Layer.OnForm.refuses T.reads_pairs q.head m rest n x };
+
+    ghost some_capped = { λ cap q m. form_some
+        (capped_form cap (form_settings A.Layer.Configs.configurations q.layers))
+        A.Layer.OnForm.refuses T.reads_pairs q.head m };
+
+    fn from_request_capped(
+        alloc: Global,
+        req: &HttpRequest<A>,
+        payload: &mut Payload<A::Source>,
+        cap: usize,
+    ) -> Result<FormExtractFut<T, A>, NoMemory> {
+        let config = req.nearest_config::<FormChoice>();
+        let request = kept_request(alloc, req, handler_of(config))?;
+        let body = form_body(alloc, req, payload, capped_limit(config, cap))?;
+        Ok(FormExtractFut::new(body, request))
+    }
+}
+
+/// The collector of the body, under a limit in bytes.
+fn form_body<A: App, T: ReadPairs>(
     alloc: Global,
     req: &HttpRequest<A>,
     payload: &mut Payload<A::Source>,
-    config: Option<&FormConfig<H>>,
+    limit: usize,
 ) -> Result<UrlEncoded<T, A::Source>, NoMemory>
     ensures fresh { IfOk result (λ b. b.decoding.is_finished ≡ false) }
     ensures extracts { IfOk result (λ b. Extracts
-        (λ m rest n y. MeansFormBody (unwrap_or (option_copied config.entry) default_form_settings)
-        T.reads_pairs req.now.request.head.headers m rest n y)
+        (λ m rest n y. MeansFormBody limit T.reads_pairs req.now.request.head.headers m rest n y)
         (form_gives A.Source.feed T.reads_pairs b)
         (payload_feed A.Source.feed payload.old).marks
         (payload_feed A.Source.feed payload.new).marks) }
     ensures payload { (payload.new ≡ payload.old) ⊎ (payload.new ≡ Payload.None) }
 {
     let body = UrlEncoded::new(alloc, req, payload)?;
-    Ok(body.limit(limit_of(config)))
+    Ok(body.limit(limit))
 }
 
 fn handler_of<H>(config: Option<&FormConfig<H>>) -> Option<&H>
@@ -100,4 +128,12 @@ fn limit_of<H>(config: Option<&FormConfig<H>>) -> usize
         Some(config) => config.max_len(),
         None => DEFAULT_FORM_CONFIG_LIMIT,
     }
+}
+
+/// The lesser of the limit of a configuration and a cap, in bytes.
+fn capped_limit<H>(config: Option<&FormConfig<H>>, cap: usize) -> usize
+    ensures { result
+        ≡ min (unwrap_or (option_copied config.entry) default_form_settings).limit cap }
+{
+    limit_of(config).min(cap)
 }

@@ -1,5 +1,5 @@
 //! A JSON value as an argument.
-ghost use Rattle.std.specs.Prelude.{◌≡◌, ◌⊎◌, false, IfOk, IfSome, option_copied};
+ghost use Rattle.std.specs.Prelude.{◌≡◌, ◌⊎◌, false, IfOk, IfSome, min, option_copied};
 ghost use Rattle.std.specs.Option.{unwrap_or};
 ghost use Rattle.web_body.specs.Payload.{payload_feed};
 ghost use Rattle.web_decoders.specs.DecoderSettings.{default_json_settings};
@@ -14,7 +14,7 @@ use crate::kept_request::kept_request;
 use std::alloc::Global;
 use web_body::Payload;
 use web_decoders::{AllowType, DEFAULT_JSON_LIMIT, JsonBody, JsonConfig};
-use web_extract::{Configs, FromRequest, JsonChoice};
+use web_extract::{Configs, FromRequest, JsonChoice, WithCap};
 use web_reply::Error;
 use web_request::{App, HttpRequest, NoMemory};
 use web_values::ReadJson;
@@ -58,22 +58,53 @@ where
     ) -> Result<JsonExtractFut<T, A>, NoMemory> {
         let config = req.nearest_config::<JsonChoice>();
         let request = kept_request(alloc, req, handler_of(config))?;
-        let body = json_body(alloc, req, payload, config)?;
+        let body = json_body(alloc, req, payload, config, limit_of(config))?;
         Ok(JsonExtractFut::new(body, request))
     }
 }
 
-/// The collector of the body, under a configuration.
+/// The same under the lesser of the configured limit and a cap.
+impl<A: App, T: ReadJson> WithCap<A> for Json<T>
+where
+    A::Layer: Configs,
+{
+    ghost use Rattle.web_extract.specs.LayerConfigurations.{json_settings};
+    ghost use Rattle.web_types.specs.JsonArgument.{MeansJson, capped_json, json_some};
+
+    ghost means_capped = { λ cap q m rest n x. MeansJson
+        (capped_json cap (json_settings A.Layer.Configs.configurations q.layers))
+        A.Layer.OnJson.refuses A.Layer.JsonType.allows_type T.reads q.head m rest n x };
+
+    ghost some_capped = { λ cap q m. json_some
+        (capped_json cap (json_settings A.Layer.Configs.configurations q.layers))
+        A.Layer.OnJson.refuses A.Layer.JsonType.allows_type T.reads q.head m };
+
+    fn from_request_capped(
+        alloc: Global,
+        req: &HttpRequest<A>,
+        payload: &mut Payload<A::Source>,
+        cap: usize,
+    ) -> Result<JsonExtractFut<T, A>, NoMemory> {
+        let config = req.nearest_config::<JsonChoice>();
+        let request = kept_request(alloc, req, handler_of(config))?;
+        let body = json_body(alloc, req, payload, config, capped_limit(config, cap))?;
+        Ok(JsonExtractFut::new(body, request))
+    }
+}
+
+/// The collector of the body, under a configuration whose limit is replaced.
 fn json_body<A: App, T: ReadJson, H, P: AllowType>(
     alloc: Global,
     req: &HttpRequest<A>,
     payload: &mut Payload<A::Source>,
     config: Option<&JsonConfig<H, P>>,
+    limit: usize,
 ) -> Result<JsonBody<T, A::Source>, NoMemory>
     requires { IfSome config (λ c. IsReady P.ready c.now.predicate) }
     ensures fresh { IfOk result (λ b. b.decoding.is_finished ≡ false) }
     ensures extracts { IfOk result (λ b. Extracts
-        (λ m rest n y. MeansJsonBody (unwrap_or (option_copied config.entry) default_json_settings)
+        (λ m rest n y. MeansJsonBody
+        (record (unwrap_or (option_copied config.entry) default_json_settings) { limit = limit })
         P.allows_type T.reads req.now.request.head.headers m rest n y)
         (json_gives A.Source.feed T.reads b)
         (payload_feed A.Source.feed payload.old).marks
@@ -87,7 +118,7 @@ fn json_body<A: App, T: ReadJson, H, P: AllowType>(
         predicate_of(config),
         type_required(config),
     )?;
-    Ok(body.limit(limit_of(config)))
+    Ok(body.limit(limit))
 }
 
 fn handler_of<H, P>(config: Option<&JsonConfig<H, P>>) -> Option<&H>
@@ -127,4 +158,12 @@ fn limit_of<H, P>(config: Option<&JsonConfig<H, P>>) -> usize
         Some(config) => config.max_len(),
         None => DEFAULT_JSON_LIMIT,
     }
+}
+
+/// The lesser of the limit of a configuration and a cap, in bytes.
+fn capped_limit<H, P>(config: Option<&JsonConfig<H, P>>, cap: usize) -> usize
+    ensures { result
+        ≡ min (unwrap_or (option_copied config.entry) default_json_settings).limit cap }
+{
+    limit_of(config).min(cap)
 }
