@@ -1,5 +1,5 @@
 -- The replies of the program's handler.
-use Rattle.std.specs.Prelude.{◌≡◌, ℕ, ⊤, List, Option, None, Some, Result, Ok, Err, codes}
+use Rattle.std.specs.Prelude.{◌≡◌, ℕ, ⊤, List, Option, Result, Ok, Err, codes}
 use Rattle.std.specs.Prelude.{length}
 use Rattle.serde_json.specs.Written.{compact_text}
 use Rattle.web_cookies.specs.CookieTexts.{cookie_error_text}
@@ -21,19 +21,6 @@ use Rattle.web_demo.specs.declared.answer.Answer.{Answer}
 use Rattle.web_demo.specs.declared.answer.Answer.TheVariants as answer
 use Rattle.web_demo_picked.specs.declared.picked.Picked.{Picked}
 use Rattle.web_demo_picked.specs.declared.picked.Picked.TheVariants as picked
-
--- the text that is printed of these arguments, where one is
-abbrev pub printed_text : Picked → Option (List ℕ)
-printed_text (picked.Either either) = Some (either_text either)
-printed_text (picked.Option item left) = Some (option_text item (length left))
-printed_text (picked.Result read) = Some (result_text read)
-printed_text (picked.Path path) = Some (item_text path)
-printed_text (picked.Query query) = Some (item_text query.0)
-printed_text (picked.Header header) = Some (accept_text header)
-printed_text (picked.Data arguments) = Some (data_text arguments)
-printed_text (picked.Who info) = Some (who_text info)
-printed_text (picked.Lines lines) = Some (lines_text lines)
-printed_text _ = None
 
 -- how many polls of the handler return Pending
 abbrev pub wait_of : Picked → ℕ
@@ -92,31 +79,41 @@ AnswerNeedsNoMemory _ = ⊥
 abbrev pub output_reply : Answer Feed → Reply Plain
 output_reply = answer_reply (λ feed. feed)
 
--- the reply for arguments of which nothing is printed
-abbrev pub unprinted_reply : Picked → Reply Plain
-unprinted_reply (picked.Bytes bytes) = bytes_reply bytes
-unprinted_reply (picked.Text text) = text_reply text
-unprinted_reply (picked.Json json) = json_reply json.0
-unprinted_reply (picked.Form form) = form_reply form.0
-unprinted_reply (picked.Raw body) = raw_reply body
-unprinted_reply (picked.Cookies said) = cookies_reply said
-unprinted_reply (picked.Both text late) = text_reply text
-unprinted_reply (picked.Wait wait) = empty_reply 204
-unprinted_reply _ = empty_reply 404
-
-abbrev pub text_reply_or : Option (List ℕ) → Reply Plain → Reply Plain
-text_reply_or (Some text) other = text_reply text
-text_reply_or None other = other
-
 -- the reply for these arguments
 abbrev pub demo_reply : Picked → Reply Plain
-demo_reply p = text_reply_or (printed_text p) (unprinted_reply p)
+demo_reply (picked.Bytes bytes) = bytes_reply bytes
+demo_reply (picked.Text text) = text_reply text
+demo_reply (picked.Json json) = json_reply json.0
+demo_reply (picked.Capped capped) = bytes_reply capped.0
+demo_reply (picked.CappedJson capped) = json_reply capped.0.0
+demo_reply (picked.Form form) = form_reply form.0
+demo_reply (picked.Either either) = text_reply (either_text either)
+demo_reply (picked.Option item left) = text_reply (option_text item (length left))
+demo_reply (picked.Result read) = text_reply (result_text read)
+demo_reply (picked.Path path) = text_reply (item_text path)
+demo_reply (picked.Query query) = text_reply (item_text query.0)
+demo_reply (picked.Header header) = text_reply (accept_text header)
+demo_reply (picked.Data arguments) = text_reply (data_text arguments)
+demo_reply (picked.Raw body) = raw_reply body
+demo_reply (picked.Who info) = text_reply (who_text info)
+demo_reply (picked.Cookies said) = cookies_reply said
+demo_reply (picked.Lines lines) = text_reply (lines_text lines)
+demo_reply (picked.Both text late) = text_reply text
+demo_reply (picked.Wait wait) = empty_reply 204
+demo_reply picked.Other = empty_reply 404
 
--- nothing is printed of them, and no response is made
+-- these are replied to without an allocation
 abbrev pub AnswersWithoutMemory : Picked → Type 0
-AnswersWithoutMemory (picked.Raw body) = ⊥
-AnswersWithoutMemory (picked.Cookies said) = ⊥
-AnswersWithoutMemory p = printed_text p ≡ None
+AnswersWithoutMemory (picked.Bytes bytes) = ⊤
+AnswersWithoutMemory (picked.Text text) = ⊤
+AnswersWithoutMemory (picked.Json json) = ⊤
+AnswersWithoutMemory (picked.Capped capped) = ⊤
+AnswersWithoutMemory (picked.CappedJson capped) = ⊤
+AnswersWithoutMemory (picked.Form form) = ⊤
+AnswersWithoutMemory (picked.Both text late) = ⊤
+AnswersWithoutMemory (picked.Wait wait) = ⊤
+AnswersWithoutMemory picked.Other = ⊤
+AnswersWithoutMemory _ = ⊥
 
 -- an output of this reply alone, after this number of polls alone
 abbrev pub HandlerAnswers : Picked → ℕ → Answer Feed → Type 0

@@ -1,17 +1,15 @@
 //! The handler of the program.
 ghost use Rattle.std.specs.Prelude.{◌≡◌, IfOk, IsOk};
+ghost use Rattle.web_reply.specs.Responders.{text_reply};
 ghost use Rattle.web_demo.specs.DemoReplies.{AnswersWithoutMemory, demo_reply, output_reply};
-ghost use Rattle.web_demo.specs.DemoReplies.{printed_text, unprinted_reply, wait_of};
+ghost use Rattle.web_demo.specs.DemoReplies.{wait_of};
 
 use crate::answer::{Answer, DemoOutput, cookies_answer, raw_answer};
 use crate::answering::Answering;
-use crate::texts::{
-    accept_text, data_text, either_text, item_text, lines_text, option_text, result_text, who_text,
-};
+use crate::texts::PlainText;
 use std::alloc::Global;
 use web_demo_picked::Picked;
 use web_request::NoMemory;
-use web_texts::Text;
 use web_worker::Handler;
 
 /// The handler of the program. What it replies to the arguments of each segment stands in the
@@ -31,60 +29,42 @@ fn wait_of(picked: &Picked) -> u64
     }
 }
 
-/// The text that is printed of these arguments, where one is.
-fn printed_text(alloc: Global, picked: &Picked) -> Result<Option<Text>, NoMemory>
-    ensures value { IfOk result (λ text. text ≡ printed_text picked.now) }
-    ensures memory { AnswersWithoutMemory picked.now → IsOk result }
+/// The answer that is the text about a value.
+fn text_answer<P: PlainText + Drop>(alloc: Global, value: P) -> Result<DemoOutput, NoMemory>
+    ensures { IfOk result (λ output. output_reply output ≡ text_reply (P.text value)) }
 {
-    let text = match picked {
-        Picked::Either(either) => either_text(alloc, either)?,
-        Picked::Option(item, left) => option_text(alloc, item, left.len())?,
-        Picked::Result(read) => result_text(alloc, read)?,
-        Picked::Path(path) => item_text(alloc, path.as_ref())?,
-        Picked::Query(query) => item_text(alloc, &query.0)?,
-        Picked::Header(header) => accept_text(alloc, header)?,
-        Picked::Data(arguments) => data_text(alloc, arguments)?,
-        Picked::Who(info) => who_text(alloc, info)?,
-        Picked::Lines(lines) => lines_text(alloc, lines.as_slice())?,
-        _ => return Ok(None),
-    };
-    Ok(Some(text))
+    match value.plain_text(alloc) {
+        Ok(text) => Ok(Answer::Text(text)),
+        Err(e) => Err(e),
+    }
 }
 
-/// The output for arguments of which nothing is printed.
-fn unprinted_output(alloc: Global, picked: Picked) -> Result<DemoOutput, NoMemory>
-    ensures value { IfOk result (λ output. output_reply output ≡ unprinted_reply picked) }
+/// The output for these arguments.
+fn output_of(alloc: Global, picked: Picked) -> Result<DemoOutput, NoMemory>
+    ensures value { IfOk result (λ output. output_reply output ≡ demo_reply picked) }
     ensures memory { AnswersWithoutMemory picked → IsOk result }
 {
     match picked {
         Picked::Bytes(bytes) => Ok(Answer::Bytes(bytes)),
         Picked::Text(text) => Ok(Answer::Text(text)),
         Picked::Json(json) => Ok(Answer::Json(json.into_inner())),
+        Picked::Capped(capped) => Ok(Answer::Bytes(capped.into_inner())),
+        Picked::CappedJson(capped) => Ok(Answer::Json(capped.into_inner().into_inner())),
         Picked::Form(form) => Ok(Answer::Form(form.into_inner())),
+        Picked::Either(either) => text_answer(alloc, either),
+        Picked::Option(item, left) => text_answer(alloc, (item, left)),
+        Picked::Result(read) => text_answer(alloc, read),
+        Picked::Path(path) => text_answer(alloc, path),
+        Picked::Query(query) => text_answer(alloc, query),
+        Picked::Header(header) => text_answer(alloc, header),
+        Picked::Data(arguments) => text_answer(alloc, arguments),
         Picked::Raw(body) => raw_answer(alloc, body),
+        Picked::Who(info) => text_answer(alloc, info),
         Picked::Cookies(arguments) => cookies_answer(alloc, arguments),
+        Picked::Lines(lines) => text_answer(alloc, lines),
         Picked::Both(text, _) => Ok(Answer::Text(text)),
         Picked::Wait(_) => Ok(Answer::Done),
-        _ => Ok(Answer::None),
-    }
-}
-
-/// The other value. The first is dropped here, and not in the caller, whose proof is then smaller.
-fn instead_of<P: Drop, T>(_value: P, other: T) -> T
-    ensures { result ≡ other }
-{
-    other
-}
-
-/// The output for these arguments. Those that were printed are dropped.
-fn output_of(alloc: Global, picked: Picked) -> Result<DemoOutput, NoMemory>
-    ensures value { IfOk result (λ output. output_reply output ≡ demo_reply picked) }
-    ensures memory { AnswersWithoutMemory picked → IsOk result }
-{
-    match printed_text(alloc, &picked) {
-        Ok(None) => unprinted_output(alloc, picked),
-        Ok(Some(text)) => Ok(Answer::Text(instead_of(picked, text))),
-        Err(e) => Err(instead_of(picked, e)),
+        Picked::Other => Ok(Answer::None),
     }
 }
 

@@ -18,7 +18,6 @@ pub use web_demo_arguments::{
 };
 pub use web_demo_layers::{Demo, DemoConn, DemoLayer, DemoLocal, Item};
 pub use web_demo_picked::{
-    BoxedFuture, ConnectionFuture, DataFuture, DecodedFuture, EitherItemFuture, HeaderFuture,
-    ImmediateFuture, ItemFuture, LinesFuture, OptionalFuture, Picked, PickedFuture, ReadFuture,
-    ServiceFuture, picked_law,
+    BoxedFuture, DataFuture, DecodedFuture, EitherItemFuture, FutureOf, IntoPicked, ItemFuture,
+    LinesFuture, OptionalFuture, Picked, PickedFuture, picked_law,
 };

@@ -1,14 +1,14 @@
 //! The texts that the handler replies with.
 ghost use Rattle.std.specs.Prelude.{◌≡◌, ◌++◌, IfOk, OnOk, flat_map, string_bytes};
-ghost use Rattle.web_demo.specs.DemoTexts.{accept_text, data_text, either_text, option_text};
-ghost use Rattle.web_demo.specs.DemoTexts.{bar, cookies_text, lines_text, pair_text};
-ghost use Rattle.web_demo.specs.DemoTexts.{result_text, space, who_text, without_newline};
+ghost use Rattle.web_demo.specs.DemoTexts.{bar, cookies_text, lines_text, pair_text, space};
+ghost use Rattle.web_demo.specs.DemoTexts.{without_newline};
 ghost use Rattle.web_demo_layers.specs.Items.{item_text};
 
+use bytes::Bytes;
 use std::alloc::Global;
 use std::fmt;
-use web_arguments::Header;
-use web_demo_arguments::DataArguments;
+use web_arguments::{Header, Path, Query};
+use web_demo_arguments::{AllLines, DataArguments};
 use web_demo_layers::Item;
 use web_headers::{Accept, fmt_comma_delimited};
 use web_negotiate::prelude::AcceptChoices;
@@ -21,62 +21,107 @@ use web_types::{Either, Form, Json};
 /// Room for most lists of cookies and most origins, in bytes, so that their texts need not grow.
 const ROOM: usize = 128;
 
+/// A value of which the handler replies with a text.
+pub(crate) trait PlainText {
+    ghost use Rattle.std.specs.Prelude.{ℕ, List};
+
+    /// The text.
+    ghost text: { Self → List ℕ };
+
+    /// The text.
+    fn plain_text(&self, alloc: Global) -> Result<Text, NoMemory>
+        ensures { IfOk result (λ t. t ≡ text self.now) };
+}
+
 /// The name and the number of an item.
-pub(crate) fn item_text(alloc: Global, item: &Item) -> Result<Text, NoMemory>
+fn item_text(alloc: Global, item: &Item) -> Result<Text, NoMemory>
     ensures { IfOk result (λ text. text ≡ item_text item.now) }
 {
     Ok(Text::from(item.to_string(alloc)?))
 }
 
+/// The item of the parameters.
+impl PlainText for Path<Item> {
+    ghost use Rattle.web_demo_layers.specs.Items.{item_text};
+
+    ghost text = { λ path. item_text path };
+
+    fn plain_text(&self, alloc: Global) -> Result<Text, NoMemory> {
+        item_text(alloc, self.as_ref())
+    }
+}
+
+/// The item of the query.
+impl PlainText for Query<Item> {
+    ghost use Rattle.web_demo_layers.specs.Items.{item_text};
+
+    ghost text = { λ query. item_text query.0 };
+
+    fn plain_text(&self, alloc: Global) -> Result<Text, NoMemory> {
+        item_text(alloc, &self.0)
+    }
+}
+
 /// The side that was read, and its item.
-pub(crate) fn either_text(
-    alloc: Global,
-    either: &Either<Json<Item>, Form<Item>>,
-) -> Result<Text, NoMemory>
-    ensures { IfOk result (λ text. text ≡ either_text either.now) }
-{
-    match either {
-        Either::Left(json) => Ok(Text::from(format!(in alloc; "left {}", json.0)?)),
-        Either::Right(form) => Ok(Text::from(format!(in alloc; "right {}", form.0)?)),
+impl PlainText for Either<Json<Item>, Form<Item>> {
+    ghost use Rattle.web_demo.specs.DemoTexts.{either_text};
+
+    ghost text = { either_text };
+
+    fn plain_text(&self, alloc: Global) -> Result<Text, NoMemory> {
+        match self {
+            Either::Left(json) => Ok(Text::from(format!(in alloc; "left {}", json.0)?)),
+            Either::Right(form) => Ok(Text::from(format!(in alloc; "right {}", form.0)?)),
+        }
     }
 }
 
 /// The item, where there is one, and the size of the body that was left.
-pub(crate) fn option_text(
-    alloc: Global,
-    item: &Option<Json<Item>>,
-    left: usize,
-) -> Result<Text, NoMemory>
-    ensures { IfOk result (λ text. text ≡ option_text item.now left) }
-{
-    match item {
-        Some(json) => Ok(Text::from(format!(in alloc; "some {} {left}", json.0)?)),
-        None => Ok(Text::from(format!(in alloc; "none {left}")?)),
+impl PlainText for (Option<Json<Item>>, Bytes) {
+    ghost use Rattle.std.specs.Prelude.{length};
+    ghost use Rattle.web_demo.specs.DemoTexts.{option_text};
+
+    ghost text = { λ both. option_text both.0 (length both.1) };
+
+    fn plain_text(&self, alloc: Global) -> Result<Text, NoMemory> {
+        let left = self.1.len();
+        match &self.0 {
+            Some(json) => Ok(Text::from(format!(in alloc; "some {} {left}", json.0)?)),
+            None => Ok(Text::from(format!(in alloc; "none {left}")?)),
+        }
     }
 }
 
 /// The item, or the status of the refusal.
-pub(crate) fn result_text(alloc: Global, read: &Result<Json<Item>, Error>) -> Result<Text, NoMemory>
-    ensures { IfOk result (λ text. text ≡ result_text read.now) }
-{
-    match read {
-        Ok(json) => Ok(Text::from(format!(in alloc; "ok {}", json.0)?)),
-        Err(error) => {
-            let status = error.cause().status_code().as_u16();
-            Ok(Text::from(format!(in alloc; "refused {status}")?))
+impl PlainText for Result<Json<Item>, Error> {
+    ghost use Rattle.web_demo.specs.DemoTexts.{result_text};
+
+    ghost text = { result_text };
+
+    fn plain_text(&self, alloc: Global) -> Result<Text, NoMemory> {
+        match self {
+            Ok(json) => Ok(Text::from(format!(in alloc; "ok {}", json.0)?)),
+            Err(error) => {
+                let status = error.cause().status_code().as_u16();
+                Ok(Text::from(format!(in alloc; "refused {status}")?))
+            }
         }
     }
 }
 
 /// The numbers of the layers, of the request and of the connection.
-pub(crate) fn data_text(alloc: Global, arguments: &DataArguments) -> Result<Text, NoMemory>
-    ensures { IfOk result (λ text. text ≡ data_text arguments.now) }
-{
-    let number = *arguments.number.get_ref();
-    let local = arguments.local.0;
-    match arguments.request.conn_data::<u64>() {
-        Some(conn) => Ok(Text::from(format!(in alloc; "{number} {local} {conn}")?)),
-        None => Ok(Text::from(format!(in alloc; "{number} {local} -")?)),
+impl PlainText for DataArguments {
+    ghost use Rattle.web_demo.specs.DemoTexts.{data_text};
+
+    ghost text = { data_text };
+
+    fn plain_text(&self, alloc: Global) -> Result<Text, NoMemory> {
+        let number = *self.number.get_ref();
+        let local = self.local.0;
+        match self.request.conn_data::<u64>() {
+            Some(conn) => Ok(Text::from(format!(in alloc; "{number} {local} {conn}")?)),
+            None => Ok(Text::from(format!(in alloc; "{number} {local} -")?)),
+        }
     }
 }
 
@@ -90,19 +135,23 @@ fn push_named(text: &mut String, name: &str, value: &str) -> Result<(), NoMemory
 }
 
 /// Where a request came from and was sent to.
-pub(crate) fn who_text(alloc: Global, info: &ConnectionInfo) -> Result<Text, NoMemory>
-    ensures { IfOk result (λ text. text ≡ who_text info.now) }
-{
-    let mut text = String::with_capacity(alloc, ROOM)?;
-    push_named(&mut text, "host=", info.host())?;
-    push_named(&mut text, " scheme=", info.scheme())?;
-    push_named(&mut text, " peer=", info.peer_addr().unwrap_or("-"))?;
-    push_named(
-        &mut text,
-        " realip=",
-        info.realip_remote_addr().unwrap_or("-"),
-    )?;
-    Ok(Text::from(text))
+impl PlainText for ConnectionInfo {
+    ghost use Rattle.web_demo.specs.DemoTexts.{who_text};
+
+    ghost text = { who_text };
+
+    fn plain_text(&self, alloc: Global) -> Result<Text, NoMemory> {
+        let mut text = String::with_capacity(alloc, ROOM)?;
+        push_named(&mut text, "host=", self.host())?;
+        push_named(&mut text, " scheme=", self.scheme())?;
+        push_named(&mut text, " peer=", self.peer_addr().unwrap_or("-"))?;
+        push_named(
+            &mut text,
+            " realip=",
+            self.realip_remote_addr().unwrap_or("-"),
+        )?;
+        Ok(Text::from(text))
+    }
 }
 
 fn push_pair(text: &mut String, cookie: &Cookie) -> Result<(), NoMemory>
@@ -208,12 +257,16 @@ fn push_lines(text: &mut String, lines: &[Text]) -> Result<(), NoMemory>
 }
 
 /// The lines without their newlines, with vertical bars between.
-pub(crate) fn lines_text(alloc: Global, lines: &[Text]) -> Result<Text, NoMemory>
-    ensures { IfOk result (λ text. text ≡ lines_text lines.now) }
-{
-    let mut text = String::new(alloc);
-    push_lines(&mut text, lines)?;
-    Ok(Text::from(text))
+impl PlainText for AllLines {
+    ghost use Rattle.web_demo.specs.DemoTexts.{lines_text};
+
+    ghost text = { lines_text };
+
+    fn plain_text(&self, alloc: Global) -> Result<Text, NoMemory> {
+        let mut text = String::new(alloc);
+        push_lines(&mut text, self.as_slice())?;
+        Ok(Text::from(text))
+    }
 }
 
 /// Media types in their order.
@@ -235,11 +288,15 @@ impl fmt::Display for MediaTypes {
 }
 
 /// The media types that are accepted, the most wanted first.
-pub(crate) fn accept_text(alloc: Global, header: &Header<Accept>) -> Result<Text, NoMemory>
-    ensures { IfOk result (λ text. text ≡ accept_text header.now) }
-{
-    let ranked = MediaTypes {
-        types: header.0.ranked(alloc)?,
-    };
-    Ok(Text::from(ranked.to_string(alloc)?))
+impl PlainText for Header<Accept> {
+    ghost use Rattle.web_demo.specs.DemoTexts.{accept_text};
+
+    ghost text = { accept_text };
+
+    fn plain_text(&self, alloc: Global) -> Result<Text, NoMemory> {
+        let ranked = MediaTypes {
+            types: self.0.ranked(alloc)?,
+        };
+        Ok(Text::from(ranked.to_string(alloc)?))
+    }
 }

@@ -5,8 +5,8 @@ use Rattle.web_script.specs.Segments.{first_segment}
 use Rattle.web_demo_arguments.specs.declared.choice.Choice.{Choice}
 use Rattle.web_demo_arguments.specs.declared.choice.Choice.TheVariants as choice
 use Rattle.web_demo_arguments.specs.declared.choice.DecodedChoice.TheVariants as decoded
-use Rattle.web_demo_arguments.specs.declared.choice.ImmediateChoice.TheVariants as immediate
-use Rattle.web_demo_arguments.specs.declared.choice.ServiceChoice.TheVariants as service
+use Rattle.web_demo_arguments.specs.declared.choice.HeadChoice.TheVariants as head
+use Rattle.web_demo_arguments.specs.declared.choice.ReadChoice.TheVariants as read
 
 -- what this segment asks for
 abbrev pub choice_named : List ℕ → Choice
@@ -18,17 +18,19 @@ choice_named segment =
     else if bytes_eq segment (codes "either") then choice.Decoded decoded.Either
     else if bytes_eq segment (codes "option") then choice.Decoded decoded.Option
     else if bytes_eq segment (codes "result") then choice.Decoded decoded.Result
-    else if bytes_eq segment (codes "path") then choice.Immediate immediate.Path
-    else if bytes_eq segment (codes "query") then choice.Immediate immediate.Query
-    else if bytes_eq segment (codes "header") then choice.Immediate immediate.Header
-    else if bytes_eq segment (codes "data") then choice.Immediate immediate.Data
-    else if bytes_eq segment (codes "raw") then choice.Immediate immediate.Raw
-    else if bytes_eq segment (codes "who") then choice.Service service.Who
-    else if bytes_eq segment (codes "cookies") then choice.Service service.Cookies
-    else if bytes_eq segment (codes "lines") then choice.Service service.Lines
+    else if bytes_eq segment (codes "path") then choice.Read read.Path
+    else if bytes_eq segment (codes "query") then choice.Read read.Query
+    else if bytes_eq segment (codes "header") then choice.Read read.Header
+    else if bytes_eq segment (codes "data") then choice.Data
+    else if bytes_eq segment (codes "raw") then choice.Read read.Raw
+    else if bytes_eq segment (codes "who") then choice.Head head.Who
+    else if bytes_eq segment (codes "cookies") then choice.Head head.Cookies
+    else if bytes_eq segment (codes "lines") then choice.Lines
     else if bytes_eq segment (codes "both") then choice.Both
-    else if bytes_eq segment (codes "wait") then choice.Wait
-    else choice.Other
+    else if bytes_eq segment (codes "wait") then choice.Head head.Wait
+    else if bytes_eq segment (codes "capped") then choice.Capped
+    else if bytes_eq segment (codes "capped-json") then choice.Decoded decoded.CappedJson
+    else choice.Head head.Other
 
 -- what a path asks for: its first segment alone decides
 abbrev pub choice_of : List ℕ → Choice

@@ -11,39 +11,43 @@ pub enum Choice {
     Bytes,
     Text,
     Both,
-    Wait,
+    Capped,
+    Data,
+    Lines,
     Decoded(DecodedChoice),
-    Immediate(ImmediateChoice),
-    Service(ServiceChoice),
-    Other,
+    Read(ReadChoice),
+    Head(HeadChoice),
 }
 
 /// Arguments that decode the body.
 #[derive(Clone, Copy, Debug, PartialEq, Eq)]
 pub enum DecodedChoice {
     Json,
+    CappedJson,
     Form,
     Either,
     Option,
     Result,
 }
 
-/// Further arguments that come at the first poll.
+/// Arguments that are there at once: what the parameters, the query and a header say, and the body
+/// unread.
 #[derive(Clone, Copy, Debug, PartialEq, Eq)]
-pub enum ImmediateChoice {
+pub enum ReadChoice {
     Path,
     Query,
     Header,
-    Data,
     Raw,
 }
 
-/// Arguments that read where a request came from, its cookies, and its body line by line.
+/// Further arguments that are there at once: where the request came from, its cookies, how long the
+/// handler waits, and none.
 #[derive(Clone, Copy, Debug, PartialEq, Eq)]
-pub enum ServiceChoice {
+pub enum HeadChoice {
     Who,
     Cookies,
-    Lines,
+    Wait,
+    Other,
 }
 
 fn is_named(segment: &[u8], name: &[u8]) -> bool
@@ -70,27 +74,31 @@ fn choice_named(segment: &[u8]) -> Choice
     } else if is_named(segment, b"result") {
         Choice::Decoded(DecodedChoice::Result)
     } else if is_named(segment, b"path") {
-        Choice::Immediate(ImmediateChoice::Path)
+        Choice::Read(ReadChoice::Path)
     } else if is_named(segment, b"query") {
-        Choice::Immediate(ImmediateChoice::Query)
+        Choice::Read(ReadChoice::Query)
     } else if is_named(segment, b"header") {
-        Choice::Immediate(ImmediateChoice::Header)
+        Choice::Read(ReadChoice::Header)
     } else if is_named(segment, b"data") {
-        Choice::Immediate(ImmediateChoice::Data)
+        Choice::Data
     } else if is_named(segment, b"raw") {
-        Choice::Immediate(ImmediateChoice::Raw)
+        Choice::Read(ReadChoice::Raw)
     } else if is_named(segment, b"who") {
-        Choice::Service(ServiceChoice::Who)
+        Choice::Head(HeadChoice::Who)
     } else if is_named(segment, b"cookies") {
-        Choice::Service(ServiceChoice::Cookies)
+        Choice::Head(HeadChoice::Cookies)
     } else if is_named(segment, b"lines") {
-        Choice::Service(ServiceChoice::Lines)
+        Choice::Lines
     } else if is_named(segment, b"both") {
         Choice::Both
     } else if is_named(segment, b"wait") {
-        Choice::Wait
+        Choice::Head(HeadChoice::Wait)
+    } else if is_named(segment, b"capped") {
+        Choice::Capped
+    } else if is_named(segment, b"capped-json") {
+        Choice::Decoded(DecodedChoice::CappedJson)
     } else {
-        Choice::Other
+        Choice::Head(HeadChoice::Other)
     }
 }
 

@@ -10,7 +10,7 @@ mod params;
 mod wait;
 
 pub use all_lines::{AllLines, AllLinesFuture};
-pub use choice::{Choice, DecodedChoice, ImmediateChoice, ServiceChoice, choice_of};
+pub use choice::{Choice, DecodedChoice, HeadChoice, ReadChoice, choice_of};
 pub use delayed::Delayed;
 pub use demo_arguments::{CookieArguments, DataArguments, RawBody};
 pub use late::{Late, LateFuture};

@@ -17,7 +17,8 @@ use Rattle.web_types.specs.declared.either.Either.{Either}
 use Rattle.web_types.specs.declared.form_value.Form.{Form}
 use Rattle.web_types.specs.declared.json_value.Json.{Json}
 use Rattle.web_types.proofs.EitherLawLemmas.{either_decides}
-use Rattle.web_types.proofs.TypeFunctionsLemmas.{decides_form, decides_json}
+use Rattle.web_types.specs.JsonArgument.{MeansJson, json_result}
+use Rattle.web_types.proofs.TypeFunctionsLemmas.{decides_form, decides_json, json_to}
 use Rattle.web_arguments.specs.PathArgument.{PathRefused, decoded_parameters}
 use Rattle.web_arguments.specs.QueryArgument.{QueryRefused}
 use Rattle.web_arguments.proofs.ReadArgumentsLemmas.{only_read}
@@ -27,16 +28,19 @@ use Rattle.web_demo_layers.specs.Teapots.{form_teapot, is_vendor_type, json_teap
 use Rattle.web_demo_layers.specs.Teapots.{path_teapot, query_teapot}
 use Rattle.web_demo_layers.specs.declared.item.Item.{Item}
 use Rattle.web_demo_layers.specs.declared.teapot.Teapot.{Teapot}
-use Rattle.web_demo_picked.specs.ArgumentMeanings.{By, ByEither, InList, same_fault}
+use Rattle.web_demo_picked.specs.ArgumentMeanings.{InList}
+use Rattle.web_demo_picked.specs.Picking.{By, ByEither, same_fault}
 use Rattle.web_demo_picked.specs.BodyArguments.{MeansBody, body_rest, body_result}
 use Rattle.web_demo_layers.specs.DemoRequests.{DemoRequest}
 use Rattle.web_demo_picked.specs.ItemArguments.{ByHandler, IsVendorType, ItemOfJson, ItemOfPairs}
+use Rattle.web_demo_picked.specs.ItemArguments.{MeansCappedItem, capped_item_rest, capped_item_result}
+use Rattle.web_demo_picked.specs.ItemArguments.{capped_json_settings}
 use Rattle.web_demo_picked.specs.ItemArguments.{MeansEitherItem, MeansFormItem, MeansJsonItem}
 use Rattle.web_demo_picked.specs.ItemArguments.{MeansPathItem, MeansQueryItem, as_query}
 use Rattle.web_demo_picked.specs.ItemArguments.{either_item_result, form_item_rest, form_item_result}
 use Rattle.web_demo_picked.specs.ItemArguments.{json_item_rest, json_item_result, path_handler_of}
 use Rattle.web_demo_picked.specs.ItemArguments.{path_item_result, query_handler_of, query_item_result}
-use Rattle.web_demo_picked.proofs.SeenArgumentsLemmas.{Seen, SeenAlone, converted_same, listed_seen}
+use Rattle.web_demo_picked.proofs.SeenArgumentsLemmas.{Seen, SeenAlone, capped_alone, converted_same, listed_seen}
 
 -- the handlers, the predicate and the readers are functions
 
@@ -76,6 +80,20 @@ json_seen q m left n y h =
     json_teapot (is_handler json_teapot) is_vendor_type is_vendor item_of_json is_reader
     q m left n y).0 h in
     (is.0, is.1, converted_same y ∙ is.2)
+
+capped_read : (q : DemoRequest) → SeenAlone (λ v. v) same_fault
+    (MeansJson (capped_json_settings q) (ByHandler json_teapot) IsVendorType ItemOfJson q.head) (capped_item_rest q)
+    (λ m. json_result (capped_json_settings q) json_teapot is_vendor_type item_of_json q.head m)
+capped_read q m left n y h =
+    let is = json_to (capped_json_settings q) (ByHandler json_teapot) IsVendorType ItemOfJson q.head
+    json_teapot (is_handler json_teapot) is_vendor_type is_vendor item_of_json is_reader m left n y h in
+    (is.0, is.1, converted_same y ∙ is.2)
+
+pub capped_item_seen : (q : DemoRequest)
+    → SeenAlone (λ v. v) same_fault (MeansCappedItem q) (capped_item_rest q) (capped_item_result q)
+capped_item_seen q =
+    capped_alone 16 (MeansJson (capped_json_settings q) (ByHandler json_teapot) IsVendorType ItemOfJson q.head) (capped_item_rest q)
+    (λ m. json_result (capped_json_settings q) json_teapot is_vendor_type item_of_json q.head m) (capped_read q)
 
 pub form_seen : (q : DemoRequest)
     → SeenAlone (λ v. v) same_fault (MeansFormItem q) (form_item_rest q) (form_item_result q)

@@ -16,14 +16,16 @@ use Rattle.web_body.specs.MemoryBodies.{marks_feed}
 use Rattle.web_body.specs.declared.payload.Payload.{Payload}
 use Rattle.web_body.specs.declared.payload.Payload.TheVariants as payload
 use Rattle.web_reply.specs.Replies.{Fault}
+use Rattle.web_extract.specs.BytesArgument.{MeansBytes, bytes_result}
 use Rattle.web_extract.specs.CollectedResults.{map_value}
-use Rattle.web_extract.specs.ConvertedFutures.{GivesConvertedBy, converted_result}
+use Rattle.web_extract.specs.ConvertedFutures.{ConvertsResult, GivesConverted, converted_result}
 use Rattle.web_extract.specs.Extracts.{Extracts}
 use Rattle.web_extract.specs.HeadArguments.{IsRequest, immediate as at_once, seen_request}
-use Rattle.web_extract.specs.ListResults.{DelayedResult, list1}
+use Rattle.web_extract.specs.ListMeanings.{Meaning}
+use Rattle.web_extract.specs.ListResults.{DelayedResult}
 use Rattle.web_extract.specs.OptionArgument.{GivesOption, as_option}
 use Rattle.web_extract.specs.PayloadArgument.{payload_result, seen_payload}
-use Rattle.web_extract.specs.ReadyFuture.{MeansUnit}
+use Rattle.web_extract.specs.ReadyFuture.{GivesHeld, MeansUnit}
 use Rattle.web_extract.specs.ResultArgument.{AsResult}
 use Rattle.web_extract.specs.StringArgument.{decoded}
 use Rattle.web_extract.specs.declared.never.Never.{Never}
@@ -39,9 +41,9 @@ use Rattle.web_demo_arguments.specs.DemoArguments.{raw_view, seen_data}
 use Rattle.web_demo_layers.specs.DemoRequests.{DemoRequest}
 use Rattle.web_demo_arguments.specs.LateAndWait.{MeansLate, MeansWait}
 use Rattle.web_demo_picked.specs.BodyArguments.{Alone, MeansBody, MeansRaw, MeansText, body_rest, body_result}
+use Rattle.web_demo_picked.specs.BodyArguments.{MeansCapped, capped_rest, capped_result, capped_settings_of}
 use Rattle.web_demo_picked.specs.BodyArguments.{text_rest, text_result}
-use Rattle.web_demo_picked.specs.ArgumentMeanings.{By, ByEither, InList, ListOfOne}
-use Rattle.web_demo_picked.specs.ArgumentMeanings.{never_fault, parse_fault, same_fault}
+use Rattle.web_demo_picked.specs.ArgumentMeanings.{InList}
 use Rattle.web_demo_picked.specs.ArgumentMeanings.{MeansAccept, accept_result, header_or_fault}
 use Rattle.web_demo_picked.specs.ArgumentMeanings.{MeansBoth, both_result, delayed_late}
 use Rattle.web_demo_picked.specs.ArgumentMeanings.{MeansData, MeansLocal, MeansNumber, MeansRequest}
@@ -49,34 +51,40 @@ use Rattle.web_demo_picked.specs.ArgumentMeanings.{local_result, number_result, 
 use Rattle.web_demo_picked.specs.ArgumentMeanings.{MeansOptional, optional_result, or_none}
 use Rattle.web_demo_picked.specs.ArgumentMeanings.{without_refusal}
 use Rattle.web_demo_picked.specs.ArgumentMeanings.{MeansItemOrRefusal, as_value}
+use Rattle.web_demo_picked.specs.ArgumentMeanings.{MeansWho, cookies_result, demo_cookies, who_result}
 use Rattle.web_demo_picked.specs.ItemArguments.{MeansEitherItem, MeansFormItem, MeansJsonItem}
+use Rattle.web_demo_picked.specs.ItemArguments.{MeansCappedItem, capped_item_rest, capped_item_result}
 use Rattle.web_demo_picked.specs.ItemArguments.{MeansPathItem, MeansQueryItem}
 use Rattle.web_demo_picked.specs.ItemArguments.{either_item_result, form_item_result}
 use Rattle.web_demo_picked.specs.ItemArguments.{form_item_rest, json_item_rest, json_item_result}
 use Rattle.web_demo_picked.specs.ItemArguments.{path_item_result, query_item_result}
-use Rattle.web_demo_picked.specs.PickedArguments.{MeansChoice, MeansDecoded, MeansImmediate, MeansPicked}
-use Rattle.web_demo_picked.specs.PickedArguments.{choice_result, decoded_result, immediate_result}
+use Rattle.web_demo_picked.specs.PickedArguments.{MeansChoice, MeansDecoded, MeansHead, MeansPicked, MeansRead}
+use Rattle.web_demo_picked.specs.PickedArguments.{choice_result, decoded_result, head_result, read_result}
 use Rattle.web_demo_picked.specs.PickedArguments.{picked_delay, picked_result}
+use Rattle.web_demo_picked.specs.Picking.{By, ByEither, Picks, never_fault, parse_fault, same_fault}
 use Rattle.web_demo_arguments.specs.declared.choice.Choice.{Choice}
 use Rattle.web_demo_arguments.specs.declared.choice.Choice.TheVariants as choice
 use Rattle.web_demo_arguments.specs.declared.choice.DecodedChoice.{DecodedChoice}
 use Rattle.web_demo_arguments.specs.declared.choice.DecodedChoice.TheVariants as decoded
-use Rattle.web_demo_arguments.specs.declared.choice.ImmediateChoice.{ImmediateChoice}
-use Rattle.web_demo_arguments.specs.declared.choice.ImmediateChoice.TheVariants as immediate
-use Rattle.web_demo_arguments.specs.declared.choice.ServiceChoice.{ServiceChoice}
-use Rattle.web_demo_arguments.specs.declared.choice.ServiceChoice.TheVariants as service
+use Rattle.web_demo_arguments.specs.declared.choice.HeadChoice.{HeadChoice}
+use Rattle.web_demo_arguments.specs.declared.choice.HeadChoice.TheVariants as head
+use Rattle.web_demo_arguments.specs.declared.choice.ReadChoice.{ReadChoice}
+use Rattle.web_demo_arguments.specs.declared.choice.ReadChoice.TheVariants as read
 use Rattle.web_demo_arguments.specs.LinesArgument.{MeansLines, lines_rest, lines_result}
-use Rattle.web_demo_picked.specs.ServiceArguments.{MeansService, MeansWho, cookies_result, demo_cookies}
-use Rattle.web_demo_picked.specs.ServiceArguments.{service_result, who_result}
 use Rattle.web_demo_picked.specs.declared.picked.Picked.{Picked}
 use Rattle.web_demo_picked.specs.declared.picked.Picked.TheVariants as picked
-use Rattle.web_demo_picked.proofs.ItemArgumentsLemmas.{either_seen, form_seen, json_seen, path_seen, query_seen}
-use Rattle.web_demo_picked.proofs.SeenArgumentsLemmas.{Seen, SeenAlone, alone_seen, chosen_only, converted_same, listed_seen, pair_seen, three_seen}
+use Rattle.web_demo_picked.proofs.ItemArgumentsLemmas.{capped_item_seen, either_seen, form_seen, json_seen, path_seen, query_seen}
+use Rattle.web_demo_picked.proofs.SeenArgumentsLemmas.{Seen, SeenAlone, capped_alone, chosen_only, converted_same, listed_seen, pair_seen, three_seen}
 
 -- each argument
 
 body_seen : (q : DemoRequest) → SeenAlone (λ v. v) same_fault (MeansBody q) (body_rest q) (body_result q)
 body_seen q m left n y h = (h.0, h.1, converted_same y ∙ h.2)
+
+capped_seen : (q : DemoRequest) → SeenAlone (λ v. v) same_fault (MeansCapped q) (capped_rest q) (capped_result q)
+capped_seen q =
+    capped_alone 4 (MeansBytes (capped_settings_of q) q.head.headers) (capped_rest q)
+    (λ m. bytes_result (capped_settings_of q) q.head.headers m) (λ m left n y h. (h.0, h.1, converted_same y ∙ h.2))
 
 text_value : (y : Result (String Global) Fault) → converted_result string_bytes same_fault y ≡ map_value string_bytes y
 text_value (Ok v) = refl
@@ -212,89 +220,97 @@ data_seen q =
     (listed (λ v. v) same_fault (MeansLocal q) (λ m. m) (λ m. local_result q) (local_seen q))
     (listed (λ r. r.request) same_fault (MeansRequest q) (λ m. m) (λ m. at_once (Ok q)) (request_seen q))
 
--- a list of one argument, as what was picked
+-- what is picked of an argument that is seen by a function
 module _ {T E V : Type 0} (f : T → V) (converts : E → Fault → Type 0) (value : V → Picked) (means : Alone T E)
     (rest : List Mark → List Mark) (a : List Mark → DelayedResult V) where
-  one_only : Seen f (InList converts means) rest a → (m left : List Mark)
-      → GivesOnly (λ n x. GivesConvertedBy (λ v. value (f v.0)) same_fault (ListOfOne converts means m left) n x)
-      (list1 (a m)).delay (map_value (λ v. value v.0) (list1 (a m)).result)
-  one_only seen m left =
-      chosen_only (λ v. record { 0 = f v.0 }) (λ v. value v.0) (ListOfOne converts means) rest (λ m. list1 (a m))
-      (alone_seen f (InList converts means) rest a seen) m left
+  as_listed : (m left : List Mark) (n : ℕ) (y : Result T E) (x : Result Picked Fault) → means m left n y
+      → ConvertsResult (λ v w. w ≡ value (f v)) converts y x
+      → (z : Result T Fault) × InList converts means m left n z × (x ≡ map_value value (map_value f z))
+  as_listed m left n (Ok v) x h c = (Ok v, h, c.2 ∙ ap Ok c.1)
+  as_listed m left n (Err e) x h c = (Err c.0, (e, h, c.1), c.2)
 
-pick_one : {T E V : Type 0} (f : T → V) (error : E → Fault) (value : V → Picked) (means : Alone T E)
+  pick_listed : Seen f (InList converts means) rest a → (m left : List Mark)
+      → GivesOnly (λ n x. Picks (λ v. value (f v)) converts means m left n x) (a m).delay (map_value value (a m).result)
+  pick_listed seen m left n x h =
+      let z = as_listed m left n h.0 x h.1 h.2 in
+      let once = seen m left n z.0 z.1 in
+      (once.1, z.2 ∙ ap (map_value value) once.2)
+
+pick : {T E V : Type 0} (f : T → V) (error : E → Fault) (value : V → Picked) (means : Alone T E)
     (rest : List Mark → List Mark) (a : List Mark → DelayedResult V) → SeenAlone f error means rest a → (m left : List Mark)
-    → GivesOnly (λ n x. GivesConvertedBy (λ v. value (f v.0)) same_fault (ListOfOne (By error) means m left) n x)
-    (list1 (a m)).delay (map_value (λ v. value v.0) (list1 (a m)).result)
-pick_one f error value means rest a seen = one_only f (By error) value means rest a (listed f error means rest a seen)
+    → GivesOnly (λ n x. Picks (λ v. value (f v)) (By error) means m left n x) (a m).delay (map_value value (a m).result)
+pick f error value means rest a seen = pick_listed f (By error) value means rest a (listed f error means rest a seen)
 
 -- one delay and one result for each choice
 
 decoded_only : (c : DecodedChoice) (q : DemoRequest) (m rest : List Mark)
     → GivesOnly (λ n x. MeansDecoded c q m rest n x) (decoded_result c q m).delay (decoded_result c q m).result
-decoded_only decoded.Json q m rest = pick_one (λ v. v) same_fault (λ v. picked.Json v) (MeansJsonItem q) (json_item_rest q) (json_item_result q) (json_seen q) m rest
-decoded_only decoded.Form q m rest = pick_one (λ v. v) same_fault (λ v. picked.Form v) (MeansFormItem q) (form_item_rest q) (form_item_result q) (form_seen q) m rest
-decoded_only decoded.Either q m rest = one_only (λ v. v) ByEither (λ v. picked.Either v) (MeansEitherItem q) (body_rest q) (either_item_result q) (either_seen q) m rest
+decoded_only decoded.Json q m rest = pick (λ v. v) same_fault (λ v. picked.Json v) (MeansJsonItem q) (json_item_rest q) (json_item_result q) (json_seen q) m rest
+decoded_only decoded.CappedJson q m rest = pick (λ v. v) same_fault (λ v. picked.CappedJson v) (MeansCappedItem q) (capped_item_rest q) (capped_item_result q) (capped_item_seen q) m rest
+decoded_only decoded.Form q m rest = pick (λ v. v) same_fault (λ v. picked.Form v) (MeansFormItem q) (form_item_rest q) (form_item_result q) (form_seen q) m rest
+decoded_only decoded.Either q m rest = pick_listed (λ v. v) ByEither (λ v. picked.Either v) (MeansEitherItem q) (body_rest q) (either_item_result q) (either_seen q) m rest
 decoded_only decoded.Option q m rest =
     chosen_only (λ v. (v.0, v.1)) (λ v. picked.Option v.0 v.1) (MeansOptional q) (λ m. body_rest q (json_item_rest q m)) (optional_result q) (optional_seen q) m rest
-decoded_only decoded.Result q m rest = pick_one (λ v. v) never_fault (λ v. picked.Result v) (MeansItemOrRefusal q) (json_item_rest q) (λ m. as_value (json_item_result q m)) (result_seen q) m rest
+decoded_only decoded.Result q m rest = pick (λ v. v) never_fault (λ v. picked.Result v) (MeansItemOrRefusal q) (json_item_rest q) (λ m. as_value (json_item_result q m)) (result_seen q) m rest
 
-immediate_only : (c : ImmediateChoice) (q : DemoRequest) (m rest : List Mark)
-    → GivesOnly (λ n x. MeansImmediate c q m rest n x) (immediate_result c q m).delay (immediate_result c q m).result
-immediate_only immediate.Path q m rest = pick_one (λ v. v) same_fault (λ v. picked.Path v) (MeansPathItem q) (λ m. m) (λ m. path_item_result q) (path_seen q) m rest
-immediate_only immediate.Query q m rest = pick_one (λ v. v) same_fault (λ v. picked.Query v) (MeansQueryItem q) (λ m. m) (λ m. query_item_result q) (query_seen q) m rest
-immediate_only immediate.Header q m rest = pick_one (λ v. v) parse_fault (λ v. picked.Header v) (MeansAccept q) (λ m. m) (λ m. accept_result q) (accept_seen q) m rest
-immediate_only immediate.Data q m rest = chosen_only (λ v. (v.0, v.1, v.2.request)) (λ v. picked.Data (seen_data v)) (MeansData q) (λ m. m) (λ m. numbers_result q) (data_seen q) m rest
-immediate_only immediate.Raw q m rest = pick_one raw_view same_fault (λ v. picked.Raw v) MeansRaw (λ m. []) payload_result raw_seen m rest
+read_only : (c : ReadChoice) (q : DemoRequest) (m rest : List Mark)
+    → GivesOnly (λ n x. MeansRead c q m rest n x) (read_result c q m).delay (read_result c q m).result
+read_only read.Path q m rest = pick (λ v. v) same_fault (λ v. picked.Path v) (MeansPathItem q) (λ m. m) (λ m. path_item_result q) (path_seen q) m rest
+read_only read.Query q m rest = pick (λ v. v) same_fault (λ v. picked.Query v) (MeansQueryItem q) (λ m. m) (λ m. query_item_result q) (query_seen q) m rest
+read_only read.Header q m rest = pick (λ v. v) parse_fault (λ v. picked.Header v) (MeansAccept q) (λ m. m) (λ m. accept_result q) (accept_seen q) m rest
+read_only read.Raw q m rest = pick raw_view same_fault (λ v. picked.Raw v) MeansRaw (λ m. []) payload_result raw_seen m rest
 
-service_only : (c : ServiceChoice) (q : DemoRequest) (m rest : List Mark)
-    → GivesOnly (λ n x. MeansService c q m rest n x) (service_result c q m).delay (service_result c q m).result
-service_only service.Who q m rest = pick_one (λ v. v) never_fault (λ v. picked.Who v) (MeansWho q) (λ m. m) (λ m. who_result q) (who_seen q) m rest
-service_only service.Cookies q m rest = pick_one known_cookies same_fault (λ v. picked.Cookies v) (MeansRequest q) (λ m. m) (λ m. cookies_result q) (cookies_seen q) m rest
-service_only service.Lines q m rest = pick_one (λ v. v) same_fault (λ v. picked.Lines v) (MeansLines q) (lines_rest q) (lines_result q) (lines_seen q) m rest
+head_only : (c : HeadChoice) (q : DemoRequest) (m rest : List Mark)
+    → GivesOnly (λ n x. MeansHead c q m rest n x) (head_result c q m).delay (head_result c q m).result
+head_only head.Who q m rest = pick (λ v. v) never_fault (λ v. picked.Who v) (MeansWho q) (λ m. m) (λ m. who_result q) (who_seen q) m rest
+head_only head.Cookies q m rest = pick known_cookies same_fault (λ v. picked.Cookies v) (MeansRequest q) (λ m. m) (λ m. cookies_result q) (cookies_seen q) m rest
+head_only head.Wait q m rest =
+    converted_only (λ v. picked.Wait v) never_fault (MeansWait q.params m rest) _ _ (λ k y g. (g.1, g.2))
+head_only head.Other q m rest =
+    converted_only (λ _. picked.Other) never_fault (MeansUnit m rest) _ _ (λ k y g. (g.1, g.2))
 
 choice_only : (c : Choice) (q : DemoRequest) (m rest : List Mark)
     → GivesOnly (λ n x. MeansChoice c q m rest n x) (choice_result c q m).delay (choice_result c q m).result
-choice_only choice.Bytes q m rest = pick_one (λ v. v) same_fault (λ v. picked.Bytes v) (MeansBody q) (body_rest q) (body_result q) (body_seen q) m rest
-choice_only choice.Text q m rest = pick_one string_bytes same_fault (λ v. picked.Text v) (MeansText q) (text_rest q) (text_result q) (text_seen q) m rest
+choice_only choice.Bytes q m rest = pick (λ v. v) same_fault (λ v. picked.Bytes v) (MeansBody q) (body_rest q) (body_result q) (body_seen q) m rest
+choice_only choice.Text q m rest = pick string_bytes same_fault (λ v. picked.Text v) (MeansText q) (text_rest q) (text_result q) (text_seen q) m rest
+choice_only choice.Capped q m rest = pick (λ v. v) same_fault (λ v. picked.Capped v) (MeansCapped q) (capped_rest q) (capped_result q) (capped_seen q) m rest
 choice_only choice.Both q m rest = chosen_only (λ v. (string_bytes v.0, v.1)) (λ v. picked.Both v.0 v.1) (MeansBoth q) (text_rest q) (both_result q) (both_seen q) m rest
-choice_only choice.Wait q m rest =
-    converted_only (λ v. picked.Wait v) never_fault (MeansWait q.params m rest) _ _ (λ k y g. (g.1, g.2))
-choice_only choice.Other q m rest =
-    converted_only (λ v. picked.Other) never_fault (MeansUnit m rest) _ _ (λ k y g. (g.1, g.2))
+choice_only choice.Data q m rest =
+    chosen_only (λ v. (v.0, v.1, v.2.request)) (λ v. picked.Data (seen_data v)) (MeansData q) (λ m. m) (λ m. numbers_result q) (data_seen q) m rest
+choice_only choice.Lines q m rest = pick (λ v. v) same_fault (λ v. picked.Lines v) (MeansLines q) (lines_rest q) (lines_result q) (lines_seen q) m rest
 choice_only (choice.Decoded c) q m rest = decoded_only c q m rest
-choice_only (choice.Immediate c) q m rest = immediate_only c q m rest
-choice_only (choice.Service c) q m rest = service_only c q m rest
+choice_only (choice.Read c) q m rest = read_only c q m rest
+choice_only (choice.Head c) q m rest = head_only c q m rest
 
 -- the future of a choice's arguments, where this choice was made
-pub extracts_decoded : (q : DemoRequest) (made : DecodedChoice) (c : DecodedChoice)
+pub extracts_chosen : {C : Type 0} (means : C → Meaning Picked) (made chosen : C)
     (gives : ℕ → Result Picked Fault → Type 0) (old new : Option (List Mark))
-    → made ≡ c
-    → Extracts (λ m rest n x. MeansDecoded c q m rest n x) gives old new
-    → Extracts (λ m rest n x. MeansDecoded made q m rest n x) gives old new
-extracts_decoded q made c gives old new e h = rw e h
+    → made ≡ chosen
+    → Extracts (means chosen) gives old new → Extracts (means made) gives old new
+extracts_chosen means made chosen gives old new e h = rw e h
 
-pub extracts_immediate : (q : DemoRequest) (made : ImmediateChoice) (c : ImmediateChoice)
-    (gives : ℕ → Result Picked Fault → Type 0) (old new : Option (List Mark))
-    → made ≡ c
-    → Extracts (λ m rest n x. MeansImmediate c q m rest n x) gives old new
-    → Extracts (λ m rest n x. MeansImmediate made q m rest n x) gives old new
-extracts_immediate q made c gives old new e h = rw e h
+-- of a value that is there, what is picked of it
+pub extracts_now : {T E : Type 0} (value : T → Picked) (converts : E → Fault → Type 0) (means : Alone T E)
+    (gives : ℕ → Result T E → Type 0) (now : ℕ → Result Picked Fault → Type 0) (old new : Option (List Mark))
+    → ((n : ℕ) (x : Result Picked Fault) → now n x → GivesConverted (λ v w. w ≡ value v) converts gives n x)
+    → Extracts means gives old new → Extracts (λ m rest n x. Picks value converts means m rest n x) now old new
+extracts_now value converts means gives now None new within h = tt
+extracts_now value converts means gives now (Some m) new within h =
+    (h.0, h.1, λ n x g. let y = within n x g in (y.0, h.2 n y.0 y.1, y.2))
 
-pub extracts_service : (q : DemoRequest) (made : ServiceChoice) (c : ServiceChoice)
-    (gives : ℕ → Result Picked Fault → Type 0) (old new : Option (List Mark))
-    → made ≡ c
-    → Extracts (λ m rest n x. MeansService c q m rest n x) gives old new
-    → Extracts (λ m rest n x. MeansService made q m rest n x) gives old new
-extracts_service q made c gives old new e h = rw e h
-
--- the future of a choice's arguments, for a request that makes this choice
-pub extracts_choice : (q : DemoRequest) (c : Choice)
-    (gives : ℕ → Result Picked Fault → Type 0) (old new : Option (List Mark))
+pub extracts_choice : (q : DemoRequest) (c : Choice) (gives : ℕ → Result Picked Fault → Type 0) (old new : Option (List Mark))
     → choice_of (head_path q.head) ≡ c
     → Extracts (λ m rest n x. MeansChoice c q m rest n x) gives old new
     → Extracts (λ m rest n x. MeansPicked q m rest n x) gives old new
-extracts_choice q c gives old new e h = rw e h
+extracts_choice q c gives old new e h =
+    extracts_chosen (λ d m rest n x. MeansChoice d q m rest n x) (choice_of (head_path q.head)) c gives old new e h
+
+-- what is picked of a value that is held
+pub held_now : {T E : Type 0} (value : T → Picked) (converts : E → Fault → Type 0) (held : Option (Result T E))
+    (y : Result T E) (x : Result Picked Fault) → held ≡ Some y → ConvertsResult (λ v w. w ≡ value v) converts y x
+    → (n : ℕ) (z : Result Picked Fault) → GivesHeld (Some x) n z
+    → GivesConverted (λ v w. w ≡ value v) converts (GivesHeld held) n z
+held_now value converts held y x is c n z g = (y, rw is (g.0, refl), rw g.1 c)
 
 -- one delay and one result for a request and its marks
 pub picked_only : (q : DemoRequest) (m rest : List Mark)

@@ -4,13 +4,16 @@ use Rattle.std.specs.Prelude.{Result, Ok, Err}
 use Rattle.web_request.specs.declared.source.Mark.{Mark}
 use Rattle.web_reply.specs.Replies.{Fault}
 use Rattle.web_extract.specs.ArgumentLists.{Gives, Joins2, nested3}
-use Rattle.web_extract.specs.CollectedResults.{One, collected2, map_value}
+use Rattle.web_extract.specs.CappedArguments.{GivesCapped, as_capped, wrapped}
+use Rattle.web_extract.specs.CollectedResults.{collected2, map_value}
 use Rattle.web_extract.specs.ConvertedFutures.{ConvertsResult, GivesConvertedBy, converted_result}
-use Rattle.web_extract.specs.ListResults.{DelayedResult, Exactly, list1, list2, list3}
-use Rattle.web_extract.specs.ListMeanings.{Meaning, Means1, Means2, Means3}
+use Rattle.web_extract.specs.ListResults.{DelayedResult, Exactly, list2, list3, with_value}
+use Rattle.web_extract.specs.declared.capped_argument.Capped.{Capped}
+use Rattle.web_extract.specs.ListMeanings.{Meaning, Means2, Means3}
 use Rattle.web_extract.proofs.ConvertedFuturesLemmas.{GivesOnly}
-use Rattle.web_extract.proofs.HandedMarksLemmas.{decides1, decides2, decides3}
-use Rattle.web_demo_picked.specs.ArgumentMeanings.{InList, same_fault}
+use Rattle.web_extract.proofs.HandedMarksLemmas.{decides2, decides3}
+use Rattle.web_demo_picked.specs.ArgumentMeanings.{InList}
+use Rattle.web_demo_picked.specs.Picking.{same_fault}
 use Rattle.web_demo_picked.specs.BodyArguments.{Alone}
 
 -- Of each list of marks the argument leaves these, and its result, seen by f, is this one.
@@ -30,6 +33,19 @@ SeenAlone {T} {E} f error means rest a =
 pub converted_same : {T : Type 0} (r : Result T Fault) → converted_result (λ v. v) same_fault r ≡ r
 converted_same (Ok v) = refl
 converted_same (Err e) = refl
+
+wrapped_value : {T : Type 0} {cap : ℕ} (y : Result T Fault)
+    → converted_result (λ v. v) same_fault (wrapped {cap = cap} y) ≡ map_value as_capped (converted_result (λ v. v) same_fault y)
+wrapped_value (Ok v) = refl
+wrapped_value (Err e) = refl
+
+-- an argument under a limit of its own
+pub capped_alone : {T : Type 0} (cap : ℕ) (means : Alone T Fault) (rest : List Mark → List Mark) (a : List Mark → DelayedResult T)
+    → SeenAlone (λ v. v) same_fault means rest a
+    → SeenAlone {T = Capped T cap} (λ v. v) same_fault (λ m left. GivesCapped (means m left)) rest (λ m. with_value as_capped (a m))
+capped_alone cap means rest a seen m left n x h =
+    let once = seen m left n h.0 h.1 in
+    (once.0, once.1, ap (converted_result (λ v. v) same_fault) h.2 ∙ wrapped_value h.0 ∙ ap (map_value as_capped) once.2)
 
 -- the rest and the result, as a meaning
 abbrev As : {V : Type 0} → (List Mark → List Mark) → (List Mark → DelayedResult V) → Meaning V
@@ -72,19 +88,6 @@ module _ {T U V W : Type 0} (f : T → V) (g : U → W)
     delay = j.delay;
     result = ap (map_value (λ v. (f v.0, g v.1))) j.result ∙ collected_seen f g j.x1 j.x2;
   }
-
-module _ {T V : Type 0} (f : T → V) (first : Meaning T)
-    (rest : List Mark → List Mark) (a : List Mark → DelayedResult V) (seen : Seen f first rest a) where
-  alone_as : (m left : List Mark) (n : ℕ) (x : Result (One T) Fault) → Means1 first m left n x
-      → Means1 (As rest a) m left n (map_value (λ v. record { 0 = f v.0 }) x)
-  alone_as m left n (Ok v) h = seen m left n (Ok v.0) h
-  alone_as m left n (Err e) h = seen m left n (Err e) h
-
-  -- a list of one
-  pub alone_seen : Seen (λ v. record { 0 = f v.0 }) (Means1 first) rest (λ m. list1 (a m))
-  alone_seen m left n x h =
-      (decides1 (As rest a) m (rest m) (a m) (exactly rest a m) left n (map_value (λ v. record { 0 = f v.0 }) x)).0
-      (alone_as m left n x h)
 
 module _ {T U V W : Type 0} (f : T → V) (g : U → W) (first : Meaning T) (second : Meaning U)
     (rest1 rest2 : List Mark → List Mark)

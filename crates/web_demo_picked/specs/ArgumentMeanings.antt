@@ -1,6 +1,6 @@
 -- What the demo's arguments mean, alone and in lists.
 use Rattle.std.specs.Prelude.{◌≡◌, ℕ, List, Option, None, Some, Result, Ok, Err, String}
-use Rattle.std.specs.Prelude.{codes, refl}
+use Rattle.std.specs.Prelude.{codes}
 use Rattle.std.specs.Global.{Global}
 use Rattle.std.specs.Option.{option_map}
 use Rattle.web_texts.specs.MediaTypes.{MediaType}
@@ -11,25 +11,23 @@ use Rattle.web_texts.specs.declared.text.Pair.{Pair}
 use Rattle.web_headers.specs.ListHeaders.{accept_of}
 use Rattle.web_headers.specs.declared.accept_header.Accept.{Accept}
 use Rattle.web_request.specs.declared.source.Mark.{Mark}
-use Rattle.web_request.specs.Request.{Record}
-use Rattle.web_reply.specs.declared.cause.Cause.TheVariants.{Io, Parse}
-use Rattle.web_reply.specs.declared.cause.IoKind.TheVariants.{Other}
+use Rattle.web_request.specs.Connections.{Connection, connection_of}
+use Rattle.web_request.specs.KeptValues.{CookiesSaid, known_cookies}
+use Rattle.web_request.specs.Request.{Record, record_of}
+use Rattle.web_reply.specs.declared.cause.Cause.TheVariants.{Parse}
 use Rattle.web_reply.specs.Replies.{Fault, fault_of}
-use Rattle.web_extract.specs.CollectedResults.{One}
 use Rattle.web_extract.specs.DataArguments.{data_result, request_data_result}
 use Rattle.web_extract.specs.Extracts.{AllowsSome}
 use Rattle.web_extract.specs.HeadArguments.{AllowsNow, IsRequest, MeansNow, immediate, now_some}
 use Rattle.web_extract.specs.HeadArguments.{request_some}
-use Rattle.web_extract.specs.ListMeanings.{Meaning, Means1, Means2, Means3, Member}
+use Rattle.web_extract.specs.ListMeanings.{Meaning, Means2, Means3, Member}
 use Rattle.web_extract.specs.ListResults.{DelayedResult, list2, list3}
 use Rattle.web_extract.specs.OptionArgument.{GivesOption, means_option_some}
 use Rattle.web_extract.specs.ResultArgument.{GivesResult, means_result_some}
-use Rattle.web_extract.specs.SomeAnswer.{itself, means1_some, means2_some, means3_some, member_some}
+use Rattle.web_extract.specs.SomeAnswer.{itself, means2_some, means3_some, member_some}
 use Rattle.web_extract.specs.declared.never.Never.{Never}
 use Rattle.web_arguments.specs.HeaderArgument.{MeansHeader, header_some, request_values}
 use Rattle.web_arguments.specs.declared.header_argument.Header.{Header}
-use Rattle.web_types.specs.EitherArgument.{ConvertsEither, either_converted}
-use Rattle.web_types.specs.declared.either.EitherExtractError.{EitherExtractError}
 use Rattle.web_types.specs.declared.json_value.Json.{Json}
 use Rattle.web_demo_layers.specs.declared.app.DemoConn.{DemoConn}
 use Rattle.web_demo_layers.specs.declared.app.DemoLocal.{DemoLocal}
@@ -40,49 +38,19 @@ use Rattle.web_demo_picked.specs.BodyArguments.{text_result, text_some}
 use Rattle.web_demo_layers.specs.DemoRequests.{DemoRequest}
 use Rattle.web_demo_picked.specs.ItemArguments.{MeansJsonItem, json_item_rest, json_item_result}
 use Rattle.web_demo_picked.specs.ItemArguments.{json_item_some}
+use Rattle.web_demo_picked.specs.Picking.{By, converted_by, never_fault, same_fault}
 use Rattle.web_demo_arguments.specs.LateAndWait.{MeansLate, delay_in, late_result, late_some}
 use Rattle.web_demo_arguments.specs.declared.late.Late.{Late}
-
--- the errors that refusals convert to
-abbrev pub same_fault : Fault → Fault
-same_fault e = e
-
-abbrev pub never_fault : Never → Fault
-never_fault e = fault_of (Io Other)
-
-abbrev pub parse_fault : ParseError → Fault
-parse_fault e = fault_of (Parse e)
-
--- a refusal converts to the error that a function gives
-abbrev pub By : {E : Type 0} → (E → Fault) → E → Fault → Type 0
-By error e f = f ≡ error e
-
-pub converted_by : {E : Type 0} (error : E → Fault) (e : E) → (f : Fault) × By error e f
-converted_by error e = (error e, refl)
-
--- the refusal of the body, or that of the left argument
-abbrev pub ByEither : EitherExtractError Fault Fault → Fault → Type 0
-ByEither = ConvertsEither (By same_fault)
-
-pub converted_by_either : (e : EitherExtractError Fault Fault) → (f : Fault) × ByEither e f
-converted_by_either = either_converted (By same_fault) itself
 
 -- an argument as a place of a list
 abbrev pub InList : {T E : Type 0} → (E → Fault → Type 0) → Alone T E → Meaning T
 InList converts means = Member converts means
-
--- a list of one argument
-abbrev pub ListOfOne : {T E : Type 0} → (E → Fault → Type 0) → Alone T E → Meaning (One T)
-ListOfOne converts means = Means1 (InList converts means)
 
 module _ {T E : Type 0} (converts : E → Fault → Type 0)
     (converted : (e : E) → (f : Fault) × converts e f) (means : Alone T E)
     (some : (m : List Mark) → AllowsSome (means m)) where
   pub in_list_some : (m : List Mark) → AllowsSome (InList converts means m)
   in_list_some = member_some converts converted means some
-
-  pub list_of_one_some : (m : List Mark) → AllowsSome (ListOfOne converts means m)
-  list_of_one_some = means1_some (InList converts means) in_list_some
 
 -- the header Accept
 
@@ -199,3 +167,25 @@ item_or_refusal_some q m =
 -- the result as a value
 abbrev pub as_value : {T : Type 0} → DelayedResult T → DelayedResult (Result T Fault)
 as_value v = record { delay = v.delay; result = Ok v.result }
+
+-- where the request came from and was sent to
+
+abbrev pub demo_connection : DemoRequest → Connection
+demo_connection q = connection_of q.head q.config
+
+abbrev pub MeansWho : DemoRequest → Alone Connection Never
+MeansWho q = MeansNow (Ok (demo_connection q))
+
+pub who_some : (q : DemoRequest) (m : List Mark) → AllowsSome (MeansWho q m)
+who_some q = now_some (Ok (demo_connection q))
+
+abbrev pub who_result : DemoRequest → DelayedResult Connection
+who_result q = immediate (Ok (demo_connection q))
+
+-- what the head says of cookies
+
+abbrev pub demo_cookies : DemoRequest → CookiesSaid
+demo_cookies q = known_cookies (record_of q)
+
+abbrev pub cookies_result : DemoRequest → DelayedResult CookiesSaid
+cookies_result q = immediate (Ok (demo_cookies q))

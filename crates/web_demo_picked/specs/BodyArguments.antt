@@ -7,11 +7,14 @@ use Rattle.web_body.specs.PayloadSettings.{PayloadSettings}
 use Rattle.web_body.specs.declared.payload.Payload.{Payload}
 use Rattle.web_reply.specs.Replies.{Fault}
 use Rattle.web_extract.specs.BytesArgument.{MeansBytes, bytes_rest, bytes_result, bytes_some}
+use Rattle.web_extract.specs.CappedArguments.{GivesCapped, as_capped, capped_settings}
+use Rattle.web_extract.specs.CappedArguments.{means_capped_some}
 use Rattle.web_extract.specs.DataArguments.{internal_error}
 use Rattle.web_extract.specs.Extracts.{AllowsSome}
 use Rattle.web_extract.specs.LayerConfigurations.{payload_settings}
-use Rattle.web_extract.specs.ListResults.{DelayedResult}
+use Rattle.web_extract.specs.ListResults.{DelayedResult, with_value}
 use Rattle.web_extract.specs.PayloadArgument.{MeansPayload, payload_some}
+use Rattle.web_extract.specs.declared.capped_argument.Capped.{Capped}
 use Rattle.web_extract.specs.StringArgument.{MeansString, string_rest, string_result, string_some}
 use Rattle.web_demo_layers.specs.DemoLayers.{demo_configurations}
 use Rattle.web_demo_layers.specs.DemoRequests.{DemoRequest}
@@ -48,6 +51,27 @@ text_rest q m = string_rest (settings_of q) q.head.headers m
 
 abbrev pub text_result : DemoRequest → List Mark → DelayedResult (List ℕ)
 text_result q m = string_result (settings_of q) q.head.headers m
+
+-- the whole body, of at most 4 bytes
+
+abbrev pub capped_settings_of : DemoRequest → PayloadSettings
+capped_settings_of q = capped_settings 4 (settings_of q)
+
+abbrev pub MeansCapped : DemoRequest → Alone (Capped (List ℕ) 4) Fault
+MeansCapped q m rest n x =
+    GivesCapped (MeansBytes (capped_settings_of q) q.head.headers m rest) n x
+
+pub capped_some : (q : DemoRequest) (m : List Mark) → AllowsSome (MeansCapped q m)
+capped_some q m =
+    means_capped_some (MeansBytes (capped_settings_of q) q.head.headers m)
+    (bytes_some (capped_settings_of q) q.head.headers m)
+
+abbrev pub capped_rest : DemoRequest → List Mark → List Mark
+capped_rest q m = bytes_rest (capped_settings_of q) q.head.headers m
+
+abbrev pub capped_result : DemoRequest → List Mark → DelayedResult (Capped (List ℕ) 4)
+capped_result q m =
+    with_value as_capped (bytes_result (capped_settings_of q) q.head.headers m)
 
 -- the body, unread
 

@@ -8,14 +8,17 @@ use Rattle.web_values.specs.DecodedForms.{PairReader}
 use Rattle.web_values.specs.DecodedJson.{JsonReader}
 use Rattle.web_values.specs.FormPairs.{form_pairs}
 use Rattle.web_reply.specs.Replies.{Fault}
+use Rattle.web_extract.specs.CappedArguments.{GivesCapped, as_capped, means_capped_some}
 use Rattle.web_extract.specs.Extracts.{AllowsSome}
 use Rattle.web_extract.specs.LayerConfigurations.{form_settings, json_settings, path_settings}
 use Rattle.web_extract.specs.LayerConfigurations.{query_settings}
-use Rattle.web_extract.specs.ListResults.{DelayedResult}
+use Rattle.web_extract.specs.ListResults.{DelayedResult, with_value}
 use Rattle.web_extract.specs.Refusals.{Handler}
+use Rattle.web_extract.specs.declared.capped_argument.Capped.{Capped}
 use Rattle.web_types.specs.EitherArgument.{MeansEither, either_result, either_some}
 use Rattle.web_types.specs.FormArgument.{MeansForm, form_rest, form_result, form_some}
-use Rattle.web_types.specs.JsonArgument.{MeansJson, json_rest, json_result, json_some}
+use Rattle.web_types.specs.JsonArgument.{MeansJson, capped_json, json_rest, json_result}
+use Rattle.web_types.specs.JsonArgument.{json_some}
 use Rattle.web_types.specs.declared.either.Either.{Either}
 use Rattle.web_types.specs.declared.either.EitherExtractError.{EitherExtractError}
 use Rattle.web_types.specs.declared.form_value.Form.{Form}
@@ -69,6 +72,30 @@ json_item_rest q m =
 abbrev pub json_item_result : DemoRequest → List Mark → DelayedResult (Json Item)
 json_item_result q m =
     json_result (json_settings_of q) json_teapot is_vendor_type item_of_json q.head m
+
+-- of a JSON body of at most 16 bytes
+
+abbrev pub capped_json_settings : DemoRequest → JsonSettings Teapot VendorType
+capped_json_settings q = capped_json 16 (json_settings_of q)
+
+abbrev pub MeansCappedItem : DemoRequest → Alone (Capped (Json Item) 16) Fault
+MeansCappedItem q m rest n x =
+    GivesCapped (MeansJson (capped_json_settings q) (ByHandler json_teapot) IsVendorType
+    ItemOfJson q.head m rest) n x
+
+pub capped_item_some : (q : DemoRequest) (m : List Mark) → AllowsSome (MeansCappedItem q m)
+capped_item_some q m =
+    means_capped_some (MeansJson (capped_json_settings q) (ByHandler json_teapot) IsVendorType
+    ItemOfJson q.head m) (json_some (capped_json_settings q) (ByHandler json_teapot)
+    IsVendorType ItemOfJson q.head m)
+
+abbrev pub capped_item_rest : DemoRequest → List Mark → List Mark
+capped_item_rest q m =
+    json_rest (capped_json_settings q) json_teapot is_vendor_type item_of_json q.head m
+
+abbrev pub capped_item_result : DemoRequest → List Mark → DelayedResult (Capped (Json Item) 16)
+capped_item_result q m = with_value as_capped
+    (json_result (capped_json_settings q) json_teapot is_vendor_type item_of_json q.head m)
 
 -- of a form
 

@@ -3,4 +3,4 @@ pub mod BodyArguments
 pub mod BoxedFutures
 pub mod ItemArguments
 pub mod PickedArguments
-pub mod ServiceArguments
+pub mod Picking

@@ -6,19 +6,22 @@ ghost use Rattle.web_demo_picked.specs.BoxedFutures.{GivesOrAll, GivesWithin};
 ghost use Rattle.web_demo_picked.specs.PickedArguments.{MeansDecoded};
 
 use crate::boxed_future::BoxedFuture;
-use crate::picked::{FutureOf, Picked};
+use crate::picked::Picked;
+use crate::picked_future::{FutureOf, begin};
 use bytes::Bytes;
 use std::alloc::Global;
 use web_body::{Marks, Payload, Poll, Step};
 use web_demo_arguments::DecodedChoice;
 use web_demo_layers::{Demo, Item};
 use web_extract::EitherFuture::{Left, Right};
-use web_extract::{EitherFuture, from_request_into};
+use web_extract::{Capped, EitherFuture};
 use web_reply::Error;
 use web_request::{HttpRequest, NoMemory};
 use web_types::{Either, Form, Json};
 
-type JsonOrForm = EitherFuture<FutureOf<(Json<Item>,)>, FutureOf<(Form<Item>,)>>;
+type CappedOrForm = EitherFuture<FutureOf<Capped<Json<Item>, 16>>, FutureOf<Form<Item>>>;
+
+type JsonOrForm = EitherFuture<FutureOf<Json<Item>>, CappedOrForm>;
 
 /// The future of an item of the body, in memory of its own.
 #[derive(Drop)]
@@ -66,7 +69,7 @@ impl Poll for ItemFuture {
     }
 }
 
-type JsonElseForm = FutureOf<(Either<Json<Item>, Form<Item>>,)>;
+type JsonElseForm = FutureOf<Either<Json<Item>, Form<Item>>>;
 
 /// The future of an item of the body as JSON, and where that is refused as a form, in memory of its
 /// own.
@@ -118,7 +121,7 @@ impl Poll for EitherItemFuture {
 
 type OptionOrResult = EitherFuture<
     FutureOf<(Option<Json<Item>>, Bytes)>,
-    FutureOf<(Result<Json<Item>, Error>,)>,
+    FutureOf<Result<Json<Item>, Error>>,
 >;
 
 /// The future of an item that may be refused, in memory of its own.
@@ -191,36 +194,27 @@ pub(crate) fn decoded_future(
 {
     match choice {
         DecodedChoice::Json => {
-            let future = from_request_into::<Demo, (Json<Item>,), Picked, Error>(
-                alloc, req, payload,
-            )?;
+            let future = begin::<Json<Item>>(alloc, req, payload)?;
             Ok(Left(ItemFuture::new(alloc, Left(future))?))
         }
+        DecodedChoice::CappedJson => {
+            let future = begin::<Capped<Json<Item>, 16>>(alloc, req, payload)?;
+            Ok(Left(ItemFuture::new(alloc, Right(Left(future)))?))
+        }
         DecodedChoice::Form => {
-            let future = from_request_into::<Demo, (Form<Item>,), Picked, Error>(
-                alloc, req, payload,
-            )?;
-            Ok(Left(ItemFuture::new(alloc, Right(future))?))
+            let future = begin::<Form<Item>>(alloc, req, payload)?;
+            Ok(Left(ItemFuture::new(alloc, Right(Right(future)))?))
         }
         DecodedChoice::Either => {
-            let future = from_request_into::<
-                Demo,
-                (Either<Json<Item>, Form<Item>>,),
-                Picked,
-                Error,
-            >(alloc, req, payload)?;
+            let future = begin::<Either<Json<Item>, Form<Item>>>(alloc, req, payload)?;
             Ok(Right(Left(EitherItemFuture::new(alloc, future)?)))
         }
         DecodedChoice::Option => {
-            let future = from_request_into::<Demo, (Option<Json<Item>>, Bytes), Picked, Error>(
-                alloc, req, payload,
-            )?;
+            let future = begin::<(Option<Json<Item>>, Bytes)>(alloc, req, payload)?;
             Ok(Right(Right(OptionalFuture::new(alloc, Left(future))?)))
         }
         DecodedChoice::Result => {
-            let future = from_request_into::<Demo, (Result<Json<Item>, Error>,), Picked, Error>(
-                alloc, req, payload,
-            )?;
+            let future = begin::<Result<Json<Item>, Error>>(alloc, req, payload)?;
             Ok(Right(Right(OptionalFuture::new(alloc, Right(future))?)))
         }
     }

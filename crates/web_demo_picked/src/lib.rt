@@ -3,13 +3,14 @@
 
 mod boxed_future;
 mod decoded;
-mod immediate;
+mod lists;
 mod picked;
-mod picked_from;
-mod service;
+mod picked_future;
+mod ready;
+mod segments;
 
 pub use boxed_future::BoxedFuture;
 pub use decoded::{DecodedFuture, EitherItemFuture, ItemFuture, OptionalFuture};
-pub use immediate::{DataFuture, HeaderFuture, ImmediateFuture, ReadFuture};
+pub use lists::{DataFuture, LinesFuture};
 pub use picked::{Picked, PickedFuture, picked_law};
-pub use service::{ConnectionFuture, LinesFuture, ServiceFuture};
+pub use picked_future::{FutureOf, IntoPicked};

@@ -6,8 +6,9 @@ ghost use Rattle.web_demo_layers.specs.DemoRequests.{DemoRequest};
 ghost use Rattle.web_demo_picked.specs.PickedArguments.{MeansPicked, picked_delay, picked_result};
 
 use crate::decoded::{DecodedFuture, decoded_future};
-use crate::immediate::{ImmediateFuture, immediate_future};
-use crate::service::{ServiceFuture, service_future};
+use crate::lists::{DataFuture, LinesFuture, data_future, lines_future};
+use crate::picked_future::{FutureOf, begin};
+use crate::ready::{head_future, read_future};
 use bytes::Bytes;
 use std::alloc::Global;
 use web_arguments::{Header, Path, Query};
@@ -17,7 +18,7 @@ use web_demo_arguments::{
 };
 use web_demo_layers::{Demo, Item};
 use web_extract::EitherFuture::{Left, Right};
-use web_extract::{EitherFuture, FromRequest, MapInto, from_request_into};
+use web_extract::{Capped, EitherFuture, FromRequest, Ready};
 use web_headers::Accept;
 use web_reply::Error;
 use web_request::{ConnectionInfo, HttpRequest, NoMemory};
@@ -33,6 +34,10 @@ pub enum Picked {
     Text(Text),
     /// Of `/json`: the body as JSON.
     Json(Json<Item>),
+    /// Of `/capped`: the body, of at most 4 bytes.
+    Capped(Capped<Bytes, 4>),
+    /// Of `/capped-json`: the body as JSON, of at most 16 bytes.
+    CappedJson(Capped<Json<Item>, 16>),
     /// Of `/form`: the body as a form.
     Form(Form<Item>),
     /// Of `/either`: the body as JSON, and where that is refused as a form.
@@ -65,16 +70,16 @@ pub enum Picked {
     Other,
 }
 
-/// The future of one choice.
-pub(crate) type FutureOf<T> = MapInto<<T as FromRequest<Demo>>::Future, Picked, Error>;
-
 /// The future of the arguments that were chosen.
 pub type PickedFuture = EitherFuture<
     EitherFuture<
-        EitherFuture<FutureOf<(Bytes,)>, FutureOf<(String,)>>,
-        EitherFuture<FutureOf<(String, Late)>, EitherFuture<FutureOf<Wait>, FutureOf<()>>>,
+        EitherFuture<FutureOf<Bytes>, FutureOf<String>>,
+        EitherFuture<FutureOf<(String, Late)>, FutureOf<Capped<Bytes, 4>>>,
     >,
-    EitherFuture<DecodedFuture, EitherFuture<ImmediateFuture, ServiceFuture>>,
+    EitherFuture<
+        EitherFuture<Ready<Result<Picked, Error>>, DecodedFuture>,
+        EitherFuture<DataFuture, LinesFuture>,
+    >,
 >;
 
 /// The arguments that the first segment of the path asks for, and no others.
@@ -101,40 +106,26 @@ impl FromRequest<Demo> for Picked {
         payload: &mut Payload<Marks>,
     ) -> Result<PickedFuture, NoMemory> {
         match choice_of(req.path()) {
-            Choice::Bytes => {
-                let future = from_request_into::<Demo, (Bytes,), Picked, Error>(
-                    alloc, req, payload,
-                )?;
-                Ok(Left(Left(Left(future))))
+            Choice::Bytes => Ok(Left(Left(Left(begin::<Bytes>(alloc, req, payload)?)))),
+            Choice::Text => Ok(Left(Left(Right(begin::<String>(alloc, req, payload)?)))),
+            Choice::Both => Ok(Left(Right(Left(begin::<(String, Late)>(alloc, req, payload)?)))),
+            Choice::Capped => {
+                let future = begin::<Capped<Bytes, 4>>(alloc, req, payload)?;
+                Ok(Left(Right(Right(future))))
             }
-            Choice::Text => {
-                let future = from_request_into::<Demo, (String,), Picked, Error>(
-                    alloc, req, payload,
-                )?;
-                Ok(Left(Left(Right(future))))
+            Choice::Data => Ok(Right(Right(Left(data_future(alloc, req, payload)?)))),
+            Choice::Lines => Ok(Right(Right(Right(lines_future(alloc, req, payload)?)))),
+            Choice::Decoded(choice) => {
+                let future = decoded_future(alloc, req, payload, choice)?;
+                Ok(Right(Left(Right(future))))
             }
-            Choice::Both => {
-                let future = from_request_into::<Demo, (String, Late), Picked, Error>(
-                    alloc, req, payload,
-                )?;
-                Ok(Left(Right(Left(future))))
+            Choice::Read(choice) => {
+                let future = read_future(alloc, req, payload, choice)?;
+                Ok(Right(Left(Left(future))))
             }
-            Choice::Wait => {
-                let future = from_request_into::<Demo, Wait, Picked, Error>(alloc, req, payload)?;
-                Ok(Left(Right(Right(Left(future)))))
-            }
-            Choice::Decoded(choice) => Ok(Right(Left(decoded_future(
-                alloc, req, payload, choice,
-            )?))),
-            Choice::Immediate(choice) => Ok(Right(Right(Left(immediate_future(
-                alloc, req, payload, choice,
-            )?)))),
-            Choice::Service(choice) => Ok(Right(Right(Right(service_future(
-                alloc, req, payload, choice,
-            )?)))),
-            Choice::Other => {
-                let future = from_request_into::<Demo, (), Picked, Error>(alloc, req, payload)?;
-                Ok(Left(Right(Right(Right(future)))))
+            Choice::Head(choice) => {
+                let future = head_future(alloc, req, payload, choice)?;
+                Ok(Right(Left(Left(future))))
             }
         }
     }

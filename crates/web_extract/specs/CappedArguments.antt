@@ -12,9 +12,12 @@ use Rattle.web_extract.specs.declared.capped_argument.Capped.{Capped}
 abbrev pub capped_settings : ℕ → PayloadSettings → PayloadSettings
 capped_settings cap settings = record settings { limit = min settings.limit cap }
 
+abbrev pub as_capped : {T : Type 0} {cap : ℕ} → T → Capped T cap
+as_capped v = record { 0 = v }
+
 -- the same result with its value wrapped
 abbrev pub wrapped : {T E : Type 0} {cap : ℕ} → Result T E → Result (Capped T cap) E
-wrapped (Ok v) = Ok (record { 0 = v })
+wrapped (Ok v) = Ok (as_capped v)
 wrapped (Err e) = Err e
 
 module _ {T E : Type 0} {cap : ℕ} where
@@ -27,7 +30,8 @@ module _ {T E : Type 0} {cap : ℕ} where
   WrapsStep (Ready y) t = t ≡ Ready (wrapped y)
   WrapsStep NoMemory t = t ≡ NoMemory
 
-  pub capped_some : (gives : ℕ → Result T E → Type 0) → GivesSome gives → GivesSome (GivesCapped gives)
+  pub capped_some : (gives : ℕ → Result T E → Type 0) → GivesSome gives
+      → GivesSome (GivesCapped gives)
   capped_some gives some none = some (λ n y h. none n (wrapped y) (y, h, refl))
 
   pub means_capped_some : (means : List Mark → ℕ → Result T E → Type 0)

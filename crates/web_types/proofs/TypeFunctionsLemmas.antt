@@ -134,7 +134,7 @@ module _ {H P T : Type 0} (settings : JsonSettings H P) (refuses : Handler H Jso
   abbrev is_read : Bool
   is_read = reads_type allowed settings.predicate settings.type_required head.headers
 
-  json_to : (left : List Mark) (n : ℕ) (x : Result _ Fault) → MeansJson settings refuses allows reads head m left n x
+  pub json_to : (left : List Mark) (n : ℕ) (x : Result _ Fault) → MeansJson settings refuses allows reads head m left n x
       → (left ≡ json_rest settings answer allowed read head m)
       × (n ≡ (json_result settings answer allowed read head m).delay)
       × (x ≡ (json_result settings answer allowed read head m).result)

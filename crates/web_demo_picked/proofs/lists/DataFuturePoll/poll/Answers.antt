@@ -1,4 +1,4 @@
-use Rattle.web_demo_picked.proofs.service.LinesFuturePoll.poll.Goals as goal
+use Rattle.web_demo_picked.proofs.lists.DataFuturePoll.poll.Goals as goal
 
 pub returns-clause-value : goal.returns-clause-value
 returns-clause-value c = c.poll.ensures.value

@@ -3,10 +3,10 @@ use Rattle.web_texts.specs.MediaTypeTexts.{media_type_text}
 use Rattle.web_headers.specs.PrintedLists.{comma_joined}
 use Rattle.web_negotiate.specs.MediaChoices.{media_rank}
 use Rattle.web_negotiate.proofs.RankedLemmas.{ranking_only}
-use Rattle.web_demo.proofs.texts.accept_text.Goals as goal
+use Rattle.web_demo.proofs.texts.HeaderPlainText.plain_text.Goals as goal
 
 pub returns : goal.returns
 returns c =
     c.from.ensures ∙ c.in_ok-to_string.ensures.ok
     ∙ ap (comma_joined media_type_text)
-    (ranking_only media_rank c.args.header.now.0.0 _ c.in_ok-ranked.ensures)
+    (ranking_only media_rank c.args.self.now.0.0 _ c.in_ok-ranked.ensures)
