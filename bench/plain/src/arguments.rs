@@ -6,7 +6,7 @@ use crate::cookies;
 use crate::item::Item;
 use crate::lines::Lines;
 use crate::pairs::{FormPairs, PathPairs};
-use crate::reply::Refusal;
+use crate::reply::{Refusal, collected};
 use crate::request::{Request, Segment};
 use crate::script::Mark;
 use std::borrow::Cow;
@@ -66,8 +66,9 @@ pub enum Arguments<'a> {
 /// A text body and an argument that comes late, both on their way.
 pub struct Both<'a> {
     collector: Collector<'a, WholeText>,
-    text: Option<Cow<'a, [u8]>>,
+    text: Option<Result<Cow<'a, [u8]>, Refusal>>,
     late: Late,
+    came: Option<Result<(), Refusal>>,
 }
 
 /// An item or none, and the bytes that it leaves, both on their way.
@@ -75,7 +76,7 @@ pub struct OptionAndBytes<'a> {
     json: Collector<'a, JsonItem>,
     item: Option<Option<Item<'a>>>,
     bytes: Collector<'a, WholeBytes>,
-    length: Option<usize>,
+    length: Option<Result<usize, Refusal>>,
 }
 
 impl<'a> Arguments<'a> {
@@ -88,7 +89,10 @@ impl<'a> Arguments<'a> {
                 collector: Collector::of(request, marks),
                 text: None,
                 late: Late::of(request),
+                came: None,
             })),
+            Segment::Capped => Arguments::Bytes(Collector::capped(request, marks, 4)),
+            Segment::CappedJson => Arguments::Json(Collector::capped(request, marks, 16)),
             Segment::Json => Arguments::Json(Collector::of(request, marks)),
             Segment::Form => Arguments::Form(Collector::of(request, marks)),
             Segment::Either => Arguments::Either(Collector::of(request, marks)),
@@ -170,10 +174,12 @@ fn data<'a>(request: &Request<'a>) -> Answer<'a> {
     const NO_LAYER: &str = "Requested application data is not configured correctly. \
                             View/enable debug logs for more details.";
     const NO_LOCAL: &str = "Missing expected request extension data";
-    let layer = request.layers.number();
+    let layer = request.layers.number().ok_or(Refusal::of(500, NO_LAYER));
+    let local = request.local.ok_or(Refusal::of(500, NO_LOCAL));
+    let (layer, local) = collected(layer, local)?;
     Ok(Picked::Data(Data {
-        layer: layer.ok_or(Refusal::of(500, NO_LAYER))?,
-        local: request.local.ok_or(Refusal::of(500, NO_LOCAL))?,
+        layer,
+        local,
         connection: request.connection,
     }))
 }
@@ -203,20 +209,18 @@ fn either_of<'a>(request: &Request<'_>, body: &'a [u8]) -> Answer<'a> {
 impl<'a> Both<'a> {
     fn poll(&mut self) -> Option<Result<Cow<'a, [u8]>, Refusal>> {
         if self.text.is_none() {
-            match self.collector.poll() {
-                Some(Ok(text)) => self.text = Some(text),
-                Some(Err(refusal)) => return Some(Err(refusal)),
-                None => {}
+            self.text = self.collector.poll();
+        }
+        if self.came.is_none() {
+            self.came = self.late.poll();
+        }
+        match (self.text.take(), self.came.take()) {
+            (Some(text), Some(came)) => Some(collected(text, came).map(|(text, ())| text)),
+            (text, came) => {
+                (self.text, self.came) = (text, came);
+                None
             }
         }
-        if !self.late.done {
-            match self.late.poll() {
-                Some(Ok(())) => self.late.done = true,
-                Some(Err(refusal)) => return Some(Err(refusal)),
-                None => return None,
-            }
-        }
-        self.text.take().map(Ok)
     }
 }
 
@@ -226,13 +230,15 @@ impl<'a> OptionAndBytes<'a> {
             self.item = self.json.poll().map(Result::ok);
         }
         if self.length.is_none() {
-            match self.bytes.poll() {
-                Some(Ok(body)) => self.length = Some(body.len()),
-                Some(Err(refusal)) => return Some(Err(refusal)),
-                None => return None,
+            self.length = self.bytes.poll().map(|body| body.map(|body| body.len()));
+        }
+        match (self.item.take(), self.length.take()) {
+            (Some(item), Some(length)) => Some(length.map(|length| Picked::Option(item, length))),
+            (item, length) => {
+                (self.item, self.length) = (item, length);
+                None
             }
         }
-        Some(Ok(Picked::Option(self.item.take()?, self.length?)))
     }
 }
 
@@ -240,7 +246,6 @@ impl<'a> OptionAndBytes<'a> {
 pub struct Late {
     left: u64,
     refusal: Option<u16>,
-    done: bool,
 }
 
 impl Late {
@@ -251,7 +256,6 @@ impl Late {
                 .number("refuse", 599)
                 .filter(|status| *status >= 400)
                 .map(|status| status as u16),
-            done: false,
         }
     }
 

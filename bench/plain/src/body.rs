@@ -63,8 +63,8 @@ impl<'a> Reading<'a> {
 pub trait Kind {
     type Value<'a>;
 
-    /// Tests the head. Where it refuses, says whether the marks are left to others.
-    fn begin(request: &Request<'_>) -> Result<Self, (Refusal, bool)>
+    /// Tests the head, under a limit of at most `cap`. Where it refuses, says whether the marks are left to others.
+    fn begin(request: &Request<'_>, cap: u64) -> Result<Self, (Refusal, bool)>
     where
         Self: Sized;
 
@@ -82,7 +82,12 @@ pub struct Collector<'a, K> {
 impl<'a, K: Kind> Collector<'a, K> {
     /// Takes the marks, where the head does not leave them.
     pub fn of(request: &Request<'_>, marks: &mut Vec<Mark<'a>>) -> Collector<'a, K> {
-        match K::begin(request) {
+        Collector::capped(request, marks, u64::MAX)
+    }
+
+    /// The same under a limit of at most `cap`.
+    pub fn capped(request: &Request<'_>, marks: &mut Vec<Mark<'a>>, cap: u64) -> Collector<'a, K> {
+        match K::begin(request, cap) {
             Ok(kind) => Collector {
                 reading: Reading::of(std::mem::take(marks), kind.limit()),
                 kind: Ok(kind),
@@ -112,7 +117,7 @@ pub fn of_whole<'a, K: Kind>(
     request: &Request<'_>,
     body: &'a [u8],
 ) -> Result<K::Value<'a>, Refusal> {
-    let kind = K::begin(request).map_err(|(refusal, _)| refusal)?;
+    let kind = K::begin(request, u64::MAX).map_err(|(refusal, _)| refusal)?;
     let length = body.len() as u64;
     kind.finish(if length > kind.limit() {
         Err(Unread::TooLong(length))
@@ -134,9 +139,9 @@ pub struct WholeBytes {
 impl Kind for WholeBytes {
     type Value<'a> = Cow<'a, [u8]>;
 
-    fn begin(request: &Request<'_>) -> Result<WholeBytes, (Refusal, bool)> {
+    fn begin(request: &Request<'_>, cap: u64) -> Result<WholeBytes, (Refusal, bool)> {
         test_type(request).map_err(|refusal| (refusal, true))?;
-        WholeBytes::of_length(request).map_err(|refusal| (refusal, false))
+        WholeBytes::of_length(request, cap).map_err(|refusal| (refusal, false))
     }
 
     fn limit(&self) -> u64 {
@@ -153,8 +158,8 @@ impl Kind for WholeBytes {
 
 impl WholeBytes {
     /// Tests the declared length, and that the body is not coded.
-    fn of_length(request: &Request<'_>) -> Result<WholeBytes, Refusal> {
-        let limit = request.layers.payload().limit;
+    fn of_length(request: &Request<'_>, cap: u64) -> Result<WholeBytes, Refusal> {
+        let limit = request.layers.payload().limit.min(cap);
         match request.headers.length() {
             Some(None) => return Err(Refusal::of(400, "payload length is unknown")),
             Some(Some(length)) if length > limit => return Err(Refusal::of(413, OVERFLOW)),
@@ -200,11 +205,11 @@ pub struct WholeText(WholeBytes);
 impl Kind for WholeText {
     type Value<'a> = Cow<'a, [u8]>;
 
-    fn begin(request: &Request<'_>) -> Result<WholeText, (Refusal, bool)> {
+    fn begin(request: &Request<'_>, cap: u64) -> Result<WholeText, (Refusal, bool)> {
         test_type(request)
             .and_then(|()| test_charset(request).map_err(|text| Refusal::of(400, text)))
             .map_err(|refusal| (refusal, true))?;
-        let bytes = WholeBytes::of_length(request).map_err(|refusal| (refusal, false))?;
+        let bytes = WholeBytes::of_length(request, cap).map_err(|refusal| (refusal, false))?;
         Ok(WholeText(bytes))
     }
 
@@ -227,8 +232,9 @@ pub struct JsonItem(JsonConfig);
 impl Kind for JsonItem {
     type Value<'a> = Item<'a>;
 
-    fn begin(request: &Request<'_>) -> Result<JsonItem, (Refusal, bool)> {
-        let config = request.layers.json();
+    fn begin(request: &Request<'_>, cap: u64) -> Result<JsonItem, (Refusal, bool)> {
+        let mut config = request.layers.json();
+        config.limit = config.limit.min(cap);
         let refuse = |refusal: Refusal, leaves| Err((refusal.handled(config.has_handler), leaves));
         if config.needs_type && !is_json(request, config.allows_vendor) {
             return refuse(Refusal::of(400, "Content type error"), true);
@@ -298,8 +304,9 @@ pub struct FormItem(FormConfig);
 impl Kind for FormItem {
     type Value<'a> = Item<'a>;
 
-    fn begin(request: &Request<'_>) -> Result<FormItem, (Refusal, bool)> {
-        let config = request.layers.form();
+    fn begin(request: &Request<'_>, cap: u64) -> Result<FormItem, (Refusal, bool)> {
+        let mut config = request.layers.form();
+        config.limit = config.limit.min(cap);
         let refuse = |refusal: Refusal, leaves| Err((refusal.handled(config.has_handler), leaves));
         if !is_form(request) {
             return refuse(Refusal::of(415, "Content type error."), true);

@@ -61,7 +61,10 @@ fn main() -> ExitCode {
 fn capacity(word: &str) -> Option<usize> {
     let digits = word.strip_prefix("--pool=")?;
     let is_number = digits.bytes().all(|digit| digit.is_ascii_digit());
-    digits.parse().ok().filter(|&number| is_number && number <= MOST_KEPT)
+    digits
+        .parse()
+        .ok()
+        .filter(|&number| is_number && number <= MOST_KEPT)
 }
 
 /// Reads a script, serves it and writes the replies.

@@ -24,6 +24,11 @@ impl Refusal {
         }
     }
 
+    /// This refusal and another one: the status of this one, and the texts of both, one a line.
+    pub fn and(self, other: Refusal) -> Refusal {
+        Refusal::owned(self.status, format!("{}\n{}", self.text, other.text))
+    }
+
     /// What the demo's handler makes of it, where there is one.
     pub fn handled(self, has_handler: bool) -> Refusal {
         Refusal {
@@ -43,6 +48,18 @@ pub enum Body<'a> {
     Whole(Cow<'a, [u8]>),
     /// A payload that nobody has read.
     Stream(Vec<Mark<'a>>),
+}
+
+/// Both values, or all refusals.
+pub fn collected<A, B>(
+    first: Result<A, Refusal>,
+    second: Result<B, Refusal>,
+) -> Result<(A, B), Refusal> {
+    match (first, second) {
+        (Ok(first), Ok(second)) => Ok((first, second)),
+        (Err(first), Err(second)) => Err(first.and(second)),
+        (Err(refusal), Ok(_)) | (Ok(_), Err(refusal)) => Err(refusal),
+    }
 }
 
 impl<'a> Reply<'a> {

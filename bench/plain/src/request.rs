@@ -39,6 +39,8 @@ pub enum Segment {
     Data,
     Cookies,
     Lines,
+    Capped,
+    CappedJson,
     Raw,
     Wait,
     Other,
@@ -106,6 +108,8 @@ impl Segment {
             b"who" => Segment::Who,
             b"cookies" => Segment::Cookies,
             b"lines" => Segment::Lines,
+            b"capped" => Segment::Capped,
+            b"capped-json" => Segment::CappedJson,
             _ => Segment::Other,
         }
     }
