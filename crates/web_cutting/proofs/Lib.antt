@@ -1,2 +1,4 @@
 pub mod CutReadingLemmas
 pub mod CutFreeLemmas
+mod CutValuesLemmas
+mod CutRepliesLemmas

@@ -1,5 +1,6 @@
 -- Arguments that do not depend on how the body is cut.
-use Rattle.std.specs.Prelude.{ℕ, List}
+use Rattle.std.specs.Prelude.{ℕ, List, length, ◌≤◌}
+use Rattle.web_request.specs.Body.{piece_bytes}
 use Rattle.web_request.specs.declared.source.Mark.{Mark}
 use Rattle.web_body.specs.Cuttings.{SameBody}
 
@@ -9,3 +10,10 @@ abbrev pub CutFree : {X : Type 0} → (List Mark → List Mark → ℕ → X →
 CutFree {X} means =
     (m n rest : List Mark) (d : ℕ) (x : X) → SameBody m n → means m rest d x
     → (left : List Mark) × (e : ℕ) × means n left e x × SameBody rest left
+
+-- the same of bodies of at most this many bytes
+abbrev pub CutFreeWithin : {X : Type 0}
+    → ℕ → (List Mark → List Mark → ℕ → X → Type 0) → Type 0
+CutFreeWithin {X} limit means =
+    (m n rest : List Mark) (d : ℕ) (x : X) → SameBody m n → length (piece_bytes m) ≤ limit
+    → means m rest d x → (left : List Mark) × (e : ℕ) × means n left e x × SameBody rest left

@@ -1,2 +1,3 @@
 pub mod CutFree
 pub mod CutDecoders
+pub mod CutReplies

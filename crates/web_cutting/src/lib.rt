@@ -1,8 +1,16 @@
-//! What arguments give does not depend on how the body is cut into pieces.
+//! Laws of bodies that are cut into pieces in more than one way.
 #![tactic(auto)]
 
 mod argument_cutting;
 mod decoder_cutting;
+mod head_cutting;
+mod list_cutting;
+mod reply_cutting;
+mod value_cutting;
 
-pub use argument_cutting::{argument_cutting_law, place_cutting_law};
+pub use argument_cutting::{argument_cutting_law, capped_cutting_law, place_cutting_law};
 pub use decoder_cutting::decoder_cutting_law;
+pub use head_cutting::{data_cutting_law, head_cutting_law, read_cutting_law};
+pub use list_cutting::list_cutting_law;
+pub use reply_cutting::reply_cutting_law;
+pub use value_cutting::{either_cutting_law, value_cutting_law};
