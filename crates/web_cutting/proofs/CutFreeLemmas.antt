@@ -116,33 +116,48 @@ one_cut first free m n rest d (Err e) same h = free m n rest d (Err e) same h
 pub two_cut : {A B : Type 0} (first : Meaning A) (second : Meaning B) → CutFree first → CutFree second → CutFree (Means2 first second)
 two_cut first second free1 free2 m n rest d x same (left, j) =
     let a = free1 m n left j.n1 j.x1 same j.first_gives in
-    let b = free2 left a.0 rest j.n2 j.x2 a.3 j.second_gives in
-    (b.0, max a.1 b.1, (a.0, record {
-      n1 = a.1;
-      x1 = j.x1;
-      first_gives = a.2;
-      n2 = b.1;
-      x2 = j.x2;
-      second_gives = b.2;
-      delay = refl;
-      result = j.result;
-    }), b.3)
+    let b = free2 left a.0 rest j.n2 j.x2 a.3 j.second_gives in (
+      b.0,
+      max a.1 b.1,
+      (
+        a.0,
+        record {
+          n1 = a.1;
+          x1 = j.x1;
+          first_gives = a.2;
+          n2 = b.1;
+          x2 = j.x2;
+          second_gives = b.2;
+          delay = refl;
+          result = j.result;
+        },
+      ),
+      b.3,
+    )
 
 pub three_cut : {A B C : Type 0} (first : Meaning A) (second : Meaning B) (third : Meaning C)
     → CutFree first → CutFree second → CutFree third → CutFree (Means3 first second third)
 three_cut first second third free1 free2 free3 m n rest d x same (left1, left2, j) =
     let a = free1 m n left1 j.n1 j.x1 same j.first_gives in
-    let b = two_cut second third free2 free3 left1 a.0 rest j.n2 j.x2 a.3 (left2, j.second_gives) in
-    (b.0, max a.1 b.1, (a.0, b.2.0, record {
-      n1 = a.1;
-      x1 = j.x1;
-      first_gives = a.2;
-      n2 = b.1;
-      x2 = j.x2;
-      second_gives = b.2.1;
-      delay = refl;
-      result = j.result;
-    }), b.3)
+    let b = two_cut second third free2 free3 left1 a.0 rest j.n2 j.x2 a.3 (left2, j.second_gives) in (
+      b.0,
+      max a.1 b.1,
+      (
+        a.0,
+        b.2.0,
+        record {
+          n1 = a.1;
+          x1 = j.x1;
+          first_gives = a.2;
+          n2 = b.1;
+          x2 = j.x2;
+          second_gives = b.2.1;
+          delay = refl;
+          result = j.result;
+        },
+      ),
+      b.3,
+    )
 
 pub four_cut : {A B C D : Type 0} (first : Meaning A) (second : Meaning B) (third : Meaning C) (fourth : Meaning D)
     → CutFree first → CutFree second → CutFree third → CutFree fourth → CutFree (Means4 first second third fourth)
@@ -150,23 +165,32 @@ four_cut first second third fourth free1 free2 free3 free4 m n rest d x same (le
     let k = j.second_gives in
     let a = free1 m n left1 j.n1 j.x1 same j.first_gives in
     let b = free2 left1 a.0 left2 k.n1 k.x1 a.3 k.first_gives in
-    let c = two_cut third fourth free3 free4 left2 b.0 rest k.n2 k.x2 b.3 (left3, k.second_gives) in
-    (c.0, max a.1 (max b.1 c.1), (a.0, b.0, c.2.0, record {
-      n1 = a.1;
-      x1 = j.x1;
-      first_gives = a.2;
-      n2 = max b.1 c.1;
-      x2 = j.x2;
-      second_gives = record {
-        n1 = b.1;
-        x1 = k.x1;
-        first_gives = b.2;
-        n2 = c.1;
-        x2 = k.x2;
-        second_gives = c.2.1;
-        delay = refl;
-        result = k.result;
-      };
-      delay = refl;
-      result = j.result;
-    }), c.3)
+    let c = two_cut third fourth free3 free4 left2 b.0 rest k.n2 k.x2 b.3 (left3, k.second_gives) in (
+      c.0,
+      max a.1 (max b.1 c.1),
+      (
+        a.0,
+        b.0,
+        c.2.0,
+        record {
+          n1 = a.1;
+          x1 = j.x1;
+          first_gives = a.2;
+          n2 = max b.1 c.1;
+          x2 = j.x2;
+          second_gives = record {
+            n1 = b.1;
+            x1 = k.x1;
+            first_gives = b.2;
+            n2 = c.1;
+            x2 = k.x2;
+            second_gives = c.2.1;
+            delay = refl;
+            result = k.result;
+          };
+          delay = refl;
+          result = j.result;
+        },
+      ),
+      c.3,
+    )

@@ -51,8 +51,7 @@ fn wrap_step<T, E, const N: usize>(step: Step<Result<T, E>>) -> Step<Result<Capp
 }
 
 impl<T: Drop, E: Drop, Fut: Poll<Output = Result<T, E>>, const N: usize> Poll
-    for CappedFut<Fut, N>
-{
+    for CappedFut<Fut, N> {
     ghost use Rattle.web_extract.specs.CappedArguments.{GivesCapped, capped_some};
 
     type Output = Result<Capped<T, N>, E>;
