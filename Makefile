@@ -2,7 +2,7 @@
 SCRIPT ?= examples/pieces.script
 PLAIN = bench/target/release/plain
 
-.PHONY: help run test rows gate prove wrong-bodies costs graphs bench plain
+.PHONY: help run test rows gate prove check try lint fmt wrong-bodies costs graphs bench plain
 
 help:
 	@echo "make run SCRIPT=FILE      serves a script and prints the replies (default: $(SCRIPT))"
@@ -10,6 +10,10 @@ help:
 	@echo "make rows                 runs the program over the rows of examples/"
 	@echo "make gate                 the gate: the same, and everything proved, in an hour or more"
 	@echo "make prove                proves and builds the program, and prints its path"
+	@echo "make check CRATE=NAME     proves a crate, and what it stands on, and says which crate it is at"
+	@echo "make try CRATE=NAME       runs the tests of a crate without proof"
+	@echo "make lint                 checks layout, columns and the pages, in seconds"
+	@echo "make fmt                  lays out the sources of all crates"
 	@echo "make wrong-bodies CRATE=N tries all wrong bodies of a crate that was checked"
 	@echo "make costs                prints what each crate cost the gate, beside what it cost before"
 	@echo "make graphs               lists the functions whose proofs cost most"
@@ -28,6 +32,19 @@ gate:
 
 prove:
 	@tools/prove
+
+check:
+	@tools/prove $(or $(CRATE),nothing)
+
+try:
+	@cd crates/$(CRATE) && rt try $(CRATE) --test
+
+lint:
+	@tools/check-sources
+	@tools/check-docs
+
+fmt:
+	@for crate in crates/*; do (cd $$crate && rt fmt) || exit 1; done
 
 wrong-bodies:
 	@tools/try-wrong-bodies $(CRATE)

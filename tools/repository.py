@@ -59,10 +59,12 @@ def sources(name, parts=("src", "specs", "proofs"), ends=(".rt", ".antt")):
 
 
 def digest(crate=PROGRAM, parts=("src", "specs", "proofs")):
-    """One text that changes where a source of a program changes, or the toolchain's folder."""
+    """One text that changes where a source of a program changes, or a library that one of its crates uses, or the
+    toolchain's folder."""
     whole = hashlib.sha256(os.path.realpath(shutil.which("rt") or "").encode())
-    files = [it for name in below(crate) for it in sources(name, parts)]
-    for path in [os.path.join(TOP, "crates.txt"), *files]:
+    names, listed = below(crate), listed_crates()
+    whole.update("".join(f"{name}: {' '.join(listed[name])}\n" for name in names).encode())
+    for path in [it for name in names for it in sources(name, parts)]:
         with open(path, "rb") as opened:
             content = opened.read()
         whole.update(f"{os.path.relpath(path, TOP)} {len(content)}\n".encode() + content)
