@@ -13,7 +13,7 @@ pub returns-in_ok-future-in-Who-clause-extracts : goal.returns-in_ok-future-in-W
 returns-in_ok-future-in-Who-clause-extracts c =
     extracts_chosen (λ d m rest n x. MeansHead d c.args.req.now.request m rest n x) _ head.Who _ _ _ c.in-Who.is
     (extracts_now (λ v. picked.Who v) (By never_fault) (MeansWho c.args.req.now.request) _ _ _ _
-    c.picked_now-in-Who.ensures.gives c.in_ok-future-in-Who.ensures.extracts)
+    c.picked_now.ensures.gives c.in_ok-future-in-Who.ensures.extracts)
 
 pub returns-in_ok-future-in-Cookies-clause-extracts : goal.returns-in_ok-future-in-Cookies-clause-extracts
 returns-in_ok-future-in-Cookies-clause-extracts c =

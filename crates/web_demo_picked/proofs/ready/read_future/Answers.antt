@@ -13,7 +13,7 @@ pub returns-in_ok-future-in-Path-clause-extracts : goal.returns-in_ok-future-in-
 returns-in_ok-future-in-Path-clause-extracts c =
     extracts_chosen (λ d m rest n x. MeansRead d c.args.req.now.request m rest n x) _ read.Path _ _ _ c.in-Path.is
     (extracts_now (λ v. picked.Path v) (By same_fault) (MeansPathItem c.args.req.now.request) _ _ _ _
-    c.picked_now-in-Path.ensures.gives c.in_ok-future-in-Path.ensures.extracts)
+    c.picked_now.ensures.gives c.in_ok-future-in-Path.ensures.extracts)
 
 pub returns-in_ok-future-in-Query-clause-extracts : goal.returns-in_ok-future-in-Query-clause-extracts
 returns-in_ok-future-in-Query-clause-extracts c =
