@@ -1,5 +1,5 @@
 -- The handler that takes the body and the rest behind it.
-use Rattle.std.proofs.Common.{◌≡◌, ℕ, ◌<◌, List, [], arith, refl, sym, ap, ◌∙◌, inl, inr}
+use Rattle.std.proofs.Common.{◌≡◌, ℕ, ◌<◌, List, [], arith, refl, sym, ap, ◌∙◌}
 use Rattle.std.specs.Prelude.{Option, None, Some, Result, Ok, Err, false, max, nat_lt, slice_index_or}
 use Rattle.std.specs.Option.{option_map}
 use Rattle.std.specs.List.{All}
@@ -22,6 +22,7 @@ use Rattle.web_reply.specs.Responders.{bytes_reply}
 use Rattle.web_extract.specs.BodyArguments.{body_result, payload_fault, read_result}
 use Rattle.web_extract.specs.BodyArguments.{rest_after, type_refusal, unless_refused}
 use Rattle.web_extract.specs.BytesArgument.{MeansBytes, bytes_result}
+use Rattle.web_extract.specs.CollectedResults.{collected2}
 use Rattle.web_extract.specs.LayerConfigurations.{Configurations, payload_settings}
 use Rattle.web_extract.specs.ListMeanings.{Means2, Member}
 use Rattle.web_extract.specs.OptionArgument.{GivesOption, as_option}
@@ -68,6 +69,17 @@ behind : (refusal : Option Fault) (limit : ℕ) (headers : Entries FieldValue) (
     → (rest_after refusal m ≡ []) × NothingBehind refusal limit headers
 behind None limit headers m b is = (refl, collected_behind (refusal_by headers limit) limit m b is)
 behind (Some e) limit headers m b is = absurd cc
+
+collected_delay : (r : Option PayloadError) (limit : ℕ)
+    → (unless_refused (option_map payload_fault r) (read_result (reading limit []))).delay ≡ 0
+collected_delay None limit = ap (λ r. (read_result r).delay) (nothing limit)
+collected_delay (Some e) limit = refl
+
+-- what is left of a body comes at once
+delay_behind : (refusal : Option Fault) (limit : ℕ) (headers : Entries FieldValue) (m : List Mark)
+    → (body_result refusal limit headers (rest_after refusal m)).delay ≡ 0
+delay_behind None limit headers m = collected_delay (refusal_by headers limit) limit
+delay_behind (Some e) limit headers m = refl
 
 ok_same : {T E : Type 0} {a b : T} → ◌≡◌ {A = Result T E} (Ok a) (Ok b) → a ≡ b
 ok_same e = cc
@@ -119,15 +131,25 @@ module _ (converts : Fault → Fault → Type 0)
         let nothing_behind : o ≡ Some [] = ok_same (some ∙ ap as_option got) in
         (omega (arith, now, delay), rw (← is) (ap (λ z. Ok (b, z)) nothing_behind))
 
+    listed_as : (m rest left : List Mark) (n : ℕ) (x : Result Arguments Fault)
+        → (n1 : ℕ) (x1 : Result (List ℕ) Fault) → Member converts (λ m rest n x. MeansBytes settings headers m rest n x) m left n1 x1
+        → (n2 : ℕ) (x2 : Result (Option (List ℕ)) Fault)
+        → Member never (λ m rest n x. GivesOption (λ n y. MeansBytes settings headers m rest n y) n x) left rest n2 x2
+        → n ≡ max n1 n2 → x ≡ collected2 x1 x2
+        → (n ≡ (bytes_result settings headers m).delay) × AsArguments (body m) x
+    listed_as m rest left n x n1 (Ok b) first n2 (Ok o) second at is =
+        let h = value m rest left n1 n2 b o first second in
+        (at ∙ h.0, rw is h.1)
+    listed_as m rest left n x n1 (Err f) (e, (taken, delay, fault), to) n2 (Ok o) (y, (none, later, given), some) at is =
+        let now : n2 ≡ 0 = later ∙ ap (λ l. (bytes_result settings headers l).delay) taken ∙ delay_behind (type_refusal settings.required_type headers) settings.limit headers m in
+        (omega (arith, at, delay, now), rw (is, ← fault) (ap Err (turns e f to)))
+    listed_as m rest left n x n1 (Ok b) first n2 (Err g) (e, (y, given, none), to) at is = absurd (never_refused y e none)
+    listed_as m rest left n x n1 (Err f) first n2 (Err g) (e, (y, given, none), to) at is = absurd (never_refused y e none)
+
     pub list_once : (m rest : List Mark) (n : ℕ) (x : Result Arguments Fault) → ListMeans m rest n x
         → (n ≡ (bytes_result settings headers m).delay) × AsArguments (body m) x
-    list_once m rest n (Ok (b, o)) (left, (n1, n2, first, second, both)) =
-        let h = value m rest left n1 n2 b o first second in
-        (both ∙ h.0, h.1)
-    list_once m rest n (Err f) (left, inl ((e, (empty, delay, is), to), later)) =
-        (delay, rw (← is) (ap Err (turns e f to)))
-    list_once m rest n (Err f) (left, inr ((e, (y, given, is), to), later)) =
-        absurd (never_refused y e is)
+    list_once m rest n x (left, j) =
+        listed_as m rest left n x j.n1 j.x1 j.first_gives j.n2 j.x2 j.second_gives j.delay j.result
 
   module _ {S L D C U W J F P Q T : Type 0} (of_layer : L → Configurations J F P Q T)
       (same : Fault → Fault → Type 0)

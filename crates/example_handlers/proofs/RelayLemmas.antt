@@ -1,6 +1,6 @@
 -- The handler of a proxy.
 use Rattle.std.proofs.Common.{◌≡◌, ℕ, ◌<◌, List, arith, ap, sym, ◌∙◌, inl, inr}
-use Rattle.std.specs.Prelude.{Option, Some, Result, Ok, Err}
+use Rattle.std.specs.Prelude.{Option, Some, Result, Ok, Err, max}
 use Rattle.web_request.specs.declared.source.Mark.{Mark}
 use Rattle.web_request.specs.Feed.{Feed}
 use Rattle.web_request.specs.Pool.{Pool}
@@ -11,6 +11,7 @@ use Rattle.web_body.specs.Payload.{payload_feed}
 use Rattle.web_reply.specs.declared.body.BoxBody.{BoxBody}
 use Rattle.web_reply.specs.ResponseBodies.{Plain, box_plain}
 use Rattle.web_reply.specs.Replies.{Fault, Reply, plain_reply}
+use Rattle.web_extract.specs.CollectedResults.{collected2}
 use Rattle.web_extract.specs.HeadArguments.{AllowsNow, IsRequest}
 use Rattle.web_extract.specs.ListMeanings.{Means2, Member}
 use Rattle.web_extract.specs.PayloadArgument.{IsUnread, MeansPayload}
@@ -47,23 +48,25 @@ module _ {S L D C U W : Type 0} (feed : S → Feed)
   Came q m (Ok v) = (v.0.request ≡ q) × ((payload_feed feed v.1).marks ≡ Some m)
   Came q m (Err e) = ⊥
 
-  all_left : (q : Request L D C) (m left : List Mark) (k : ℕ) (y : Result (Record L D C) Fault)
-      → Member (λ e f. f ≡ e) (AllowsNow (IsRequest q)) m left k y → left ≡ m
-  all_left q m left k (Ok v) h = h.0
-  all_left q m left k (Err f) (e, h, turns) = h.0
-
   -- where some payload has the marks, both come at the first poll
+  came_as : (q : Request L D C) (m : List Mark) (body : Payload S) → (payload_feed feed body).marks ≡ Some m
+      → (rest left : List Mark) (n : ℕ) (x : Result (Record L D C × Payload S) Fault)
+      → (n1 : ℕ) (x1 : Result (Record L D C) Fault) → Member (λ e f. f ≡ e) (AllowsNow (IsRequest q)) m left n1 x1
+      → (n2 : ℕ) (x2 : Result (Payload S) Fault) → Member (λ e f. f ≡ e) (λ m rest n x. MeansPayload feed m rest n x) left rest n2 x2
+      → n ≡ max n1 n2 → x ≡ collected2 x1 x2 → (n ≡ 0) × Came q m x
+  came_as q m body has rest left n x n1 (Ok r) (all, first, is) n2 (Ok p) (none, second, is_unread) at result = (
+    omega (arith, first, second, at),
+    rw result (is.0, unread feed left body (has ∙ ap Some (sym all)) (Ok p) is_unread ∙ ap Some all),
+  )
+  came_as q m body has rest left n x n1 (Ok r) (all, first, is) n2 (Err f) (e, (none, second, is_unread), turns) at result =
+      absurd (unread feed left body (has ∙ ap Some (sym all)) (Err e) is_unread)
+  came_as q m body has rest left n x n1 (Err f) (e, (all, first, is), turns) n2 x2 h at result = absurd is
+
   came : (q : Request L D C) (m : List Mark) (body : Payload S) → (payload_feed feed body).marks ≡ Some m
       → (rest : List Mark) (n : ℕ) (x : Result (Record L D C × Payload S) Fault) → Arguments q m rest n x
       → (n ≡ 0) × Came q m x
-  came q m body has rest n (Ok v) (left, (n1, n2, (all, first, is), (none, second, is_unread), at)) = (
-    omega (arith, first, second, at),
-    (is.0, unread feed left body (has ∙ ap Some (sym all)) (Ok v.1) is_unread ∙ ap Some all),
-  )
-  came q m body has rest n (Err f) (left, inl ((e, (all, first, is), turns), need)) = absurd is
-  came q m body has rest n (Err f) (left, inr ((e, (none, second, is_unread), turns), need)) =
-      absurd (need (λ k y h.
-      absurd (unread feed left body (has ∙ ap Some (sym (all_left q m left k y h))) (Err e) is_unread)))
+  came q m body has rest n x (left, j) =
+      came_as q m body has rest left n x j.n1 j.x1 j.first_gives j.n2 j.x2 j.second_gives j.delay j.result
 
   once : (q : Request L D C) (m : List Mark) (body : Payload S) → (payload_feed feed body).marks ≡ Some m
       → (k : ℕ) (p : Reply Plain) → Replies relay.rules q m k p
