@@ -2,4 +2,4 @@ use Rattle.web_cutting.proofs.CutFreeLemmas.{capped_cut}
 use Rattle.web_cutting.proofs.argument_cutting.capped_cutting_law.Goals as goal
 
 pub returns : goal.returns
-returns g c = λ q free. capped_cut g.N (g.A.WithCap.means_capped g.N q) free
+returns g c = λ q free. capped_cut _ _ free
