@@ -14,12 +14,15 @@ use web_body::{Marks, Payload, Poll, Step};
 use web_demo_arguments::DecodedChoice;
 use web_demo_layers::{Demo, Item};
 use web_extract::EitherFuture::{Left, Right};
-use web_extract::{Capped, EitherFuture};
+use web_extract::{Capped, CappedFut, EitherFuture, MapInto, from_request_into};
 use web_reply::Error;
 use web_request::{HttpRequest, NoMemory};
-use web_types::{Either, Form, Json};
+use web_types::{Either, Form, Json, JsonExtractFut};
 
-type CappedOrForm = EitherFuture<FutureOf<Capped<Json<Item>, 16>>, FutureOf<Form<Item>>>;
+// No `FutureOf`: the toolchain does not read an impl with a constant behind a bound in other crates.
+type CappedItemFuture = MapInto<CappedFut<JsonExtractFut<Item, Demo>, 16>, Picked, Error>;
+
+type CappedOrForm = EitherFuture<CappedItemFuture, FutureOf<Form<Item>>>;
 
 type JsonOrForm = EitherFuture<FutureOf<Json<Item>>, CappedOrForm>;
 
@@ -198,7 +201,9 @@ pub(crate) fn decoded_future(
             Ok(Left(ItemFuture::new(alloc, Left(future))?))
         }
         DecodedChoice::CappedJson => {
-            let future = begin::<Capped<Json<Item>, 16>>(alloc, req, payload)?;
+            let future = from_request_into::<Demo, Capped<Json<Item>, 16>, Picked, Error>(
+                alloc, req, payload,
+            )?;
             Ok(Left(ItemFuture::new(alloc, Right(Left(future)))?))
         }
         DecodedChoice::Form => {

@@ -8,7 +8,7 @@ use web_arguments::{Header, Path, Query};
 use web_body::{Marks, Payload};
 use web_demo_arguments::{AllLines, CookieArguments, DataArguments, Late, RawBody, Wait};
 use web_demo_layers::{Demo, DemoLocal, Item};
-use web_extract::Capped;
+use web_extract::{Capped, IntoSome};
 use web_headers::Accept;
 use web_reply::Error;
 use web_request::{ConnectionInfo, Data, HttpRequest, ReqData};
@@ -68,14 +68,21 @@ impl IntoPicked for Capped<Bytes, 4> {
     }
 }
 
-impl IntoPicked for Capped<Json<Item>, 16> {
+impl From<Capped<Json<Item>, 16>> for Picked {
     ghost use Rattle.web_demo_picked.specs.declared.picked.Picked.TheVariants as picked;
 
-    ghost picked = { λ capped. picked.CappedJson capped };
+    ghost from_gives = { λ capped x. x ≡ picked.CappedJson capped };
 
-    fn into_picked(self) -> Picked {
-        Picked::CappedJson(self)
+    fn from(capped: Capped<Json<Item>, 16>) -> Picked {
+        Picked::CappedJson(capped)
     }
+}
+
+impl IntoSome<Picked> for Capped<Json<Item>, 16> {
+    ghost use Rattle.web_extract.specs.ConvertedFutures.{converts_by};
+    ghost use Rattle.web_demo_picked.specs.declared.picked.Picked.TheVariants as picked;
+
+    ghost converted = { converts_by (λ capped. picked.CappedJson capped) };
 }
 
 impl IntoPicked for Form<Item> {
