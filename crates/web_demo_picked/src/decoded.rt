@@ -19,7 +19,7 @@ use web_reply::Error;
 use web_request::{HttpRequest, NoMemory};
 use web_types::{Either, Form, Json, JsonExtractFut};
 
-// No `FutureOf`: the toolchain does not read an impl with a constant behind a bound in other crates.
+// Not a `FutureOf`: other crates do not read an impl with a constant behind its bound.
 type CappedItemFuture = MapInto<CappedFut<JsonExtractFut<Item, Demo>, 16>, Picked, Error>;
 
 type CappedOrForm = EitherFuture<CappedItemFuture, FutureOf<Form<Item>>>;
