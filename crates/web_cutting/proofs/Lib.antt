@@ -2,3 +2,4 @@ pub mod CutReadingLemmas
 pub mod CutFreeLemmas
 mod CutValuesLemmas
 mod CutRepliesLemmas
+mod TakingLemmas

@@ -1,8 +1,10 @@
-//! Laws of bodies that are cut into pieces in more than one way.
+//! Laws of bodies that are cut into pieces in more than one way, and of what arguments leave of a
+//! body.
 #![tactic(auto)]
 
 mod argument_cutting;
 mod decoder_cutting;
+mod first_takers;
 mod head_cutting;
 mod list_cutting;
 mod reply_cutting;
@@ -10,6 +12,10 @@ mod value_cutting;
 
 pub use argument_cutting::{argument_cutting_law, capped_cutting_law, place_cutting_law};
 pub use decoder_cutting::decoder_cutting_law;
+pub use first_takers::{
+    capped_taking_law, data_taking_law, either_taking_law, head_taking_law, list_taking_law,
+    payload_taking_law, read_taking_law, value_taking_law,
+};
 pub use head_cutting::{data_cutting_law, head_cutting_law, read_cutting_law};
 pub use list_cutting::list_cutting_law;
 pub use reply_cutting::reply_cutting_law;
