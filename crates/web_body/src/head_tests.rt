@@ -20,9 +20,14 @@ pub enum Declared {
 }
 
 /// The declared length. Blanks around the digits make it unreadable, and so does a sign.
+#[tactic(auto, using(crate::proofs::EmptyHeadersLemmas::nothing_under))]
 pub fn declared_length(headers: &HeaderMap<HeaderValue>) -> Declared
     ensures { result ≡ declared_of (get headers.now content_length) }
 {
+    // No name is made to look up where there is none, as in most small requests.
+    if headers.is_empty() {
+        return Declared::Nothing;
+    }
     match headers.get(CONTENT_LENGTH) {
         Some(value) => length_of(value),
         None => Declared::Nothing,
@@ -39,9 +44,13 @@ fn length_of(value: &HeaderValue) -> Declared
 }
 
 /// Whether the first Content-Encoding (RFC 9110, section 8.4) names another coding than `identity`.
+#[tactic(auto, using(crate::proofs::EmptyHeadersLemmas::nothing_under))]
 pub fn is_coded(headers: &HeaderMap<HeaderValue>) -> bool
     ensures { result ≡ is_coded_of (get headers.now content_encoding) }
 {
+    if headers.is_empty() {
+        return false;
+    }
     match headers.get(CONTENT_ENCODING) {
         Some(value) => names_coding(value),
         None => false,

@@ -93,7 +93,7 @@ impl<S: Source> HttpMessageBody<S> {
     /// request's head says of it. It allocates nothing, and takes the payload also where the head
     /// refuses it.
     pub fn new<A: App<Source = S>>(
-        _alloc: Global,
+        alloc: Global,
         req: &HttpRequest<A>,
         payload: &mut Payload<S>,
     ) -> HttpMessageBody<S>
@@ -104,9 +104,25 @@ impl<S: Source> HttpMessageBody<S> {
             (refusal_by req.now.request.head.headers default_limit) default_limit
             (payload_feed S.feed payload.old).marks (body_gives S.feed result) }
     {
+        HttpMessageBody::under_limit(alloc, req, payload, DEFAULT_LIMIT)
+    }
+
+    /// The same under another limit, in bytes: `new` and `limit` in one call.
+    pub fn under_limit<A: App<Source = S>>(
+        _alloc: Global,
+        req: &HttpRequest<A>,
+        payload: &mut Payload<S>,
+        limit: usize,
+    ) -> HttpMessageBody<S>
+        ensures value { result
+            ≡ new_message_body payload.old limit req.now.request.head.headers }
+        ensures taken { payload.new ≡ Payload.None }
+        ensures means { MeansBody (refusal_by req.now.request.head.headers limit) limit
+            (payload_feed S.feed payload.old).marks (body_gives S.feed result) }
+    {
         let headers = &req.head().headers;
         HttpMessageBody {
-            body: Collector::new(payload, DEFAULT_LIMIT),
+            body: Collector::new(payload, limit),
             declared: declared_length(headers),
             is_coded: is_coded(headers),
             is_finished: false,

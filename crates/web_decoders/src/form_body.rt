@@ -112,9 +112,30 @@ impl<T: ReadPairs, S: Source> UrlEncoded<T, S> {
             (payload_feed S.feed (taken_where (takes_form b.head) payload.old)).marks
             (form_gives S.feed T.reads_pairs b)) }
     {
+        UrlEncoded::under_limit(alloc, req, payload, DEFAULT_FORM_LIMIT)
+    }
+
+    /// The same under another limit, in bytes: `new` and `limit` in one call.
+    pub fn under_limit<A: App<Source = S>>(
+        alloc: Global,
+        req: &HttpRequest<A>,
+        payload: &mut Payload<S>,
+        limit: usize,
+    ) -> Result<UrlEncoded<T, S>, NoMemory>
+        ensures value { IfOk result (λ b. b ≡ new_form_body
+            (taken_where (takes_form (form_head req.now.request.head.headers)) payload.old) limit
+            (form_head req.now.request.head.headers)) }
+        ensures left { IfOk result (λ b. payload.new
+            ≡ left_where (takes_form (form_head req.now.request.head.headers)) payload.old) }
+        ensures kept { OnErr result (payload.new ≡ payload.old) }
+        ensures means { IfOk result (λ b. MeansDecoded (FormAnswer T.reads_pairs limit) limit
+            (form_refusal b.head limit)
+            (payload_feed S.feed (taken_where (takes_form b.head) payload.old)).marks
+            (form_gives S.feed T.reads_pairs b)) }
+    {
         let head = FormHead::of(alloc, req)?;
         let taken = take_where(payload, head.takes());
-        Ok(UrlEncoded::of(taken, DEFAULT_FORM_LIMIT, head))
+        Ok(UrlEncoded::of(taken, limit, head))
     }
 
     fn of(payload: Payload<S>, limit: usize, head: FormHead) -> UrlEncoded<T, S>

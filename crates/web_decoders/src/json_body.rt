@@ -123,6 +123,35 @@ impl<T: ReadJson, S: Source> JsonBody<T, S> {
         Ok(JsonBody::of(taken, DEFAULT_JSON_LIMIT, head))
     }
 
+    /// The same under another limit, in bytes, which the declared length is compared with: `new`
+    /// and `limit` in one call.
+    pub fn under_limit<A: App<Source = S>, P: AllowType>(
+        alloc: Global,
+        req: &HttpRequest<A>,
+        payload: &mut Payload<S>,
+        ctype_fn: Option<&P>,
+        ctype_required: bool,
+        limit: usize,
+    ) -> Result<JsonBody<T, S>, NoMemory>
+        requires { IfSome ctype_fn (λ p. P.ready p.now) }
+        ensures head { IfOk result (λ b. ReadsType P.allows_type (option_copied ctype_fn.entry)
+            ctype_required req.now.request.head.headers b.head.is_read) }
+        ensures value { IfOk result (λ b. b ≡ new_json_body
+            (taken_where b.head.is_read payload.old) limit
+            (head_under limit (json_head b.head.is_read req.now.request.head.headers))) }
+        ensures left { IfOk result (λ b. payload.new ≡ left_where b.head.is_read payload.old) }
+        ensures kept { OnErr result (payload.new ≡ payload.old) }
+        ensures means { IfOk result (λ b. MeansDecoded (JsonAnswer T.reads limit) limit
+            (json_refusal b.head)
+            (payload_feed S.feed (taken_where b.head.is_read payload.old)).marks
+            (json_gives S.feed T.reads b)) }
+    {
+        let is_read = reads_type(alloc, req, ctype_fn, ctype_required)?;
+        let head = JsonHead::of(&req.head().headers, is_read).under(limit);
+        let taken = take_where(payload, is_read);
+        Ok(JsonBody::of(taken, limit, head))
+    }
+
     fn of(payload: Payload<S>, limit: usize, head: JsonHead) -> JsonBody<T, S>
         ensures value { result ≡ new_json_body payload limit head }
         ensures means { MeansDecoded (JsonAnswer T.reads limit) limit (json_refusal head)

@@ -54,7 +54,7 @@ impl<S: Source> BytesExtractFut<S> {
     {
         let stage = match refusal {
             Some(error) => EitherFuture::Left(Ready::new(error)),
-            None => EitherFuture::Right(HttpMessageBody::new(alloc, req, payload).limit(limit)),
+            None => EitherFuture::Right(HttpMessageBody::under_limit(alloc, req, payload, limit)),
         };
         BytesExtractFut { stage }
     }

@@ -107,8 +107,7 @@ fn form_body<A: App, T: ReadPairs>(
         (payload_feed A.Source.feed payload.new).marks) }
     ensures payload { (payload.new ≡ payload.old) ⊎ (payload.new ≡ Payload.None) }
 {
-    let body = UrlEncoded::new(alloc, req, payload)?;
-    Ok(body.limit(limit))
+    UrlEncoded::under_limit(alloc, req, payload, limit)
 }
 
 fn handler_of<H>(config: Option<&FormConfig<H>>) -> Option<&H>

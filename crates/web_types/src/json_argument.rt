@@ -111,14 +111,14 @@ fn json_body<A: App, T: ReadJson, H, P: AllowType>(
         (payload_feed A.Source.feed payload.new).marks) }
     ensures payload { (payload.new ≡ payload.old) ⊎ (payload.new ≡ Payload.None) }
 {
-    let body = JsonBody::new(
+    JsonBody::under_limit(
         alloc,
         req,
         payload,
         predicate_of(config),
         type_required(config),
-    )?;
-    Ok(body.limit(limit))
+        limit,
+    )
 }
 
 fn handler_of<H, P>(config: Option<&JsonConfig<H, P>>) -> Option<&H>
