@@ -1,1 +1,2 @@
 pub mod DecodedBodyLemmas
+pub mod WrittenTypesLemmas

@@ -6,3 +6,4 @@ pub mod JsonBodies
 pub mod JsonHeads
 pub mod LeftPayloads
 pub mod TypePredicates
+pub mod WrittenTypes

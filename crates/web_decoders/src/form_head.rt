@@ -4,6 +4,7 @@ ghost use Rattle.std.specs.Str.{str_eq_ignore_ascii_case};
 ghost use Rattle.web_decoders.specs.FormHeads.{form_head, form_length_refusal, form_refusal};
 ghost use Rattle.web_decoders.specs.FormHeads.{is_form_of, takes_form};
 
+use crate::written_type::is_written;
 use std::alloc::Global;
 use web_body::{Declared, PayloadError, UrlencodedError, declared_length, is_coded};
 use web_request::{App, HttpMessage, HttpRequest};
@@ -77,6 +78,13 @@ fn length_refusal(declared: Declared, is_coded: bool, limit: usize) -> Option<Ur
 fn is_form<A: App>(alloc: Global, req: &HttpRequest<A>) -> Result<bool, NoMemory>
     ensures { IfOk result (λ b. b ≡ is_form_of req.now.request.head.headers) }
 {
+    // The usual spelling takes no memory.
+    if is_written(
+        &req.head().headers,
+        APPLICATION_WWW_FORM_URLENCODED.as_bytes(),
+    ) {
+        return Ok(true);
+    }
     if !names_form(req.content_type()) {
         return Ok(false);
     }

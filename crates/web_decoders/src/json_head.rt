@@ -8,11 +8,12 @@ ghost use Rattle.web_decoders.specs.TypePredicates.{AllowsBy, ReadsType, is_json
 ghost use Rattle.std.specs.Option.{option_and_then};
 
 use crate::type_predicates::AllowType;
+use crate::written_type::is_written;
 use http_header::{CONTENT_LENGTH, HeaderMap, HeaderValue};
 use std::alloc::Global;
 use web_body::{JsonPayloadError, PayloadError, is_coded};
 use web_request::{App, HttpMessage, HttpRequest};
-use web_texts::{Fail, Mime, NoMemory, number_of, trim_bytes};
+use web_texts::{APPLICATION_JSON, Fail, Mime, NoMemory, number_of, trim_bytes};
 
 /// What a JSON body is tested by before any of it is read.
 #[derive(Clone, Copy, Debug)]
@@ -101,6 +102,10 @@ pub fn reads_type<A: App, P: AllowType>(
     ensures unrequired { ctype_required ≡ false → result ≡ Ok true }
 {
     if !ctype_required {
+        return Ok(true);
+    }
+    // The usual spelling takes no memory.
+    if is_written(&req.head().headers, APPLICATION_JSON.as_bytes()) {
         return Ok(true);
     }
     match req.mime_type(alloc) {

@@ -12,6 +12,7 @@ mod path_config;
 mod query_config;
 mod taken;
 mod type_predicates;
+mod written_type;
 
 pub use body_decoder::{Decode, Decoding};
 pub use form_body::{DEFAULT_FORM_LIMIT, UrlEncoded};
