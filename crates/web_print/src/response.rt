@@ -1,8 +1,9 @@
 //! The text of a response.
-ghost use Rattle.std.specs.Prelude.{◌≡◌, ◌++◌, OnOk};
+ghost use Rattle.std.specs.Prelude.{◌≡◌, ◌++◌, OnOk, codes};
 ghost use Rattle.web_reply.specs.ResponseBodies.{box_plain};
 ghost use Rattle.web_reply.specs.Replies.{plain_reply};
 ghost use Rattle.web_print.specs.OutcomeText.{connection_text, head_text, reason_text, reply_text};
+ghost use Rattle.web_print.specs.TextLines.{numbered_text};
 
 use crate::body::put_body;
 use crate::header_lines::put_headers;
@@ -32,10 +33,21 @@ fn put_connection(out: &mut Vec<u8>, connection: Option<ConnectionType>) -> Resu
     }
 }
 
+/// The line of a status. That of the usual one is written as one text.
+fn put_status_line(out: &mut Vec<u8>, status: u16) -> Result<(), NoMemory>
+    ensures { OnOk result (out.new.items
+        ≡ out.old.items ++ numbered_text (codes "status ") status) }
+{
+    if status == 200 {
+        return put(out, b"status 200\n");
+    }
+    put_numbered(out, b"status ", u64::from(status))
+}
+
 fn put_head(alloc: Global, out: &mut Vec<u8>, head: &ResponseHead) -> Result<(), NoMemory>
     ensures { OnOk result (out.new.items ≡ out.old.items ++ head_text head.now) }
 {
-    put_numbered(out, b"status ", u64::from(head.status.as_u16()))?;
+    put_status_line(out, head.status.as_u16())?;
     put_reason(out, &head.reason)?;
     put_connection(out, head.connection)?;
     put_headers(alloc, out, &head.headers)
