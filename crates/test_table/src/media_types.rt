@@ -10,6 +10,7 @@ pub(crate) fn answer(alloc: Global, name: &str, fields: &[&str]) -> Answer {
         ("parse", [field]) => parsed(alloc, field),
         ("param", [field, parameter]) => parameters(alloc, field, parameter),
         ("eq", [left, right]) => compared(alloc, left, right),
+        ("is_written", [field, other]) => written(alloc, field, other),
         ("push_items", [field]) => count_of_items(alloc, field),
         _ => no_such_call(alloc),
     }
@@ -53,6 +54,21 @@ fn compared(alloc: Global, left: &str, right: &str) -> Answer {
     match (Mime::parse(alloc, left), Mime::parse(alloc, right)) {
         (Ok(left), Ok(right)) => text(alloc, if left == right { "equal" } else { "different" }),
         _ => text(alloc, "no media types"),
+    }
+}
+
+/// Whether the other text is the media type in its plainest spelling.
+fn written(alloc: Global, field: &str, other: &str) -> Answer {
+    match Mime::parse(alloc, field) {
+        Ok(mime) => text(
+            alloc,
+            if mime.is_written(other) {
+                "written so"
+            } else {
+                "otherwise"
+            },
+        ),
+        Err(_) => text(alloc, "no media type"),
     }
 }
 

@@ -1,8 +1,9 @@
 //! The tests of a head before the body is read as an argument. They leave the payload.
-ghost use Rattle.std.specs.Prelude.{◌≡◌, IfOk, IsOk, None, Ok, option_copied};
-ghost use Rattle.std.specs.Option.{option_or, unwrap_or};
+ghost use Rattle.std.specs.Prelude.{◌≡◌, IfOk, IsOk, None, Ok, Some, option_copied, true};
+ghost use Rattle.std.specs.Option.{option_map, option_or, unwrap_or};
 ghost use Rattle.std.specs.Str.{str_eq_ignore_ascii_case};
-ghost use Rattle.web_request.specs.MessageFields.{first_content_type, is_utf8_name, type_test};
+ghost use Rattle.web_request.specs.MessageFields.{first_content_type, header_text, is_utf8_name};
+ghost use Rattle.web_request.specs.MessageFields.{mime_type_of, type_in, type_test};
 ghost use Rattle.web_body.specs.PayloadSettings.{default_payload_settings};
 ghost use Rattle.web_extract.specs.BodyArguments.{charset_refusal, error_of, type_refusal};
 ghost use Rattle.web_extract.specs.BodyArguments.{unexpected_type};
@@ -12,6 +13,7 @@ ghost use Rattle.web_extract.specs.LayerConfigurations.{payload_settings};
 use crate::bad_request::bad_request;
 use crate::config_choices::PayloadChoice;
 use crate::layer_configs::Configs;
+use http_header::{CONTENT_TYPE, HeaderValue};
 use std::alloc::Global;
 use web_body::{DEFAULT_LIMIT, PayloadConfig};
 use web_reply::Error;
@@ -59,6 +61,7 @@ pub(crate) fn required_type(config: Option<&PayloadConfig>) -> Option<&Mime>
 
 /// The refusal of a Content-Type other than the required one. It allocates nothing where none is
 /// required.
+#[tactic(auto, using(crate::proofs::RequiredTypesLemmas::required_type))]
 pub(crate) fn type_refusal<M: HttpMessage>(
     alloc: Global,
     message: &M,
@@ -71,6 +74,9 @@ pub(crate) fn type_refusal<M: HttpMessage>(
     let Some(required) = required else {
         return Ok(None);
     };
+    if is_written(message, required) {
+        return Ok(None);
+    }
     match message.mime_type(alloc) {
         Ok(found) => unexpected_type(alloc, &found, required),
         Err(Fail::Of(error)) => Ok(Some(Error::from(error))),
@@ -96,6 +102,7 @@ fn unexpected_type(
 
 /// The first refusal of these two tests. Content-Type is read once. It allocates nothing where no
 /// type is required and there is no Content-Type.
+#[tactic(auto, using(crate::proofs::RequiredTypesLemmas::required_text))]
 pub(crate) fn text_refusal<M: HttpMessage>(
     alloc: Global,
     message: &M,
@@ -110,6 +117,9 @@ pub(crate) fn text_refusal<M: HttpMessage>(
     let Some(required) = required else {
         return charset_refusal(alloc, message);
     };
+    if is_written(message, required) {
+        return Ok(charset_of_type(required));
+    }
     match message.mime_type(alloc) {
         Ok(found) => refusal_of_text(alloc, &found, required),
         Err(Fail::Of(error)) => Ok(Some(Error::from(error))),
@@ -134,17 +144,52 @@ fn refusal_of_text(
 }
 
 /// The refusal of a media type with a charset other than UTF-8.
-fn refusal_of_charset(found: &Option<Mime>) -> Option<Error>
-    ensures { result ≡ error_of (type_test (Ok found.now)) }
+fn charset_of_type(found: &Mime) -> Option<Error>
+    ensures { result ≡ error_of (type_test (Ok (Some found.now))) }
 {
-    let Some(found) = found else {
-        return None;
-    };
     match found.charset() {
         Some(charset) if !is_utf8_name(charset) => {
             Some(Error::from(ContentTypeError::UnknownEncoding))
         }
         _ => None,
+    }
+}
+
+fn refusal_of_charset(found: &Option<Mime>) -> Option<Error>
+    ensures { result ≡ error_of (type_test (Ok found.now)) }
+{
+    match found {
+        Some(found) => charset_of_type(found),
+        None => None,
+    }
+}
+
+fn header_text(value: &HeaderValue) -> Option<&str>
+    ensures { option_map (λ text. text.now) result ≡ header_text value.now }
+{
+    match value.to_str() {
+        Ok(text) => Some(text),
+        Err(_) => None,
+    }
+}
+
+fn is_value(value: &HeaderValue, required: &Mime) -> bool
+    ensures { result ≡ true → type_in (Some value.now) ≡ Ok (Some required.now) }
+{
+    match header_text(value) {
+        Some(text) => required.is_written(text),
+        None => false,
+    }
+}
+
+/// Whether the first Content-Type is this media type in its plainest spelling, which takes no
+/// memory. Another text may name the same media type.
+fn is_written<M: HttpMessage>(message: &M, required: &Mime) -> bool
+    ensures { result ≡ true → mime_type_of (M.fields message.now) ≡ Ok (Some required.now) }
+{
+    match message.headers().get(CONTENT_TYPE) {
+        Some(value) => is_value(value, required),
+        None => false,
     }
 }
 

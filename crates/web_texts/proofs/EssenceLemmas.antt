@@ -18,7 +18,7 @@ any_place : {X : Type 0} (p : X → Bool) (xs : List X) → list_any p xs ≡ tr
 any_place p [] e = absurd (cc)
 any_place p (x ∷ xs) e = place_step (p x) (list_any p xs) (position_or_len p xs) (length xs) e (any_place p xs)
 
-slash_back : (essence : List ℕ) → list_any is_slash essence ≡ true → before_first is_slash essence ++ 47 ∷ after_first is_slash essence ≡ essence
+pub slash_back : (essence : List ℕ) → list_any is_slash essence ≡ true → before_first is_slash essence ++ 47 ∷ after_first is_slash essence ≡ essence
 slash_back essence has =
     let parts = cut_parts 47 essence (before_first is_slash essence) (after_first is_slash essence) (record { has = any_place is_slash essence has; before_is = refl; after_is = refl }) in
     sym parts.text_is
@@ -71,7 +71,7 @@ second_back second = second_step second (has_suffix second) refl
 pub essence_back : (essence : List ℕ) (params : List Pair) → list_any is_slash essence ≡ true → essence_of (of_essence essence params) ≡ essence
 essence_back essence params has = rw (second_back (after_first is_slash essence)) (slash_back essence has)
 
-slash_lowered : (b : ℕ) → (to_ascii_lowercase b == 47) ≡ (b == 47)
+pub slash_lowered : (b : ℕ) → (to_ascii_lowercase b == 47) ≡ (b == 47)
 slash_lowered b = grind (arith, nat_tests)
 
 -- no letter turns into a slash, and no slash into a letter

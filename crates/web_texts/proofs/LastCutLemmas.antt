@@ -17,7 +17,7 @@ stop p (z ∷ xs) x ys none e =
     let parts = or_false (p z) (list_any p xs) none in
     rw parts.0 (omega (arith, stop p xs x ys parts.1 e))
 
-list_any-reverse : {X : Type 0} (p : X → Bool) (xs : List X) → list_any p xs ≡ false → list_any p (reverse xs) ≡ false
+pub list_any-reverse : {X : Type 0} (p : X → Bool) (xs : List X) → list_any p xs ≡ false → list_any p (reverse xs) ≡ false
 list_any-reverse p [] none = refl
 list_any-reverse p (x ∷ xs) none =
     let parts = or_false (p x) (list_any p xs) none in

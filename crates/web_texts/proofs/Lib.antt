@@ -11,4 +11,6 @@ pub mod PieceLemmas
 pub mod TextPartLemmas
 pub mod TagLemmas
 pub mod DecimalLemmas
+pub mod KeptMediaLemmas
+pub mod WrittenMediaLemmas
 mod MethodLemmas

@@ -35,7 +35,7 @@ closed_last [] e = absurd (cc)
 closed_last (b ∷ []) e = (omega arith, grind (arith, nat_tests))
 closed_last (b ∷ c ∷ rest) e = step b c rest (b == 92) e (closed_last rest) (closed_last (c ∷ rest))
 
-parameters_more : (piece : List ℕ) (ps : List (List ℕ)) → IsCons ps → parameters_of (piece ∷ ps) ≡ and_parameters (parameter_of (trimmed piece)) (parameters_of ps)
+pub parameters_more : (piece : List ℕ) (ps : List (List ℕ)) → IsCons ps → parameters_of (piece ∷ ps) ≡ and_parameters (parameter_of (trimmed piece)) (parameters_of ps)
 parameters_more piece ps (first, more, is) = rw is refl
 
 -- the first piece is not the last one
@@ -43,7 +43,7 @@ pub first_parameter : (text piece : List ℕ) (behind : Bor (List ℕ)) → IsFi
     → parameters_of (pieces semicolons Outside text) ≡ and_parameters (parameter_of (trimmed piece)) (parameters_of (pieces semicolons Outside behind.now))
 first_parameter text piece behind cut = rw cut (parameters_more piece (pieces semicolons Outside behind.now) (pieces_cons semicolons Outside behind.now))
 
-pieces_more : (essence : List ℕ) (ps : List (List ℕ)) → IsCons ps → media_type_of_pieces (essence ∷ ps) ≡ option_and_then (with_parameters (without_end essence)) (parameters_of ps)
+pub pieces_more : (essence : List ℕ) (ps : List (List ℕ)) → IsCons ps → media_type_of_pieces (essence ∷ ps) ≡ option_and_then (with_parameters (without_end essence)) (parameters_of ps)
 pieces_more essence ps (first, more, is) = rw is refl
 
 -- there are pieces behind the essence

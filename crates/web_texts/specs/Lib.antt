@@ -19,3 +19,4 @@ pub mod QuotedText
 pub mod TextParts
 pub mod TextReaders
 pub mod Tokens
+pub mod WrittenMediaTypes

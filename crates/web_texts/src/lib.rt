@@ -27,6 +27,7 @@ mod readers;
 mod text;
 mod text_parts;
 mod tokens;
+mod written_media;
 
 pub use blanks::{trim, trim_bytes, trim_end, trim_front};
 pub use bytes::bytes_equal;

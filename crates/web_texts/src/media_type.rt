@@ -1,5 +1,5 @@
 //! Media types (RFC 9110, section 8.3.1).
-ghost use Rattle.std.specs.Prelude.{◌≡◌, IfOk};
+ghost use Rattle.std.specs.Prelude.{◌≡◌, Some, true, IfOk};
 ghost use Rattle.std.specs.List.{before_first, after_first};
 ghost use Rattle.std.specs.Option.{option_map};
 ghost use Rattle.web_texts.specs.TextReaders.{Reads};
@@ -7,6 +7,7 @@ ghost use Rattle.web_texts.specs.MediaTypes.{is_slash, is_essence as essence_tes
 ghost use Rattle.web_texts.specs.MediaTypes.{subtype_of, suffix_of, with_parameters};
 ghost use Rattle.web_texts.specs.MediaTypes.{charset_of, is_named, value_in};
 ghost use Rattle.web_texts.specs.MediaTypes.{media_type_of, essence_of, param_value};
+ghost use Rattle.web_texts.specs.WrittenMediaTypes.{AreKeptParameters};
 
 use crate::blanks::trim_end;
 use crate::cut::{cut_at, cut_at_last, split_str_once};
@@ -19,6 +20,7 @@ use crate::pieces::first_piece;
 use crate::readers::ReadText;
 use crate::text::{Pair, Text};
 use crate::tokens::{is_token, to_lowercase};
+use crate::written_media::{are_plain, behind};
 use std::alloc::Global;
 use std::marker::Model;
 
@@ -33,15 +35,14 @@ pub struct Mime {
 }
 
 impl Model for Mime {
-    ghost use Rattle.std.specs.Prelude.{◌≡◌, true};
-    ghost use Rattle.std.specs.List.{list_any};
-    ghost use Rattle.web_texts.specs.MediaTypes.{MediaType, of_essence, is_slash};
+    ghost use Rattle.web_texts.specs.MediaTypes.{MediaType, of_essence};
+    ghost use Rattle.web_texts.specs.WrittenMediaTypes.{IsKept};
 
     ghost Value = { MediaType };
 
     ghost view = { λ m. of_essence m.essence m.params };
 
-    ghost invariant = { λ m. list_any is_slash m.essence ≡ true };
+    ghost invariant = { λ m. IsKept m.essence m.params };
 }
 
 fn is_essence(text: &str) -> bool
@@ -53,8 +54,9 @@ fn is_essence(text: &str) -> bool
     }
 }
 
-#[tactic(auto, using(crate::proofs::EssenceLemmas::has_slash_lowered))]
+#[tactic(auto, using(crate::proofs::KeptMediaLemmas::kept_lowered))]
 fn with_params(alloc: Global, essence: &str, params: Vec<Pair>) -> Result<Mime, Fail<MimeFault>>
+    requires { AreKeptParameters params.items }
     ensures { Reads result (with_parameters essence.now params.items) }
 {
     if !is_essence(essence) {
@@ -157,6 +159,18 @@ impl Mime {
         first_value(self.params.as_slice(), name)
     }
 
+    /// Whether a text is this media type in its plainest spelling: in lower case, with at most one
+    /// space behind each semicolon and no other blank, and without quotes. Another text may name
+    /// the same media type. It takes no memory.
+    pub fn is_written(&self, text: &str) -> bool
+        ensures { result ≡ true → media_type_of text.now ≡ Some self.now }
+    {
+        match behind(text.as_bytes(), self.essence.as_str().as_bytes()) {
+            Some(params) => are_plain(self.params.as_slice(), params),
+            None => false,
+        }
+    }
+
     /// The value of the first `charset`, in lower case.
     pub fn charset(&self) -> Option<&str>
         ensures { option_map (λ value. value.now) result ≡ charset_of self.now }
@@ -198,7 +212,7 @@ impl PartialEq for Mime {
 
     ghost laws = { partial_equiv_from_equiv media_type_eq_law };
 
-    #[tactic(auto, using(crate::proofs::EssenceLemmas::essence_back))]
+    #[tactic(auto, using(crate::proofs::KeptMediaLemmas::kept_back))]
     fn eq(&self, other: &Mime) -> bool {
         self.essence() == other.essence() && self.params() == other.params()
     }
