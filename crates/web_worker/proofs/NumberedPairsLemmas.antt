@@ -23,6 +23,14 @@ each_same P Q i (x ∷ xs) (y ∷ ys) f h = (
 each_same P Q i [] (y ∷ ys) f h = h
 each_same P Q i (x ∷ xs) [] f h = h
 
+-- P and Q hold at each number of the list
+pub each_both : {X Y : Type 0} (P Q : ℕ → X → Y → Type 0) (i : ℕ) (xs : List X) (ys : List Y) → EachFrom P i xs ys → EachFrom Q i xs ys
+    → EachFrom (λ j x y. P j x y × Q j x y) i xs ys
+each_both P Q i [] [] g h = tt
+each_both P Q i (x ∷ xs) (y ∷ ys) g h = ((g.0, h.0), each_both P Q (i + 1) xs ys g.1 h.1)
+each_both P Q i [] (y ∷ ys) g h = absurd h
+each_both P Q i (x ∷ xs) [] g h = absurd h
+
 -- a change at one place
 pub each_set : {X Y : Type 0} (P Q : ℕ → X → Y → Type 0) (i : ℕ) (xs : List X) (ys : List Y) (k : ℕ) (f g : Y) → slice_get ys k ≡ Some f
     → ((x : X) → P (i + k) x f → Q (i + k) x g) → ((j : ℕ) (x : X) (y : Y) → j ≢ i + k → P j x y → Q j x y)
@@ -77,6 +85,18 @@ each_get P i (x ∷ xs) (y ∷ ys) zero f e h =
 each_get P i (x ∷ xs) (y ∷ ys) (suc k) f e h =
     let r = each_get P (i + 1) xs ys k f e h.1 in let l : i + 1 + k ≡ i + suc k = omega arith in
     (r.0, r.1, subst (λ (j : ℕ). P j r.0 f) l r.2)
+
+pub each_left : {X Y : Type 0} (P : ℕ → X → Y → Type 0) (i : ℕ) (xs : List X) (ys : List Y) (k : ℕ) (x : X) → slice_get xs k ≡ Some x → EachFrom P i xs ys
+    → (y : Y) × P (i + k) x y
+each_left P i [] [] k x e h = absurd cc
+each_left P i [] (y ∷ ys) k x e h = absurd h
+each_left P i (a ∷ xs) [] k x e h = absurd h
+each_left P i (a ∷ xs) (y ∷ ys) zero x e h =
+    let v : a ≡ x = cc in let l : i ≡ i + 0 = omega arith in
+    (y, subst (λ (j : ℕ). P j x y) l (subst (λ (z : _). P i z y) v h.0))
+each_left P i (a ∷ xs) (y ∷ ys) (suc k) x e h =
+    let r = each_left P (i + 1) xs ys k x e h.1 in let l : i + 1 + k ≡ i + suc k = omega arith in
+    (r.0, subst (λ (j : ℕ). P j x r.0) l r.1)
 
 pub each_get_none : {X Y : Type 0} (P : ℕ → X → Y → Type 0) (i : ℕ) (xs : List X) (ys : List Y) (k : ℕ) → slice_get ys k ≡ None → EachFrom P i xs ys → slice_get xs k ≡ None
 each_get_none P i [] [] k e h = refl

@@ -1,119 +1,26 @@
--- One poll of a flight is one entry of the pool run.
-use Rattle.std.proofs.Common.{◌≡◌, ◌==◌, ℕ, zero, suc, ◌+◌, ◌<◌, ◌≤◌, Bool, true, false, List, [], ◌∷◌, ◌++◌, map, refl, sym, ◌∙◌, ap, arith, subst, ◌⊎◌, inl, inr, append_assoc, append-nil}
-use Rattle.std.specs.Prelude.{Option, None, Some, MatchOption, slice_get, slice_set}
-use Rattle.std.proofs.lemmas.List.{map-set}
-use Rattle.std.proofs.lemmas.Option.{slice_get-map}
-use Rattle.std.proofs.lemmas.Bool.{cases_lt}
-use Rattle.std.proofs.lemmas.Bool.Decides.{nat_tests}
-use Rattle.web_request.specs.Pool.{Pool, after_give_back, after_start, next_serial}
-use Rattle.web_reply.specs.ResponseBodies.{Plain}
-use Rattle.web_reply.specs.Replies.{Reply}
+-- One poll of a flight is one entry of the pool run, whose delay is the number of polls at which the flight is answered.
+use Rattle.std.proofs.Common.{◌≡◌, ◌==◌, ℕ, suc, ◌+◌, ◌<◌, ◌≤◌, ◌≢◌, Bool, true, false, cond, List, [], ◌∷◌, ◌++◌, length, refl, sym, ◌∙◌, ap, arith, subst, ◌⊎◌, inl, inr, append_assoc, append-nil, eq-eqb, ne_eqb}
+use Rattle.std.specs.Prelude.{Option, None, Some, slice_get, slice_set}
+use Rattle.std.proofs.lemmas.Bool.{cases_eq}
+use Rattle.std.proofs.lemmas.List.{length-set}
+use Rattle.std.proofs.lemmas.Option.{slice_get_within}
+use Rattle.web_request.specs.Pool.{Pool, after_start, next_serial}
 use Rattle.web_worker.specs.Outcomes.{OutcomeView, OutcomeView.Replied, OutcomeView.Unfinished, OutcomeView.NoMemory}
 use Rattle.web_worker.specs.Exchanges.{ExchangeView, FlightView}
 use Rattle.web_worker.specs.Exchanges.{FlightView.Waiting, FlightView.Extracting, FlightView.Handling, FlightView.Answered}
 use Rattle.web_worker.specs.Setting.{Setting}
-use Rattle.web_worker.specs.Flights.{ExchangeBefore, ExchangeGives, FlightGives, FlightStep, PollResult}
-use Rattle.web_worker.specs.OutcomeFunctions.{AnswersOnce}
-use Rattle.web_worker.specs.PlanOutcomes.{AllowedOutcome, EachFrom, poll_count}
-use Rattle.web_worker.specs.PollOne.{FlightPoll, NoChange, PollsAt}
-use Rattle.web_worker.specs.PlanPools.{EachAnswersOnce}
+use Rattle.web_worker.specs.Flights.{ExchangeGives, FlightStep, PollResult, flight_outcome}
+use Rattle.web_worker.specs.PlanOutcomes.{poll_count}
+use Rattle.web_worker.specs.PlanPools.{AllowedDelay}
 use Rattle.web_worker.specs.PoolSteps.{TakesOrReturns, HeldOrReturned, serial_of}
-use Rattle.web_worker.specs.PoolRun.{Taken, Returned, SerialState, NotTaken, run_entry, run_entry_at, hold_or_return, run_entries, serial_state}
-use Rattle.web_worker.proofs.PlanProgressLemmas.{FlightAfter, GivesLater, allowed, flight_next, waiting_later}
+use Rattle.web_worker.specs.PoolRun.{SerialState, run_entry, run_entry_at, hold_or_return, run_entries, serial_state}
+use Rattle.web_worker.proofs.NumberedPairsLemmas.{polls_here}
+use Rattle.web_worker.proofs.PlanProgressLemmas.{FlightAfter, GivesLater, waiting_later}
 
-unequal : (n d : ℕ) → suc n ≤ d → (n == d) ≡ false
-unequal n d h = grind (arith, nat_tests)
+pub unequal : (n d : ℕ) → suc n ≤ d → (n == d) ≡ false
+unequal n d h = ne_eqb n d (λ e. omega (arith, e, h))
 
-equal : (n d : ℕ) → n ≡ d → (n == d) ≡ true
-equal n d h = grind (arith, nat_tests)
-
--- a record that is held on, or comes back
-goes : {S L D C U W : Type 0} (x : ℕ) (g : FlightView S L D C U W) (b : Bool) (p q : Pool L) → HeldOrReturned (Some x) (serial_of g) p q
-    → (serial_of g ≡ None → b ≡ true) → ((n : ℕ) → serial_of g ≡ Some n → b ≡ false) → (serial_state g ≡ NotTaken → ⊥) → hold_or_return p x b ≡ (q, serial_state g)
-goes x (Waiting y) b p q back answered held some = absurd (some refl)
-goes x (Extracting h) b p q back answered held some = rw (held h.record_of.serial refl, back.0, back.1) refl
-goes x (Handling h) b p q back answered held some = rw (held h.record_of.serial refl, back.0, back.1) refl
-goes x (Answered o) b p q back answered held some = rw (answered refl, back.0) refl
-
-abbrev pub IsLost : {S L D C U W : Type 0} → FlightView S L D C U W → Type 0
-IsLost g = g ≡ Answered NoMemory
-
-module _ {S L D C V E Y U W : Type 0} (s : Setting S L D C V E Y U W) (x : ExchangeView S L D C) (d : ℕ) (r : Reply Plain) (once : AnswersOnce s x d r) where
-  -- an exchange that is not answered after n + 1 polls has a greater delay
-  early : (n : ℕ) → AllowedOutcome s (suc n) x Unfinished → suc n ≤ d
-  early n (inl e) = absurd (omega (arith, e))
-  early n (inr still) = by_order (cases_lt d (suc n))
-    where
-      by_order : (d < suc n) ⊎ (suc n ≤ d) → suc n ≤ d
-      by_order (inl lt) = absurd (still (once.comes (suc n) lt))
-      by_order (inr le) = le
-
-  -- a flight that is polled, as its exchange after n polls
-  module _ (n : ℕ) (f g : FlightView S L D C U W) (later : GivesLater s n x f) (result : PollResult s f g) (after : FlightAfter s (suc n) x g) (kept : IsLost g → ⊥) where
-    test_none : (o : OutcomeView) → g ≡ Answered o → (n == d) ≡ true
-    test_none (Replied p) e =
-        let came : FlightGives s f 0 p = rw e at result in
-        let at = once.once (n + 0) p (later.0 0 p came) in
-        let same = at.0 in
-        equal n d (omega (arith, same))
-    test_none Unfinished e = absurd (rw e at result)
-    test_none NoMemory e = absurd (kept e)
-
-  answered_test : (n : ℕ) (f g : FlightView S L D C U W) → GivesLater s n x f → PollResult s f g → FlightAfter s (suc n) x g → (IsLost g → ⊥) → serial_of g ≡ None → (n == d) ≡ true
-  answered_test n f (Waiting y) later result after kept e = absurd result
-  answered_test n f (Extracting h) later result after kept e = absurd (cc)
-  answered_test n f (Handling h) later result after kept e = absurd (cc)
-  answered_test n f (Answered o) later result after kept e = test_none n f (Answered o) later result after kept o refl
-
-  held_test : (n m : ℕ) (g : FlightView S L D C U W) → FlightAfter s (suc n) x g → serial_of g ≡ Some m → (n == d) ≡ false
-  held_test n m (Waiting y) after e = absurd (cc)
-  held_test n m (Extracting h) after e = unequal n d (early n (allowed s (suc n) x (Extracting h) after))
-  held_test n m (Handling h) after e = unequal n d (early n (allowed s (suc n) x (Handling h) after))
-  held_test n m (Answered o) after e = absurd (cc)
-
-  never_waits : (n : ℕ) (g : FlightView S L D C U W) → FlightAfter s (suc n) x g → serial_state g ≡ NotTaken → ⊥
-  never_waits n (Waiting y) after e = omega (arith, after.1)
-  never_waits n (Extracting h) after e = absurd (cc)
-  never_waits n (Handling h) after e = absurd (cc)
-  never_waits n (Answered o) after e = absurd (cc)
-
-  -- where the flight has taken or holds the record y of the pool p
-  polled : (n y : ℕ) (f g : FlightView S L D C U W) (p q : Pool L) → GivesLater s n x f → PollResult s f g → FlightAfter s (suc n) x g → (IsLost g → ⊥) → HeldOrReturned (Some y) (serial_of g) p q
-      → hold_or_return p y (n == d) ≡ (q, serial_state g)
-  polled n y f g p q later result after kept back =
-      goes y g (n == d) p q back (answered_test n f g later result after kept) (λ m. held_test n m g after) (never_waits n g after)
-
-  -- one poll of a flight is one entry of the pool run, where no allocation failed
-  pub state_step : (n : ℕ) (f g : FlightView S L D C U W) (p q : Pool L) → FlightStep s f g → TakesOrReturns f g p q → FlightAfter s n x f → FlightAfter s (suc n) x g → (IsLost g → ⊥)
-      → run_entry p (serial_state f) (n == d) ≡ (q, serial_state g)
-  state_step n (Waiting y) g p q step (inl back) at after kept =
-      let result = subst (λ (z : ExchangeView S L D C). PollResult s (Waiting z) g) at.0 (step.polled refl) in
-      polled n (next_serial p) (Waiting x) g (after_start p) q (waiting_later s n x at.1) result after kept back
-  state_step n (Waiting y) g p q step (inr lost) at after kept = absurd (kept lost.1)
-  state_step n (Extracting h) g p q step moves at after kept = polled n h.record_of.serial (Extracting h) g p q at.1 (step.polled refl) after kept moves
-  state_step n (Handling h) g p q step moves at after kept = polled n h.record_of.serial (Handling h) g p q at.1 (step.polled refl) after kept moves
-  state_step n (Answered o) g p q step moves at after kept = rw (step.answered refl, moves) refl
-
--- ---- the plan
-
-each_at : {X Y : Type 0} (P : ℕ → X → Y → Type 0) (i : ℕ) (xs : List X) (ys : List Y) (k : ℕ) (y : Y) → slice_get ys k ≡ Some y → EachFrom P i xs ys
-    → (x : X) × (slice_get xs k ≡ Some x) × P (i + k) x y
-each_at P i [] [] k y e h = absurd cc
-each_at P i [] (z ∷ ys) k y e h = absurd h
-each_at P i (x ∷ xs) [] k y e h = absurd h
-each_at P i (x ∷ xs) (z ∷ ys) zero y e h =
-    let q : i ≡ i + 0 = omega arith in
-    let v : z ≡ y = cc in
-    (x, refl, subst (λ (m : ℕ). P m x y) q (subst (λ (w : _). P i x w) v h.0))
-each_at P i (x ∷ xs) (z ∷ ys) (suc k) y e h =
-    let r = each_at P (i + 1) xs ys k y e h.1 in
-    let q : i + 1 + k ≡ i + suc k = omega arith in
-    (r.0, r.1, subst (λ (m : ℕ). P m r.0 y) q r.2)
-
-get_set : {X : Type 0} (xs : List X) (k : ℕ) (f g : X) → slice_get xs k ≡ Some f → slice_get (slice_set xs k g) k ≡ Some g
-get_set [] k f g e = absurd cc
-get_set (x ∷ xs) zero f g e = refl
-get_set (x ∷ xs) (suc k) f g e = get_set xs k f g e
+-- ---- entries
 
 -- one more entry at the end
 pub run_end : {L : Type 0} (delay : ℕ → ℕ) (p : Pool L) (ss : List SerialState) (done plan : List ℕ) (k : ℕ)
@@ -125,32 +32,138 @@ run_end delay p ss done (j ∷ plan) k =
     run_end delay next.0 next.1 (done ++ j ∷ []) plan k
     ∙ ap (λ (js : List ℕ). run_entry_at (run_entries delay next.0 next.1 (done ++ j ∷ []) plan).0 (run_entries delay next.0 next.1 (done ++ j ∷ []) plan).1 k (poll_count js k == delay k) (slice_get (run_entries delay next.0 next.1 (done ++ j ∷ []) plan).1 k)) (append_assoc done (j ∷ []) plan)
 
-module _ {S L D C V E Y U W : Type 0} (s : Setting S L D C V E Y U W) (xs : List (ExchangeView S L D C)) (delay : ℕ → ℕ)
-    (once : EachAnswersOnce s xs delay) where
-  entry_is : (done : List ℕ) (k : ℕ) (mid new : List (FlightView S L D C U W)) (a b : Pool L) (calls_old calls_new : Option (List V)) (o : Option (FlightView S L D C U W)) → slice_get mid k ≡ o
-      → MatchOption o (NoChange s mid new a b calls_old calls_new) (λ f. (g : FlightView S L D C U W) × (new ≡ slice_set mid k g) × FlightPoll s f g a b calls_old calls_new)
-      → EachFrom (λ j x f. FlightAfter s (poll_count done j) x f) 0 xs mid → ((g : FlightView S L D C U W) → slice_get new k ≡ Some g → IsLost g → ⊥)
-      → run_entry_at a (map serial_state mid) k (poll_count done k == delay k) (slice_get (map serial_state mid) k) ≡ (b, map serial_state new)
-  entry_is done k mid new a b calls_old calls_new None e m h kept =
-      rw (slice_get-map serial_state mid k, e, m.pool, m.flights) refl
-  entry_is done k mid new a b calls_old calls_new (Some f) e m h kept =
-      let at = each_at (λ j x f. FlightAfter s (poll_count done j) x f) 0 xs mid k f e h in
-      let place : 0 + k ≡ k = omega arith in
-      let now = subst (λ (j : ℕ). FlightAfter s (poll_count done j) at.0 f) place at.2 in
-      let after = flight_next s (poll_count done k) at.0 f m.0 now m.2.step in
-      let there : slice_get new k ≡ Some m.0 = ap (λ (l : List (FlightView S L D C U W)). slice_get l k) m.1 ∙ get_set mid k f m.0 e in
-      let answers = once k at.0 at.1 in
-      let step = state_step s at.0 (delay k) answers.0 answers.1 (poll_count done k) f m.0 a b m.2.step m.2.moves now after (kept m.0 there) in
-      let states : slice_set (map serial_state mid) k (serial_state m.0) ≡ map serial_state new = sym (ap (λ (l : List (FlightView S L D C U W)). map serial_state l) m.1 ∙ map-set serial_state mid k m.0) in
-      rw (slice_get-map serial_state mid k, e)
-      (ap (λ (z : Pool L × SerialState). (z.0, slice_set (map serial_state mid) k z.1)) step ∙ ap (λ (l : List SerialState). (b, l)) states)
+polls_join : (xs ys : List ℕ) (k : ℕ) → poll_count (xs ++ ys) k ≡ poll_count xs k + poll_count ys k
+polls_join [] ys k = omega arith
+polls_join (x ∷ xs) ys k = let h = polls_join xs ys k in omega (arith, h)
 
-  -- the pool run of one entry more, where no allocation failed at it
-  pub run_next : (p : Pool L) (ss : List SerialState) (plan : List ℕ) (k : ℕ) (mid new : List (FlightView S L D C U W)) (a b : Pool L) (calls_old calls_new : Option (List V))
-      → PollsAt s k mid new a b calls_old calls_new → EachFrom (λ j x f. FlightAfter s (poll_count plan j) x f) 0 xs mid
-      → ((g : FlightView S L D C U W) → slice_get new k ≡ Some g → IsLost g → ⊥)
-      → run_entries delay p ss [] plan ≡ (a, map serial_state mid) → run_entries delay p ss [] (plan ++ k ∷ []) ≡ (b, map serial_state new)
-  run_next p ss plan k mid new a b calls_old calls_new polls flights kept so_far =
-      run_end delay p ss [] plan k
-      ∙ (ap (λ (z : Pool L × List SerialState). run_entry_at z.0 z.1 k (poll_count plan k == delay k) (slice_get z.1 k)) so_far
-      ∙ entry_is plan k mid new a b calls_old calls_new (slice_get mid k) refl polls flights kept)
+fewer_before : (done plan : List ℕ) (k : ℕ) → poll_count done k < poll_count (done ++ k ∷ plan) k
+fewer_before done plan k =
+    let here = polls_here done k in
+    let both = polls_join (done ++ k ∷ []) plan k in
+    let lt : poll_count done k < poll_count ((done ++ k ∷ []) ++ plan) k = omega (arith, here, both) in
+    subst (λ (js : List ℕ). poll_count done k < poll_count js k) (append_assoc done (k ∷ []) plan) lt
+
+module _ {L : Type 0} where
+  entry_same : (p : Pool L) (ss : List SerialState) (k : ℕ) (a b : Bool) → (k < length ss → a ≡ b) → (o : Option SerialState) → slice_get ss k ≡ o → run_entry_at p ss k a o ≡ run_entry_at p ss k b o
+  entry_same p ss k a b same None e = refl
+  entry_same p ss k a b same (Some s) e = ap (λ (t : Bool). run_entry_at p ss k t (Some s)) (same (slice_get_within ss k s e))
+
+  as_long : (p : Pool L) (ss : List SerialState) (k : ℕ) (a : Bool) (o : Option SerialState) → length (run_entry_at p ss k a o).1 ≡ length ss
+  as_long p ss k a None = refl
+  as_long p ss k a (Some s) = length-set ss k (run_entry p s a).1
+
+  -- with other delays the entries are the same, where each of them answers its exchange or not as before
+  pub run_same : (delay other : ℕ → ℕ) (p : Pool L) (ss : List SerialState) (done plan : List ℕ)
+      → ((k n : ℕ) → k < length ss → n < poll_count (done ++ plan) k → (n == delay k) ≡ (n == other k)) → run_entries delay p ss done plan ≡ run_entries other p ss done plan
+  run_same delay other p ss done [] same = refl
+  run_same delay other p ss done (k ∷ plan) same =
+      let n = poll_count done k in
+      let next = run_entry_at p ss k (n == other k) (slice_get ss k) in
+      let size = as_long p ss k (n == other k) (slice_get ss k) in
+      ap (λ (z : Pool L × List SerialState). run_entries delay z.0 z.1 (done ++ k ∷ []) plan) (entry_same p ss k (n == delay k) (n == other k) (λ within. same k n within (fewer_before done plan k)) (slice_get ss k) refl)
+      ∙ run_same delay other next.0 next.1 (done ++ k ∷ []) plan
+      (λ j m within lt. same j m (omega (arith, within, size)) (subst (λ (js : List ℕ). m < poll_count js j) (append_assoc done (k ∷ []) plan) lt))
+
+-- the delays with d for exchange k
+abbrev pub delay_set : (ℕ → ℕ) → ℕ → ℕ → ℕ → ℕ
+delay_set delay k d j = cond (j == k) d (delay j)
+
+pub set_here : (delay : ℕ → ℕ) (k d : ℕ) → delay_set delay k d k ≡ d
+set_here delay k d = rw (eq-eqb k k refl) refl
+
+pub set_other : (delay : ℕ → ℕ) (k d j : ℕ) → j ≢ k → delay_set delay k d j ≡ delay j
+set_other delay k d j ne = rw (ne_eqb j k ne) refl
+
+-- another delay of exchange k leaves the entries of a plan, where they answer it or not as before
+pub set_same : (delay : ℕ → ℕ) (plan : List ℕ) (k d : ℕ) → ((n : ℕ) → n < poll_count plan k → (n == delay k) ≡ (n == d))
+    → (j n : ℕ) → n < poll_count plan j → (n == delay j) ≡ (n == delay_set delay k d j)
+set_same delay plan k d same j n lt = by (cases_eq j k)
+  where
+    by : (j ≡ k) ⊎ (j ≡ k → ⊥) → (n == delay j) ≡ (n == delay_set delay k d j)
+    by (inl e) =
+        let here : n < poll_count plan k = subst (λ (i : ℕ). n < poll_count plan i) e lt in
+        subst (λ (i : ℕ). (n == delay i) ≡ (n == delay_set delay k d i)) (sym e) (same n here ∙ ap (λ (m : ℕ). n == m) (sym (set_here delay k d)))
+    by (inr ne) = ap (λ (m : ℕ). n == m) (sym (set_other delay k d j ne))
+
+-- ---- one poll
+
+abbrev pub IsLost : {S L D C U W : Type 0} → FlightView S L D C U W → Type 0
+IsLost g = g ≡ Answered NoMemory
+
+module _ {S L D C U W : Type 0} where
+  -- the delay of a flight that the poll after n others left so: it is answered now, or at a later one
+  abbrev pub delay_now : ℕ → FlightView S L D C U W → ℕ
+  delay_now n (Waiting x) = suc n
+  delay_now n (Extracting h) = suc n
+  delay_now n (Handling h) = suc n
+  delay_now n (Answered o) = n
+
+  -- the delay d of a flight that was answered stays
+  abbrev pub delay_next : ℕ → ℕ → FlightView S L D C U W → FlightView S L D C U W → ℕ
+  delay_next n d (Waiting x) g = delay_now n g
+  delay_next n d (Extracting h) g = delay_now n g
+  delay_next n d (Handling h) g = delay_now n g
+  delay_next n d (Answered o) g = d
+
+  not_below : (n : ℕ) (g : FlightView S L D C U W) → n ≤ delay_now n g
+  not_below n (Waiting x) = omega arith
+  not_below n (Extracting h) = omega arith
+  not_below n (Handling h) = omega arith
+  not_below n (Answered o) = omega arith
+
+  both_later : (n d m : ℕ) (g : FlightView S L D C U W) → n ≤ d → m < n → (m == d) ≡ (m == delay_now n g)
+  both_later n d m g le lt =
+      let now = not_below n g in
+      let first : suc m ≤ d = omega (arith, le, lt) in
+      let second : suc m ≤ delay_now n g = omega (arith, now, lt) in
+      unequal m d first ∙ sym (unequal m (delay_now n g) second)
+
+module _ {S L D C V E Y U W : Type 0} (s : Setting S L D C V E Y U W) where
+  -- no poll before this one answers otherwise
+  pub same_before : (n d : ℕ) (x : ExchangeView S L D C) (f g : FlightView S L D C U W) → AllowedDelay s n x (flight_outcome f) d
+      → (m : ℕ) → m < n → (m == d) ≡ (m == delay_next n d f g)
+  same_before n d x (Waiting y) g fits m lt = both_later n d m g fits lt
+  same_before n d x (Extracting h) g fits m lt = both_later n d m g fits lt
+  same_before n d x (Handling h) g fits m lt = both_later n d m g fits lt
+  same_before n d x (Answered o) g fits m lt = refl
+
+  result_fits : (n : ℕ) (x : ExchangeView S L D C) (f g : FlightView S L D C U W) → GivesLater s n x f → PollResult s f g → (IsLost g → ⊥)
+      → AllowedDelay s (suc n) x (flight_outcome g) (delay_now n g)
+  result_fits n x f (Waiting y) later result kept = absurd result
+  result_fits n x f (Extracting h) later result kept = omega arith
+  result_fits n x f (Handling h) later result kept = omega arith
+  result_fits n x f (Answered (Replied r)) later result kept = let e : n + 0 ≡ n = omega arith in (omega arith, subst (λ (m : ℕ). ExchangeGives s x m r) e (later.0 0 r result))
+  result_fits n x f (Answered Unfinished) later result kept = absurd result
+  result_fits n x f (Answered NoMemory) later result kept = absurd (kept refl)
+
+  answered_fits : (n d : ℕ) (x : ExchangeView S L D C) (o : OutcomeView) → FlightAfter s n x (Answered o) → AllowedDelay s n x o d → AllowedDelay s (suc n) x o d
+  answered_fits n d x (Replied r) at fits = let lt : d < suc n = omega (arith, fits.0) in (lt, fits.1)
+  answered_fits n d x Unfinished at fits = absurd at
+  answered_fits n d x NoMemory at fits = fits
+
+  -- the delay agrees with what the poll made of the flight
+  pub step_fits : (n d : ℕ) (x : ExchangeView S L D C) (f g : FlightView S L D C U W) → FlightStep s f g → (IsLost g → ⊥) → FlightAfter s n x f
+      → AllowedDelay s n x (flight_outcome f) d → AllowedDelay s (suc n) x (flight_outcome g) (delay_next n d f g)
+  step_fits n d x (Waiting y) g step kept at fits =
+      let result = subst (λ (z : ExchangeView S L D C). PollResult s (Waiting z) g) at.0 (step.polled refl) in
+      result_fits n x (Waiting x) g (waiting_later s n x at.1) result kept
+  step_fits n d x (Extracting h) g step kept at fits = result_fits n x (Extracting h) g at.1 (step.polled refl) kept
+  step_fits n d x (Handling h) g step kept at fits = result_fits n x (Handling h) g at.1 (step.polled refl) kept
+  step_fits n d x (Answered o) g step kept at fits = subst (λ (z : FlightView S L D C U W). AllowedDelay s (suc n) x (flight_outcome z) d) (sym (step.answered refl)) (answered_fits n d x o at fits)
+
+  -- where the flight has taken or holds the record y of the pool p
+  polled : (n y : ℕ) (f g : FlightView S L D C U W) (p q : Pool L) → PollResult s f g → HeldOrReturned (Some y) (serial_of g) p q
+      → hold_or_return p y (n == delay_now n g) ≡ (q, serial_state g)
+  polled n y f (Waiting x) p q result back = absurd result
+  polled n y f (Extracting h) p q result back = rw (unequal n (suc n) (omega arith), back.0, back.1) refl
+  polled n y f (Handling h) p q result back = rw (unequal n (suc n) (omega arith), back.0, back.1) refl
+  polled n y f (Answered o) p q result back = rw (eq-eqb n n refl, back.0) refl
+
+  -- one poll of a flight is one entry of the pool run with that delay, where no allocation failed
+  pub state_step : (n d : ℕ) (f g : FlightView S L D C U W) (p q : Pool L) → FlightStep s f g → TakesOrReturns f g p q → (IsLost g → ⊥)
+      → run_entry p (serial_state f) (n == delay_next n d f g) ≡ (q, serial_state g)
+  state_step n d (Waiting x) g p q step (inl back) kept = polled n (next_serial p) (Waiting x) g (after_start p) q (step.polled refl) back
+  state_step n d (Waiting x) g p q step (inr lost) kept = absurd (kept lost.1)
+  state_step n d (Extracting h) g p q step moves kept = polled n h.record_of.serial (Extracting h) g p q (step.polled refl) moves
+  state_step n d (Handling h) g p q step moves kept = polled n h.record_of.serial (Handling h) g p q (step.polled refl) moves
+  state_step n d (Answered o) g p q step moves kept = rw (step.answered refl, moves) refl

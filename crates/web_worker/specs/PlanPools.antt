@@ -1,14 +1,17 @@
--- What a whole plan makes of the pool, where each exchange has one delay and one reply.
-use Rattle.std.specs.Prelude.{◌≡◌, ℕ, List, [], Bool, false, Some, map, slice_get}
+-- What a whole plan makes of the pool, by the delays of its exchanges.
+use Rattle.std.specs.Prelude.{◌≡◌, ℕ, ◌<◌, ◌≤◌, List, [], Bool, false, Some, map, slice_get}
 use Rattle.std.specs.List.{list_any}
 use Rattle.web_request.specs.Pool.{Pool}
 use Rattle.web_reply.specs.ResponseBodies.{Plain}
 use Rattle.web_reply.specs.Replies.{Reply}
 use Rattle.web_worker.specs.Outcomes.{OutcomeView}
+use Rattle.web_worker.specs.Outcomes.{OutcomeView.Replied, OutcomeView.Unfinished}
+use Rattle.web_worker.specs.Outcomes.{OutcomeView.NoMemory}
 use Rattle.web_worker.specs.Exchanges.{ExchangeView}
 use Rattle.web_worker.specs.Setting.{Setting}
+use Rattle.web_worker.specs.Flights.{ExchangeGives}
 use Rattle.web_worker.specs.OutcomeFunctions.{AnswersOnce}
-use Rattle.web_worker.specs.PlanOutcomes.{lacks_memory}
+use Rattle.web_worker.specs.PlanOutcomes.{EachFrom, lacks_memory, poll_count}
 use Rattle.web_worker.specs.PoolRun.{SerialState, NotTaken, return_held, run_entries}
 
 -- the pool that keeps these records and made so many
@@ -35,3 +38,19 @@ module _ {S L D C V E Y U W : Type 0} (s : Setting S L D C V E Y U W) where
   IsPoolAfter plan xs os p q =
       (delay : ℕ → ℕ) → EachAnswersOnce xs delay
       → list_any lacks_memory os ≡ false → q ≡ pool_after delay p xs plan
+
+  -- A delay that agrees with the outcome after n polls: a reply is one that may come after this
+  -- delay, and n is greater; where the exchange is unfinished, n is not greater.
+  abbrev pub AllowedDelay : ℕ → ExchangeView S L D C → OutcomeView → ℕ → Type 0
+  AllowedDelay n x (Replied r) d = (d < n) × ExchangeGives s x d r
+  AllowedDelay n x Unfinished d = n ≤ d
+  AllowedDelay n x NoMemory d = ⊥
+
+  -- Whatever the promises allow: where no outcome lacks memory, the pool is the one that the plan
+  -- leaves with some delays of the exchanges, each of which agrees with the outcome.
+  abbrev pub AllowedPool : List ℕ → List (ExchangeView S L D C) → List OutcomeView → Pool L → Pool L
+      → Type 0
+  AllowedPool plan xs os p q =
+      list_any lacks_memory os ≡ false → (delay : ℕ → ℕ)
+      × EachFrom (λ k x o. AllowedDelay (poll_count plan k) x o (delay k)) 0 xs os
+      × (q ≡ pool_after delay p xs plan)

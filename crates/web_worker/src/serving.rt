@@ -13,7 +13,7 @@ ghost use Rattle.web_worker.specs.PlanCalls.{LacksMemory};
 ghost use Rattle.web_worker.specs.PlanOutcomes.{AllowedOutcomes, OfWaiting};
 ghost use Rattle.web_worker.specs.RecordsMade.{waiting_count};
 ghost use Rattle.web_worker.specs.PoolRun.{return_held, serial_state};
-ghost use Rattle.web_worker.specs.PlanPools.{IsPoolAfter, with_records};
+ghost use Rattle.web_worker.specs.PlanPools.{AllowedPool, IsPoolAfter, with_records};
 
 use crate::exchange::Exchange;
 use crate::flight::Flight;
@@ -78,6 +78,10 @@ where
         (map N.number plan.now) xs (map (λ f. flight_outcome f) flights.new)
         (H.calls handler.old) (H.calls handler.new)) }
     ensures pool { OfWaiting flights.old (λ xs. IsPoolAfter
+        (⟦<H as Serves<A, Args>>⟧.setting handler.old worker.old)
+        (map N.number plan.now) xs (map (λ f. flight_outcome f) flights.new)
+        worker.old worker.new) }
+    ensures pools { OfWaiting flights.old (λ xs. AllowedPool
         (⟦<H as Serves<A, Args>>⟧.setting handler.old worker.old)
         (map N.number plan.now) xs (map (λ f. flight_outcome f) flights.new)
         worker.old worker.new) }
@@ -177,6 +181,9 @@ where
         plan.now exchanges.items (outcome_views A.Source.feed os.items)
         (H.calls handler.old) (H.calls handler.new)) }
     ensures pool { IfOk result (λ os. IsPoolAfter
+        (⟦<H as Serves<A, Args>>⟧.setting handler.old worker.old)
+        plan.now exchanges.items (outcome_views A.Source.feed os.items) worker.old worker.new) }
+    ensures pools { IfOk result (λ os. AllowedPool
         (⟦<H as Serves<A, Args>>⟧.setting handler.old worker.old)
         plan.now exchanges.items (outcome_views A.Source.feed os.items) worker.old worker.new) }
     ensures least { worker.old.made ≤ worker.new.made }

@@ -5,13 +5,14 @@ use Rattle.web_worker.specs.Flights.{flight_outcome}
 use Rattle.web_worker.specs.Outcomes.{OutcomeView, outcome_views}
 use Rattle.web_worker.specs.PlanCalls.{AllowedCalls, AppendsCalls, LacksMemory}
 use Rattle.web_worker.specs.PlanOutcomes.{AllowedOutcomes}
-use Rattle.web_worker.specs.PlanPools.{IsPoolAfter}
+use Rattle.web_worker.specs.PlanPools.{AllowedPool}
 use Rattle.web_worker.specs.RecordsMade.{waiting_count}
 use Rattle.web_worker.specs.Setting.{setting_of}
 use Rattle.web_worker.proofs.CallsFunctionLemmas.{deterministic_calls}
 use Rattle.web_worker.proofs.OutcomeFunctionsLemmas.{deterministic_outcomes}
 use Rattle.web_worker.proofs.PlanEndLemmas.{lent_back, map_same}
 use Rattle.web_worker.proofs.PoolCountLemmas.{waiting_start}
+use Rattle.web_worker.proofs.PoolFunctionLemmas.{pool_is}
 use Rattle.web_worker.proofs.serving.serve_all.Goals as goal
 
 pub serve_flights-requires-clause-room : goal.serve_flights-requires-clause-room
@@ -63,16 +64,22 @@ returns-clause-called g c =
     deterministic_calls s c.args.plan.now c.args.exchanges.items (outcome_views g.A.Source.Source.feed c.collect_outcomes.new.outcomes.items) (g.H.Handler.calls c.args.handler.now) (g.H.Handler.calls c.serve_flights.new.handler)
     (returns-clause-calls g c)
 
-pub returns-clause-pool : goal.returns-clause-pool
-returns-clause-pool g c =
+pub returns-clause-pools : goal.returns-clause-pools
+returns-clause-pools g c =
     let s = setting_of g.Args.FromRequest.means g.Args.Error.Into.converts (g.H.Handler.answers c.args.handler.now) g.H.Output.Responder.responds g.A.Source.Source.feed g.Args.Future.Poll.gives g.H.Future.Poll.gives c.args.worker.now in
     let waiting = c.as_mut_slice.ensures.value ∙ c.into_flights.ensures in
     let size : c.into_flights.new.flights.len ≡ length c.serve_flights.new.flights = sym (c.serve_flights.auto.flights ∙ c.as_mut_slice.ensures.len) in
     let same : outcome_views g.A.Source.Source.feed c.collect_outcomes.new.outcomes.items ≡ map (λ f. flight_outcome f) c.serve_flights.new.flights =
     c.collect_outcomes.ensures ∙ ap (λ fs. map (λ (f : FlightView _ _ _ _ _ _). flight_outcome f) fs)
     (lent_back c.into_flights.new.flights.len c.serve_flights.new.flights (drop (length c.serve_flights.new.flights) c.into_flights.new.flights.items) size) in
-    let served = subst (λ (plan : List ℕ). IsPoolAfter s plan c.args.exchanges.items (map (λ f. flight_outcome f) c.serve_flights.new.flights) c.args.worker.now c.serve_flights.new.worker) (map_same c.args.plan.now) (c.serve_flights.ensures.pool c.args.exchanges.items waiting) in
-    subst (λ (os : List OutcomeView). IsPoolAfter s c.args.plan.now c.args.exchanges.items os c.args.worker.now c.serve_flights.new.worker) (sym same) served
+    let served = subst (λ (plan : List ℕ). AllowedPool s plan c.args.exchanges.items (map (λ f. flight_outcome f) c.serve_flights.new.flights) c.args.worker.now c.serve_flights.new.worker) (map_same c.args.plan.now) (c.serve_flights.ensures.pools c.args.exchanges.items waiting) in
+    subst (λ (os : List OutcomeView). AllowedPool s c.args.plan.now c.args.exchanges.items os c.args.worker.now c.serve_flights.new.worker) (sym same) served
+
+pub returns-clause-pool : goal.returns-clause-pool
+returns-clause-pool g c =
+    let s = setting_of g.Args.FromRequest.means g.Args.Error.Into.converts (g.H.Handler.answers c.args.handler.now) g.H.Output.Responder.responds g.A.Source.Source.feed g.Args.Future.Poll.gives g.H.Future.Poll.gives c.args.worker.now in
+    pool_is s c.args.plan.now c.args.exchanges.items (outcome_views g.A.Source.Source.feed c.collect_outcomes.new.outcomes.items) c.args.worker.now c.serve_flights.new.worker
+    (returns-clause-outcomes g c) (returns-clause-pools g c)
 
 pub returns-clause-made : goal.returns-clause-made
 returns-clause-made g c =

@@ -14,6 +14,7 @@ use Rattle.web_worker.proofs.PlanEndLemmas.{ended_answered, ended_outcomes, map_
 use Rattle.web_worker.proofs.PlanProgressLemmas.{FlightsAfter, allowed_outcomes, flights_next, flights_start}
 use Rattle.web_worker.proofs.PoolCountLemmas.{polls_least, polls_most, polls_rest, room}
 use Rattle.web_worker.proofs.PoolEndLemmas.{returned_made, returned_rest}
+use Rattle.web_worker.proofs.PoolFunctionLemmas.{pool_is}
 use Rattle.web_worker.proofs.PoolPlanLemmas.{RunSoFar, run_ends, run_more, run_start}
 use Rattle.web_worker.proofs.SamePromiseLemmas.{polls_as}
 use Rattle.web_worker.proofs.serving.serve_flights.Goals as goal
@@ -115,8 +116,8 @@ returns-clause-called g c = λ xs e.
     deterministic_calls s (map (λ n. g.N.PlanEntry.number n) c.args.plan.now) xs (map (λ f. flight_outcome f) c.end_flights.new.flights) (g.H.Handler.calls c.args.handler.now) (g.H.Handler.calls c.loop-entry.handler)
     (returns-clause-calls g c xs e)
 
-pub returns-clause-pool : goal.returns-clause-pool
-returns-clause-pool g c = λ xs e.
+pub returns-clause-pools : goal.returns-clause-pools
+returns-clause-pools g c = λ xs e.
     let s = setting_of g.Args.FromRequest.means g.Args.Error.Into.converts (g.H.Handler.answers c.args.handler.now) g.H.Output.Responder.responds g.A.Source.Source.feed g.Args.Future.Poll.gives g.H.Future.Poll.gives c.args.worker.now in
     let plan = map (λ n. g.N.PlanEntry.number n) c.args.plan.now in
     let last : c.loop-entry.entry-index ≡ length c.args.plan.now = (let a = c.loop-entry.auto.entry-index-end in let b = c.loop-entry-test.false in omega (arith, a, b)) in
@@ -125,6 +126,12 @@ returns-clause-pool g c = λ xs e.
     run_ends s plan c.args.flights.now c.loop-entry.flights c.args.worker.now c.loop-entry.worker c.end_flights.new.pool (map (λ f. flight_outcome f) c.end_flights.new.flights) runs
     (c.end_flights.ensures.pool ∙ ap (λ (z : Pool _). return_held z (map (λ f. serial_state f) c.loop-entry.flights)) c.worker.view_is)
     (ended_outcomes c.loop-entry.flights c.end_flights.new.flights c.end_flights.ensures.answered) xs e
+
+pub returns-clause-pool : goal.returns-clause-pool
+returns-clause-pool g c = λ xs e.
+    let s = setting_of g.Args.FromRequest.means g.Args.Error.Into.converts (g.H.Handler.answers c.args.handler.now) g.H.Output.Responder.responds g.A.Source.Source.feed g.Args.Future.Poll.gives g.H.Future.Poll.gives c.args.worker.now in
+    pool_is s (map (λ n. g.N.PlanEntry.number n) c.args.plan.now) xs (map (λ f. flight_outcome f) c.end_flights.new.flights) c.args.worker.now c.end_flights.new.pool
+    (returns-clause-outcomes g c xs e) (returns-clause-pools g c xs e)
 
 pub returns-clause-made : goal.returns-clause-made
 returns-clause-made g c =
