@@ -1,11 +1,12 @@
 -- What a typed header as an argument gives where its values say exactly one thing.
-use Rattle.std.proofs.Common.{◌≡◌, refl, inl, inr, ap}
+use Rattle.std.proofs.Common.{◌≡◌, ℕ, List, refl, inl, inr, ap}
 use Rattle.std.specs.Prelude.{Option, None, Some, Result, Ok, Err}
 use Rattle.web_texts.specs.declared.errors.ParseError.{ParseError}
 use Rattle.web_texts.specs.declared.errors.ParseError.TheVariants as refusal
 use Rattle.web_values.specs.Answers.{OrAll}
 use Rattle.web_arguments.specs.declared.header_argument.Header.{Header}
-use Rattle.web_arguments.specs.HeaderArgument.{GivesOnly, MeansHeader, SaysHeader, SaysOnly}
+use Rattle.web_headers.specs.HeaderLaws.{SaysOneThing, SaysOnly}
+use Rattle.web_arguments.specs.HeaderArgument.{GivesOne, GivesOnly, MeansHeader, SaysHeader}
 use Rattle.web_arguments.specs.HeaderArgument.{header_result}
 
 module _ {T : Type 0} (says : Option T → Type 0) (said : Option T) (only : SaysOnly says said) where
@@ -28,3 +29,7 @@ gives_only says said only m = (
   (refl, refl, inl (result_said says said only said only.0)),
   λ rest n x h. (h.0, h.1, allowed says said only x h.2),
 )
+
+pub gives_one : {T : Type 0} (says : List (List ℕ) → Option T → Type 0) → SaysOneThing says
+    → (values : List (List ℕ)) → GivesOne (MeansHeader (says values))
+gives_one says one values = let said = one values in (said.0, gives_only (says values) said.0 said.1)

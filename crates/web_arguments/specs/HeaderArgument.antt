@@ -5,6 +5,7 @@ use Rattle.http_header.specs.HeaderMap.{get_all}
 use Rattle.web_texts.specs.declared.errors.ParseError.{ParseError}
 use Rattle.web_texts.specs.declared.errors.ParseError.TheVariants as refusal
 use Rattle.web_values.specs.Answers.{OrAll}
+use Rattle.web_headers.specs.HeaderLaws.{SaysOnly}
 use Rattle.web_headers.specs.HeaderReaders.{value_bytes}
 use Rattle.web_request.specs.declared.source.Mark.{Mark}
 use Rattle.web_request.specs.Request.{Request}
@@ -30,21 +31,26 @@ abbrev pub MeansHeader : {T : Type 0}
     → (Option T → Type 0) → List Mark → List Mark → ℕ → Result (Header T) ParseError → Type 0
 MeansHeader says m rest n x = (rest ≡ m) × (n ≡ 0) × OrAll (SaysHeader says) x
 
--- this is what is said, and nothing else
-abbrev pub SaysOnly : {T : Type 0} → (Option T → Type 0) → Option T → Type 0
-SaysOnly {T} says said = says said × ((other : Option T) → says other → other ≡ said)
-
 abbrev pub header_result : {T : Type 0} → Option T → Result (Header T) ParseError
 header_result None = Err refusal.Header
 header_result (Some value) = Ok record { 0 = value }
 
+-- This is allowed of all marks, at the first poll, which leaves them, and nothing else is.
+abbrev pub OnlyResult : {X : Type 0} → (List Mark → List Mark → ℕ → X → Type 0) → X → Type 0
+OnlyResult {X} means result = (m : List Mark) → means m m 0 result
+    × ((rest : List Mark) (n : ℕ) (x : X) → means m rest n x
+    → (rest ≡ m) × (n ≡ 0) × (x ≡ result))
+
 -- Where the values say this only, exactly its result is allowed.
 abbrev pub GivesOnly : {T : Type 0} → (Option T → Type 0)
     → (List Mark → List Mark → ℕ → Result (Header T) ParseError → Type 0) → Type 0
-GivesOnly {T} says means = (said : Option T) → SaysOnly says said → (m : List Mark)
-    → means m m 0 (header_result said)
-    × ((rest : List Mark) (n : ℕ) (x : Result (Header T) ParseError) → means m rest n x
-    → (rest ≡ m) × (n ≡ 0) × (x ≡ header_result said))
+GivesOnly {T} says means =
+    (said : Option T) → SaysOnly says said → OnlyResult means (header_result said)
+
+-- exactly one result is allowed
+abbrev pub GivesOne : {T : Type 0}
+    → (List Mark → List Mark → ℕ → Result (Header T) ParseError → Type 0) → Type 0
+GivesOne {T} means = (said : Option T) × OnlyResult means (header_result said)
 
 pub header_some :
     {T : Type 0} (says : Option T → Type 0) (m : List Mark) → AllowsSome (MeansHeader says m)

@@ -4,7 +4,7 @@ ghost use Rattle.web_request.specs.Request.{Request};
 ghost use Rattle.web_request.specs.Head.{head_query};
 ghost use Rattle.web_values.specs.FormPairs.{form_pairs};
 ghost use Rattle.web_extract.specs.LayerConfigurations.{path_settings, query_settings};
-ghost use Rattle.web_arguments.specs.HeaderArgument.{GivesOnly, request_values};
+ghost use Rattle.web_arguments.specs.HeaderArgument.{GivesOne, GivesOnly, request_values};
 ghost use Rattle.web_arguments.specs.PathArgument.{PathRefused, decoded_parameters};
 ghost use Rattle.web_arguments.specs.QueryArgument.{QueryRefused};
 ghost use Rattle.web_arguments.specs.ReadArguments.{MeansOnlyRead};
@@ -13,6 +13,7 @@ use crate::header_argument::Header;
 use crate::path_argument::Path;
 use crate::query_argument::Query;
 use web_extract::{Configs, FromRequest};
+use web_headers::{Date, Expires, IfModifiedSince, IfUnmodifiedSince, LastModified, date_law};
 use web_request::App;
 use web_values::ReadPairs;
 
@@ -24,6 +25,23 @@ pub fn header_law<P: App, T: web_headers::Header + Drop>()
         (T.says (request_values T.called q))
         (⟦<Header<T> as FromRequest<P>>⟧.means q) }
 {}
+
+/// `Header` of each header of one date allows exactly one result: the date that the first value
+/// shows, or the refusal where it shows none.
+pub fn date_header_law<P: App>()
+    ensures date { (q : Request P.Layer P.Local P.Conn)
+        → GivesOne (⟦<Header<Date> as FromRequest<P>>⟧.means q) }
+    ensures expires { (q : Request P.Layer P.Local P.Conn)
+        → GivesOne (⟦<Header<Expires> as FromRequest<P>>⟧.means q) }
+    ensures if_modified_since { (q : Request P.Layer P.Local P.Conn)
+        → GivesOne (⟦<Header<IfModifiedSince> as FromRequest<P>>⟧.means q) }
+    ensures if_unmodified_since { (q : Request P.Layer P.Local P.Conn)
+        → GivesOne (⟦<Header<IfUnmodifiedSince> as FromRequest<P>>⟧.means q) }
+    ensures last_modified { (q : Request P.Layer P.Local P.Conn)
+        → GivesOne (⟦<Header<LastModified> as FromRequest<P>>⟧.means q) }
+{
+    date_law()
+}
 
 /// Where the reader of `T` allows exactly one thing of the decoded parameters, and each of its
 /// refusals has exactly one error, by the configured handler or by the refusal itself, `Path`

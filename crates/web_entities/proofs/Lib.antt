@@ -3,3 +3,4 @@ pub mod EntityTagLemmas
 pub mod PlainTextLemmas
 pub mod QuotedValueLemmas
 pub mod RawDispositionLemmas
+mod IfRangeLemmas

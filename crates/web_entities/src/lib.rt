@@ -23,5 +23,5 @@ pub use entity::EntityTag;
 pub use if_match::IfMatch;
 pub use if_none_match::IfNoneMatch;
 pub use if_range::IfRange;
-pub use laws::{read_back_law, tag_equality_law};
+pub use laws::{if_range_law, read_back_law, tag_equality_law};
 pub use ranges::{ByteRangeSpec, Range};

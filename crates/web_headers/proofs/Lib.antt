@@ -1,3 +1,4 @@
 pub mod PrintedListLemmas
 pub mod ValueListLemmas
 pub mod ItemTextLemmas
+pub mod DateLemmas

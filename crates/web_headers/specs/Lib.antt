@@ -7,3 +7,4 @@ pub mod Preferences
 pub mod PrintedLists
 pub mod TypedHeaders
 pub mod ValueHeaders
+pub mod HeaderLaws
