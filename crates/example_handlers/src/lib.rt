@@ -5,7 +5,8 @@
 //! one's own (`request_path`), a loop of one's own over flights (`flight_rounds`), the functions
 //! that serve exchanges by the handlers (`serving`), a type that is read from JSON and forms
 //! (`booking`), a layer that configures how (`booking_layer`), its handlers (`booking_handlers`),
-//! the handler of a proxy (`relay`), and a middleware that asks for a host (`served_host`).
+//! the handler of a proxy (`relay`), and middlewares: one that asks for a host (`served_host`), and
+//! one that rewrites a request and keeps it as it came (`rewritten_request`).
 #![tactic(auto)]
 
 mod booking;
@@ -16,6 +17,7 @@ mod flight_rounds;
 mod hello;
 mod relay;
 mod request_path;
+mod rewritten_request;
 mod second_poll;
 mod served_host;
 mod serving;
@@ -28,6 +30,7 @@ pub use flight_rounds::poll_rounds;
 pub use hello::{Site, serve_hello};
 pub use relay::{Relay, serve_relay};
 pub use request_path::RequestPath;
+pub use rewritten_request::rewrite_request;
 pub use second_poll::{Greeter, SecondPoll};
 pub use served_host::is_served;
 pub use serving::{Outcomes, serve_echo, serve_greeting};

@@ -2,3 +2,4 @@ pub mod CookieItemLemmas
 pub mod HeaderStepLemmas
 pub mod ResponseCookieLemmas
 mod JoinedErrorsLemmas
+pub mod CookieEntryLemmas

@@ -1,12 +1,12 @@
 -- The cookies that a response sets.
 use Rattle.std.specs.Prelude.{◌≡◌, ◌≢◌, ℕ, ◌<◌, ◌++◌, Bool, true, false, not, List, [], ◌∷◌}
-use Rattle.std.specs.Prelude.{length, bytes_eq}
+use Rattle.std.specs.Prelude.{length, bytes_eq, ◌==◌, if◌then◌else◌}
 use Rattle.std.specs.Prelude.{Option, None, Some, Result, Ok, Err, codes, option_to_list}
 use Rattle.std.specs.List.{filter}
 use Rattle.std.specs.Option.{option_and_then}
 use Rattle.std.specs.Result.{result_ok}
 use Rattle.http_header.specs.FieldValue.{FieldValue}
-use Rattle.http_header.specs.HeaderMap.{get_all}
+use Rattle.http_header.specs.HeaderMap.{get_all, remove}
 use Rattle.web_texts.specs.declared.memory.NoMemory.{NoMemory}
 use Rattle.web_texts.specs.declared.memory.Fail.{Fail}
 use Rattle.web_texts.specs.declared.memory.Fail.TheVariants as fail
@@ -72,6 +72,21 @@ kept_cookies name values = filter (λ value. not (deletes name value)) values
 abbrev pub deleted_count : List ℕ → List FieldValue → ℕ
 deleted_count name values = length (filter (deletes name) values)
 
+-- Set-Cookie with these values, where there are any
+abbrev pub cookie_entries : List FieldValue → Headers
+cookie_entries [] = []
+cookie_entries (value ∷ more) = (codes "set-cookie", value ∷ more) ∷ []
+
+-- the headers without their Set-Cookie, and behind them one with these values
+abbrev pub with_cookies : Headers → List FieldValue → Headers
+with_cookies m values = remove m (codes "set-cookie") ++ cookie_entries values
+
+-- the headers without the cookies of this name; where there is none, as they are
+abbrev pub without_cookies : List ℕ → Headers → Headers
+without_cookies name m =
+    let values = get_all m (codes "set-cookie") in
+    if deleted_count name values == 0 then m else with_cookies m (kept_cookies name values)
+
 -- the headers with these values of Set-Cookie in place of their own
 pub record HasCookies (old : Headers) (values : List FieldValue) (new : Headers) : Type 0 where
   pub cookies : get_all new (codes "set-cookie") ≡ values
@@ -87,6 +102,7 @@ pub record DeletesCookies {B : Type 0} (name : List ℕ) (old : Reply B) (n : �
   pub headers :
       HasCookies old.head.headers
       (kept_cookies name (get_all old.head.headers (codes "set-cookie"))) new.head.headers
+  pub entries : new.head.headers ≡ without_cookies name old.head.headers
   pub rest : new ≡ with_headers new.head.headers old
   pub count : n ≡ deleted_count name (get_all old.head.headers (codes "set-cookie"))
 

@@ -8,7 +8,7 @@ ghost use Rattle.web_reply.specs.ResponseCookies.{AddsCookie, AddsRemoval};
 ghost use Rattle.web_reply.specs.ResponseCookies.{DeletesCookies, GivesCookies};
 ghost use Rattle.web_reply.specs.ResponseCookies.{HasCookies, NextCookie};
 ghost use Rattle.web_reply.specs.ResponseCookies.{deleted_count, deletes};
-ghost use Rattle.web_reply.specs.ResponseCookies.{kept_cookies};
+ghost use Rattle.web_reply.specs.ResponseCookies.{kept_cookies, with_cookies};
 
 use crate::cause::HttpError;
 use crate::cookie_setting::cookie_header;
@@ -130,7 +130,9 @@ fn with_cookies(
     headers: &HeaderMap<HeaderValue>,
     cookies: Vec<HeaderValue>,
 ) -> Result<HeaderMap<HeaderValue>, NoMemory>
-    ensures { IfOk result (λ changed. HasCookies headers.now cookies.items changed) }
+    ensures cookies { IfOk result (λ changed. HasCookies headers.now cookies.items changed) }
+    ensures entries { IfOk result (λ changed.
+        changed ≡ with_cookies headers.now cookies.items) }
 {
     let mut changed = copy_headers(headers)?;
     // It says that each name stands once.
@@ -190,7 +192,8 @@ impl<B> HttpResponse<B> {
     }
 
     /// Takes back each cookie of this name, percent-decoded, and returns how many. All other
-    /// headers stay, and so do values of Set-Cookie that are no cookie. Where allocation fails, the
+    /// headers stay, and so do values of Set-Cookie that are no cookie. Where a cookie was taken
+    /// back and values are left, Set-Cookie is the last of the names. Where allocation fails, the
     /// response is unchanged.
     pub fn del_cookie(&mut self, alloc: Global, name: &str) -> Result<usize, NoMemory>
         ensures ok { IfOk result (λ count. DeletesCookies name.now self.old count self.new) }

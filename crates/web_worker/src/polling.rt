@@ -288,7 +288,7 @@ where
 }
 
 /// Polls the flight of this number once. A number that names no flight, or an answered one, changes
-/// nothing and takes no memory.
+/// nothing, so that no failed allocation is seen.
 ///
 /// The first poll of a flight takes a record and makes its arguments' future. Where the arguments
 /// are there, the handler is called with them and polled in the same turn; where they fail, the
@@ -309,6 +309,8 @@ where
     ensures ready { H.ready handler.new }
     ensures same_promises { SamePromises (H.answers handler.old) (H.answers handler.new) }
     ensures idle { IsIdle (slice_get flights.old k) → handler.new ≡ handler.old }
+    ensures unchanged { IsIdle (slice_get flights.old k)
+        → (flights.new ≡ flights.old) × (worker.new ≡ worker.old) }
     ensures polls { PollsAt (⟦<H as Serves<A, Args>>⟧.setting handler.old worker.old)
         k flights.old flights.new worker.old worker.new
         (H.calls handler.old) (H.calls handler.new) }

@@ -2,6 +2,7 @@ use Rattle.std.proofs.Common.{◌≡◌, ◌∙◌, arith, refl, sym}
 use Rattle.std.specs.Prelude.{codes}
 use Rattle.http_header.specs.HeaderMap.{get_all}
 use Rattle.web_reply.specs.ResponseCookies.{deleted_count}
+use Rattle.web_reply.proofs.CookieEntryLemmas.{none_gone, some_gone}
 use Rattle.web_reply.proofs.ResponseCookieLemmas.{none_deleted}
 use Rattle.web_reply.proofs.response.HttpResponse.del_cookie.Goals as goal
 
@@ -13,6 +14,7 @@ returns-else-count-gt0-clause-ok g c =
     rw (← c.headers.ensures) c.in_ok-kept.ensures.count in
     record {
       headers = none_deleted c.args.name.now headers (sym count ∙ zero);
+      entries = none_gone c.args.name.now headers (sym count ∙ zero);
       rest = refl;
       count = count;
     }
