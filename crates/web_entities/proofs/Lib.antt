@@ -4,3 +4,7 @@ pub mod PlainTextLemmas
 pub mod QuotedValueLemmas
 pub mod RawDispositionLemmas
 mod IfRangeLemmas
+mod CutPlaceLemmas
+mod QuoteCountLemmas
+mod QuotedPlaceLemmas
+mod ParameterPlaceLemmas

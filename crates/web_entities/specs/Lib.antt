@@ -8,3 +8,4 @@ pub mod EntityLaws
 pub mod EntityTags
 pub mod IfRanges
 pub mod TagLists
+pub mod CutPlaces

@@ -12,6 +12,7 @@ mod if_match;
 mod if_none_match;
 mod if_range;
 mod laws;
+mod place_laws;
 mod ranges;
 mod tag_list;
 
@@ -24,4 +25,7 @@ pub use if_match::IfMatch;
 pub use if_none_match::IfNoneMatch;
 pub use if_range::IfRange;
 pub use laws::{if_range_law, read_back_law, tag_equality_law};
+pub use place_laws::{
+    disposition_quote_law, disposition_semicolon_law, media_semicolon_law, tag_comma_law,
+};
 pub use ranges::{ByteRangeSpec, Range};
