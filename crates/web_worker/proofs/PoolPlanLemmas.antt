@@ -138,8 +138,7 @@ module _ {S L D C V E Y U W : Type 0} (s : Setting S L D C V E Y U W) where
       let lost : list_any is_lost now ≡ false = sym (lost_outcomes now) ∙ (ap (λ (l : List OutcomeView). list_any lacks_memory l) (sym outcomes) ∙ none) in
       let run = so_far xs e lost in
       let fit = each_map (Fits run.0 plan) (λ k x o. AllowedDelay s (poll_count plan k) x o (run.0 k)) flight_outcome 0 xs now (λ k x f fits. fits) run.1.fit in
-      let ran : run_entries run.0 p (map (λ _. NotTaken) xs) [] plan ≡ (a, map serial_state now) = ap (λ (ss : List SerialState). run_entries run.0 p ss [] plan) (sym (waits_map old xs e)) ∙ run.1.ran in
-      (
+      let ran : run_entries run.0 p (map (λ _. NotTaken) xs) [] plan ≡ (a, map serial_state now) = ap (λ (ss : List SerialState). run_entries run.0 p ss [] plan) (sym (waits_map old xs e)) ∙ run.1.ran in (
         run.0,
         subst (λ (l : List OutcomeView). EachFrom (λ k x o. AllowedDelay s (poll_count plan k) x o (run.0 k)) 0 xs l) (sym outcomes) fit,
         came ∙ sym (ap (λ (z : Pool L × List SerialState). return_held z.0 z.1) ran),
