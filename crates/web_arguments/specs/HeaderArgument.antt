@@ -6,7 +6,7 @@ use Rattle.web_texts.specs.declared.errors.ParseError.{ParseError}
 use Rattle.web_texts.specs.declared.errors.ParseError.TheVariants as refusal
 use Rattle.web_values.specs.Answers.{OrAll}
 use Rattle.web_headers.specs.HeaderLaws.{SaysOnly}
-use Rattle.web_headers.specs.HeaderReaders.{value_bytes}
+use Rattle.web_texts.specs.HeaderTexts.{value_bytes}
 use Rattle.web_request.specs.declared.source.Mark.{Mark}
 use Rattle.web_request.specs.Request.{Request}
 use Rattle.web_reply.specs.Replies.{Fault, fault_of}

@@ -6,7 +6,7 @@ use Rattle.serde_json.specs.Data.{Data}
 use Rattle.http_header.specs.FieldValue.{FieldValue, plain_value}
 use Rattle.http_header.specs.HeaderMap.{get_all, index_of}
 use Rattle.web_texts.specs.Digits.{digits_up_to}
-use Rattle.web_headers.specs.HeaderReaders.{first_text_of, value_bytes}
+use Rattle.web_texts.specs.HeaderTexts.{first_text_of, value_bytes}
 use Rattle.web_values.specs.PrintedValues.{PrintsJson}
 use Rattle.web_values.specs.declared.faults.WriteFault.{WriteFault}
 use Rattle.web_request.specs.declared.source.Mark.{Mark}

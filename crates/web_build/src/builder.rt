@@ -21,14 +21,14 @@ use std::alloc::Global;
 use std::marker::Model;
 use web_body::{JsonPayloadError, Payload, Poll, Step, WriteJson, write_value};
 use web_cookies::Cookie;
-use web_headers::{TryIntoHeaderValue, first_text};
+use web_headers::TryIntoHeaderValue;
 use web_reply::header_setting::{Placing, named, place_header, place_one, valued};
 use web_reply::{
     BoxBody, ConnectionType, Error, HttpError, HttpResponse, MessageBody, Reason, Responder,
     WholeBody, cookie_header,
 };
 use web_request::{App, HttpRequest, Source};
-use web_texts::{Fail, NoMemory, read_digits};
+use web_texts::{Fail, NoMemory, first_text, read_digits};
 
 /// A response that is built step by step.
 ///

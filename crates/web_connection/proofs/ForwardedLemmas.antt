@@ -4,7 +4,7 @@ use Rattle.std.specs.List.{flat_map, slice_split}
 use Rattle.std.specs.Option.{option_or}
 use Rattle.std.specs.Prelude.{codes}
 use Rattle.http_header.specs.FieldValue.{FieldValue}
-use Rattle.web_connection.specs.HeaderTexts.{header_text}
+use Rattle.web_texts.specs.HeaderTexts.{header_text}
 use Rattle.web_connection.specs.ForwardedPairs.{ForwardedFields, first_said, forwarded_pairs, is_comma, is_semicolon, or_said, pairs_of, said_by, said_by_pair, value_of_pair}
 
 or_assoc : {T : Type 0} (a b c : Option T) → option_or a (option_or b c) ≡ option_or (option_or a b) c

@@ -1,3 +1,2 @@
-pub mod HeaderTextLemmas
 pub mod AddressLemmas
 pub mod ForwardedLemmas

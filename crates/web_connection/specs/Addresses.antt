@@ -2,7 +2,7 @@
 use Rattle.std.specs.Prelude.{ℕ, ◌-◌, ◌==◌, ◌&&◌, Bool, false, List, [], ◌∷◌, drop, take, length}
 use Rattle.std.specs.Prelude.{if◌then◌else◌}
 use Rattle.std.specs.List.{prefix_len, suffix_len}
-use Rattle.web_connection.specs.HeaderTexts.{before_byte}
+use Rattle.web_connection.specs.FirstItems.{before_byte}
 
 abbrev pub starts_with_byte : ℕ → List ℕ → Bool
 starts_with_byte byte [] = false

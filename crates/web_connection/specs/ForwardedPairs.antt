@@ -7,7 +7,7 @@ use Rattle.std.specs.Str.{str_eq_ignore_ascii_case}
 use Rattle.http_header.specs.FieldValue.{FieldValue}
 use Rattle.web_texts.specs.Blanks.{trimmed}
 use Rattle.web_texts.specs.Cut.{split_once}
-use Rattle.web_connection.specs.HeaderTexts.{header_text}
+use Rattle.web_texts.specs.HeaderTexts.{header_text}
 
 abbrev pub is_semicolon : ℕ → Bool
 is_semicolon b = b == 59

@@ -1,4 +1,4 @@
-pub mod HeaderTexts
+pub mod FirstItems
 pub mod ForwardedPairs
 pub mod Addresses
 pub mod Origins

@@ -5,7 +5,8 @@ use Rattle.http_header.specs.FieldValue.{FieldValue}
 use Rattle.http_header.specs.HeaderMap.{Entries, get_all}
 use Rattle.web_connection.specs.Addresses.{bare_address}
 use Rattle.web_connection.specs.ForwardedPairs.{forwarded}
-use Rattle.web_connection.specs.HeaderTexts.{first_item, first_text}
+use Rattle.web_texts.specs.HeaderTexts.{first_text}
+use Rattle.web_connection.specs.FirstItems.{first_item}
 
 -- the value of the first pair of this name in Forwarded
 abbrev pub forwarded_value : Entries FieldValue → List ℕ → Option (List ℕ)

@@ -1,31 +1,9 @@
 //! Header fields of text.
 ghost use Rattle.std.specs.Prelude.{◌≡◌, ◌<◌, option_copied};
-ghost use Rattle.web_connection.specs.HeaderTexts.{before_byte, first_item, first_text};
-ghost use Rattle.web_connection.specs.HeaderTexts.{header_text};
+ghost use Rattle.web_connection.specs.FirstItems.{before_byte, first_item};
 
 use http_header::{HeaderMap, HeaderName, HeaderValue};
-use web_texts::{cut_at, trim};
-
-/// The text of a value of header text: visible ASCII, spaces and tabs. `None` for a value with
-/// another byte.
-pub fn header_text(value: &HeaderValue) -> Option<&str>
-    ensures { option_copied result ≡ header_text value.now }
-{
-    match value.to_str() {
-        Ok(text) => Some(text),
-        Err(_) => None,
-    }
-}
-
-/// The first value of this name, if there is one and it is header text.
-pub fn first_text<'a>(headers: &'a HeaderMap<HeaderValue>, name: &HeaderName) -> Option<&'a str>
-    ensures { option_copied result ≡ first_text headers.now name.now }
-{
-    match headers.get(name) {
-        Some(value) => header_text(value),
-        None => None,
-    }
-}
+use web_texts::{cut_at, first_text, trim};
 
 /// The first value of this name up to its first comma, trimmed, if there is one and it is header
 /// text.

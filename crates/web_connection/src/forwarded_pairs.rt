@@ -8,10 +8,9 @@ ghost use Rattle.web_connection.specs.ForwardedPairs.{or_said, pairs_of, said_by
 ghost use Rattle.web_connection.specs.ForwardedPairs.{said_under, unquoted, unquoted_end};
 ghost use Rattle.web_connection.specs.ForwardedPairs.{unquoted_front, value_under};
 
-use crate::fields::header_text;
 use http_header::{FORWARDED, HeaderMap, HeaderValue};
 use std::marker::Model;
-use web_texts::{cut_at, first_part, trim};
+use web_texts::{cut_at, first_part, header_text, trim};
 
 /// What the header Forwarded says (RFC 7239, section 4): of each name the value of its first pair.
 #[derive(Drop)]

@@ -7,5 +7,4 @@ mod fields;
 mod forwarded_pairs;
 mod origin;
 
-pub use fields::header_text;
 pub use origin::{Origin, read_origin};

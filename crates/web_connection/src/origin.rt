@@ -1,14 +1,16 @@
 //! The host, the scheme and the client of a request.
 ghost use Rattle.std.specs.Prelude.{◌≡◌, codes, option_copied};
 ghost use Rattle.std.specs.Option.{option_or};
-ghost use Rattle.web_connection.specs.HeaderTexts.{first_item, first_text};
+ghost use Rattle.web_connection.specs.FirstItems.{first_item};
+ghost use Rattle.web_texts.specs.HeaderTexts.{first_text};
 ghost use Rattle.web_connection.specs.Origins.{client_by, client_of, default_scheme, host_by};
 ghost use Rattle.web_connection.specs.Origins.{host_of, scheme_by, scheme_of};
 
 use crate::addresses::bare_address;
-use crate::fields::{first_item, first_text};
+use crate::fields::first_item;
 use crate::forwarded_pairs::Forwarded;
 use http_header::{HOST, HeaderMap, HeaderName, HeaderValue};
+use web_texts::first_text;
 
 /// Where a request came from and was sent to, as its header fields say it.
 #[derive(Drop)]

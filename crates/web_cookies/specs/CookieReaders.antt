@@ -1,10 +1,8 @@
 -- The cookie that a text says, and why it says none.
-use Rattle.std.specs.Prelude.{◌≡◌, ℕ, Bool, true, false, List, Option, None, Some}
+use Rattle.std.specs.Prelude.{ℕ, Bool, true, false, List, Option, None, Some}
 use Rattle.std.specs.Prelude.{Result, Ok, Err, if◌then◌else◌}
 use Rattle.std.specs.Str.{is_utf8}
 use Rattle.percent_encoding.specs.Percent.{percent_decode}
-use Rattle.web_texts.specs.declared.memory.Fail.{Fail}
-use Rattle.web_texts.specs.declared.memory.Fail.TheVariants as fail
 use Rattle.web_texts.specs.Blanks.{trimmed}
 use Rattle.web_texts.specs.Cut.{split_once}
 use Rattle.web_texts.specs.PieceItems.{is_empty}
@@ -57,17 +55,3 @@ cookie_in encoded text (Some halves) =
 -- and behind it attributes.
 abbrev pub cookie_said : Bool → List ℕ → Result CookieFields CookieParseError
 cookie_said encoded text = cookie_in encoded text (split_once 59 text)
-
-abbrev pub SaysError : {T E : Type 0} → Fail E → Result T E → Type 0
-SaysError fail.NoMemory said = Unit {0}
-SaysError (fail.Of error) said = said ≡ Err error
-
--- A reader's result is what is said, value or error; only allocation may fail besides.
-abbrev pub Says : {T E : Type 0} → Result T (Fail E) → Result T E → Type 0
-Says (Ok x) said = said ≡ Ok x
-Says (Err error) said = SaysError error said
-
--- the same, where contracts see what is read by a view
-abbrev pub SaysBy : {X T E : Type 0} → (X → T) → Result X (Fail E) → Result T E → Type 0
-SaysBy view (Ok x) said = said ≡ Ok (view x)
-SaysBy view (Err error) said = SaysError error said

@@ -1,7 +1,8 @@
 //! Reading a cookie from a text.
 ghost use Rattle.std.specs.Prelude.{◌≡◌, true, false};
 ghost use Rattle.percent_encoding.specs.Percent.{percent_decode};
-ghost use Rattle.web_cookies.specs.CookieReaders.{Says, cookie_said, decoded_text, named};
+ghost use Rattle.web_cookies.specs.CookieReaders.{cookie_said, decoded_text, named};
+ghost use Rattle.web_texts.specs.Returns.{Returns};
 ghost use Rattle.web_cookies.specs.CookieReaders.{pair_said, utf8_text};
 
 use crate::attributes::read_attributes;
@@ -20,7 +21,7 @@ impl Cookie {
     /// Returns `MissingPair` where the part before the first semicolon has no `=`, `EmptyName`
     /// where its name is empty, and `NoMemory` where allocation failed.
     pub fn parse(alloc: Global, text: &str) -> Result<Cookie, Fail<CookieParseError>>
-        ensures { Says result (cookie_said false text.now) }
+        ensures { Returns result (cookie_said false text.now) }
     {
         read_cookie(alloc, text, false)
     }
@@ -28,7 +29,7 @@ impl Cookie {
     /// As `parse`, with name and value percent-decoded. Returns `Utf8` where one of them is not
     /// UTF-8 then.
     pub fn parse_encoded(alloc: Global, text: &str) -> Result<Cookie, Fail<CookieParseError>>
-        ensures { Says result (cookie_said true text.now) }
+        ensures { Returns result (cookie_said true text.now) }
     {
         read_cookie(alloc, text, true)
     }
@@ -40,7 +41,7 @@ pub fn read_cookie(
     text: &str,
     encoded: bool,
 ) -> Result<Cookie, Fail<CookieParseError>>
-    ensures { Says result (cookie_said encoded text.now) }
+    ensures { Returns result (cookie_said encoded text.now) }
 {
     match cut_at(text, b';') {
         Some((pair, attributes)) => {
@@ -53,7 +54,7 @@ pub fn read_cookie(
 }
 
 fn read_pair(alloc: Global, part: &str, encoded: bool) -> Result<Cookie, Fail<CookieParseError>>
-    ensures { Says result (pair_said encoded part.now) }
+    ensures { Returns result (pair_said encoded part.now) }
 {
     match cut_at(part, b'=') {
         Some((name, value)) => named(alloc, trim(name), trim(value), encoded),
@@ -67,7 +68,7 @@ fn named(
     value: &str,
     encoded: bool,
 ) -> Result<Cookie, Fail<CookieParseError>>
-    ensures { Says result (named encoded name.now value.now) }
+    ensures { Returns result (named encoded name.now value.now) }
 {
     if name.is_empty() {
         return Err(Fail::Of(CookieParseError::EmptyName));
@@ -78,7 +79,7 @@ fn named(
 }
 
 fn decoded(alloc: Global, text: &str, encoded: bool) -> Result<Text, Fail<CookieParseError>>
-    ensures { Says result (decoded_text encoded text.now) }
+    ensures { Returns result (decoded_text encoded text.now) }
 {
     if encoded {
         percent_decoded(alloc, text)
@@ -88,7 +89,7 @@ fn decoded(alloc: Global, text: &str, encoded: bool) -> Result<Text, Fail<Cookie
 }
 
 fn percent_decoded(alloc: Global, text: &str) -> Result<Text, Fail<CookieParseError>>
-    ensures { Says result (utf8_text (percent_decode text.now)) }
+    ensures { Returns result (utf8_text (percent_decode text.now)) }
 {
     let bytes = text.as_bytes();
     if memchr(b'%', bytes).is_none() {

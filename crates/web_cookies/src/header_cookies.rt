@@ -3,7 +3,7 @@ ghost use Rattle.std.specs.Prelude.{◌≡◌, ◌++◌, IfOk, OnOk, codes, true
 ghost use Rattle.std.specs.List.{find};
 ghost use Rattle.std.specs.Str.{bytes_eq};
 ghost use Rattle.http_header.specs.HeaderMap.{get_all};
-ghost use Rattle.web_cookies.specs.CookieReaders.{SaysBy};
+ghost use Rattle.web_texts.specs.Returns.{ReturnsBy};
 ghost use Rattle.web_cookies.specs.HeaderCookies.{cookie_of_part, cookies_in, cookies_said};
 
 use crate::cookie_parse_error::CookieParseError;
@@ -23,7 +23,7 @@ pub fn decoded_cookies(
     alloc: Global,
     headers: &HeaderMap<HeaderValue>,
 ) -> Result<Vec<Cookie>, Fail<CookieParseError>>
-    ensures { SaysBy (λ cookies. cookies.items) result
+    ensures { ReturnsBy (λ cookies. cookies.items) result
         (cookies_said true (get_all headers.now (codes "cookie"))) }
 {
     read_cookies(alloc, headers, true)
@@ -34,7 +34,7 @@ pub fn raw_cookies(
     alloc: Global,
     headers: &HeaderMap<HeaderValue>,
 ) -> Result<Vec<Cookie>, Fail<CookieParseError>>
-    ensures { SaysBy (λ cookies. cookies.items) result
+    ensures { ReturnsBy (λ cookies. cookies.items) result
         (cookies_said false (get_all headers.now (codes "cookie"))) }
 {
     read_cookies(alloc, headers, false)
@@ -45,7 +45,7 @@ fn read_cookies(
     headers: &HeaderMap<HeaderValue>,
     encoded: bool,
 ) -> Result<Vec<Cookie>, Fail<CookieParseError>>
-    ensures { SaysBy (λ cookies. cookies.items) result
+    ensures { ReturnsBy (λ cookies. cookies.items) result
         (cookies_said encoded (get_all headers.now (codes "cookie"))) }
 {
     let mut cookies = Vec::new(alloc);

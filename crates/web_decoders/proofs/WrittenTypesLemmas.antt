@@ -8,7 +8,8 @@ use Rattle.http_header.specs.FieldValue.{FieldValue}
 use Rattle.http_header.specs.HeaderMap.{Entries}
 use Rattle.web_texts.specs.Blanks.{trimmed}
 use Rattle.web_texts.specs.Tokens.{is_token_byte}
-use Rattle.web_request.specs.MessageFields.{before_semicolon, first_content_type, header_text, type_in, type_test}
+use Rattle.web_request.specs.MessageFields.{before_semicolon, first_content_type, type_in, type_test}
+use Rattle.web_texts.specs.HeaderTexts.{header_text}
 use Rattle.web_decoders.specs.FormHeads.{is_form_of, is_readable}
 use Rattle.web_decoders.specs.TypePredicates.{AllowsRead, Predicate, ReadsType}
 use Rattle.web_decoders.specs.WrittenTypes.{is_written}

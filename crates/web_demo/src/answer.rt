@@ -4,7 +4,7 @@ ghost use Rattle.http_header.specs.FieldValue.{plain_value};
 ghost use Rattle.web_reply.specs.Replies.{plain_reply};
 ghost use Rattle.web_reply.specs.ResponseBodies.{box_plain};
 ghost use Rattle.web_request.specs.KeptValues.{known_cookies};
-ghost use Rattle.web_request.specs.Returns.{ReturnsBy};
+ghost use Rattle.web_texts.specs.Returns.{ReturnsBy};
 ghost use Rattle.web_demo.specs.DemoReplies.{cookie_error, cookies_refusal, cookies_reply};
 ghost use Rattle.web_demo.specs.DemoReplies.{output_reply, raw_reply};
 ghost use Rattle.web_demo.specs.DemoTexts.{printed_cookies};

@@ -6,7 +6,7 @@ use Rattle.httpdate.specs.Date.{IsDateText}
 use Rattle.httpdate.specs.declared.date.HttpDate.{HttpDate}
 use Rattle.web_headers.specs.DateHeaders.{HasNoDate}
 use Rattle.web_headers.specs.HeaderLaws.{SaysOneThing, SaysOnly}
-use Rattle.web_headers.specs.HeaderReaders.{first_text_of}
+use Rattle.web_texts.specs.HeaderTexts.{first_text_of}
 use Rattle.web_headers.proofs.DateLemmas.{date_or_none, one_date}
 use Rattle.web_entities.specs.EntityTags.{Tag, tag_of}
 use Rattle.web_entities.specs.IfRanges.{FirstTextSays, IfRangeSays, TextSays}

@@ -4,7 +4,7 @@ use Rattle.std.specs.Prelude.{slice_get}
 use Rattle.std.specs.Str.{IsUtf8, is_utf8}
 use Rattle.std.proofs.lemmas.Str.{IsUtf8-from_is_utf8, is_utf8-from_IsUtf8}
 use Rattle.http_header.specs.FieldValue.{FieldValue}
-use Rattle.web_headers.specs.HeaderReaders.{value_bytes}
+use Rattle.web_texts.specs.HeaderTexts.{value_bytes}
 use Rattle.web_entities.specs.Dispositions.{disposition_of, raw_disposition_of, first_disposition}
 
 by_cases : (bytes : List ℕ) (b : Bool) → is_utf8 bytes ≡ b → (IsUtf8 bytes → ⊥) → is_utf8 bytes ≡ false

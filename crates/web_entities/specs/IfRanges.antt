@@ -1,7 +1,7 @@
 -- If-Range (RFC 9110, section 13.1.5): a tag, or else a date, with nothing around it.
 use Rattle.std.specs.Prelude.{◌≡◌, ℕ, List, Option, None, Some}
 use Rattle.httpdate.specs.Date.{IsDateText, date_text}
-use Rattle.web_headers.specs.HeaderReaders.{first_text_of}
+use Rattle.web_texts.specs.HeaderTexts.{first_text_of}
 use Rattle.web_headers.specs.DateHeaders.{HasNoDate}
 use Rattle.web_entities.specs.EntityTags.{tag_of, tag_text}
 use Rattle.web_entities.specs.declared.if_range.IfRange.{IfRange}

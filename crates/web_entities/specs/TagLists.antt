@@ -5,7 +5,8 @@ use Rattle.std.specs.Option.{option_map}
 use Rattle.std.specs.Str.{bytes_eq}
 use Rattle.web_texts.specs.Blanks.{trimmed}
 use Rattle.web_texts.specs.Pieces.{Rule}
-use Rattle.web_headers.specs.HeaderReaders.{first_text_of, piece_list_of}
+use Rattle.web_texts.specs.HeaderTexts.{first_text_of}
+use Rattle.web_headers.specs.HeaderReaders.{piece_list_of}
 use Rattle.web_headers.specs.PrintedLists.{comma_joined}
 use Rattle.web_entities.specs.EntityTags.{Tag, tag_of, tag_text}
 use Rattle.web_entities.specs.declared.tag_list.Quotes.{Quotes}

@@ -4,7 +4,7 @@ ghost use Rattle.std.specs.Option.{option_map, option_copied};
 ghost use Rattle.http_header.specs.HeaderMap.{get_all};
 ghost use Rattle.web_texts.specs.Cut.{split_once};
 ghost use Rattle.web_texts.specs.TextReaders.{Reads};
-ghost use Rattle.web_headers.specs.HeaderReaders.{value_bytes};
+ghost use Rattle.web_texts.specs.HeaderTexts.{value_bytes};
 ghost use Rattle.web_entities.specs.Dispositions.{type_of, typed_disposition, disposition_of};
 ghost use Rattle.web_entities.specs.Dispositions.{raw_disposition_of, parts_or_all};
 ghost use Rattle.web_entities.specs.Dispositions.{first_disposition, attachment_of};

@@ -7,8 +7,8 @@ use http_header::{HeaderMap, HeaderName, HeaderValue, IF_RANGE};
 use httpdate::HttpDate;
 use std::alloc::Global;
 use std::fmt;
-use web_headers::{Header, TryIntoHeaderValue, first_text, printed_value};
-use web_texts::{Duplicate, Fail, InvalidHeaderValue, NoMemory, ParseError, ReadText};
+use web_headers::{Header, TryIntoHeaderValue, printed_value};
+use web_texts::{Duplicate, Fail, InvalidHeaderValue, NoMemory, ParseError, ReadText, first_text};
 
 /// The version of which a request wants a range (RFC 9110, section 13.1.5). The first value is
 /// read, untrimmed, as a tag, and else as a date in one of the three formats. `ParseError::Header`

@@ -3,7 +3,7 @@ ghost use Rattle.std.specs.Prelude.{◌≡◌};
 ghost use Rattle.std.specs.Fmt.{WritesOnOk};
 ghost use Rattle.http_header.specs.HeaderMap.{get_all};
 ghost use Rattle.web_texts.specs.TextReaders.{ReadsBy};
-ghost use Rattle.web_headers.specs.HeaderReaders.{value_bytes};
+ghost use Rattle.web_texts.specs.HeaderTexts.{value_bytes};
 ghost use Rattle.web_headers.specs.PrintedLists.{comma_joined};
 ghost use Rattle.web_entities.specs.EntityTags.{tag_text};
 ghost use Rattle.web_entities.specs.TagLists.{is_any, tag_list_of};
@@ -12,8 +12,8 @@ use crate::entity::EntityTag;
 use http_header::{HeaderMap, HeaderName, HeaderValue};
 use std::alloc::Global;
 use std::fmt;
-use web_headers::{first_text, fmt_comma_delimited, from_pieces};
-use web_texts::{Fail, Items, Mode, ParseError, trim};
+use web_headers::{fmt_comma_delimited, from_pieces};
+use web_texts::{Fail, Items, Mode, ParseError, first_text, trim};
 
 /// Whether the number of double quotes so far is even.
 #[derive(Clone, Copy, Debug, PartialEq, Eq)]

@@ -1,8 +1,8 @@
 //! The tests of a head before the body is read as an argument. They leave the payload.
 ghost use Rattle.std.specs.Prelude.{◌≡◌, IfOk, IsOk, None, Ok, Some, option_copied, true};
-ghost use Rattle.std.specs.Option.{option_map, option_or, unwrap_or};
+ghost use Rattle.std.specs.Option.{option_or, unwrap_or};
 ghost use Rattle.std.specs.Str.{str_eq_ignore_ascii_case};
-ghost use Rattle.web_request.specs.MessageFields.{first_content_type, header_text, is_utf8_name};
+ghost use Rattle.web_request.specs.MessageFields.{first_content_type, is_utf8_name};
 ghost use Rattle.web_request.specs.MessageFields.{mime_type_of, type_in, type_test};
 ghost use Rattle.web_body.specs.PayloadSettings.{default_payload_settings};
 ghost use Rattle.web_extract.specs.BodyArguments.{charset_refusal, error_of, type_refusal};
@@ -18,7 +18,7 @@ use std::alloc::Global;
 use web_body::{DEFAULT_LIMIT, PayloadConfig};
 use web_reply::Error;
 use web_request::{App, HttpMessage, HttpRequest, NoMemory};
-use web_texts::{ContentTypeError, Fail, Mime};
+use web_texts::{ContentTypeError, Fail, Mime, header_text};
 
 /// The configuration of payloads for a request, or `None` where it is the default.
 pub(crate) fn payload_config<A: App>(req: &HttpRequest<A>) -> Option<&PayloadConfig>
@@ -161,15 +161,6 @@ fn refusal_of_charset(found: &Option<Mime>) -> Option<Error>
     match found {
         Some(found) => charset_of_type(found),
         None => None,
-    }
-}
-
-fn header_text(value: &HeaderValue) -> Option<&str>
-    ensures { option_map (λ text. text.now) result ≡ header_text value.now }
-{
-    match value.to_str() {
-        Ok(text) => Some(text),
-        Err(_) => None,
     }
 }
 

@@ -17,7 +17,7 @@ use Rattle.httpdate.proofs.Theorems.{IsDateText_unique}
 use Rattle.httpdate.proofs.ValidLemmas.{is_valid_complete, is_valid_sound}
 use Rattle.web_headers.specs.DateHeaders.{HasNoDate, SaysDate, ValuesSayDate}
 use Rattle.web_headers.specs.HeaderLaws.{SaysOneThing, SaysOnly, ShowsOneDate}
-use Rattle.web_headers.specs.HeaderReaders.{first_text_of}
+use Rattle.web_texts.specs.HeaderTexts.{first_text_of}
 
 civil_prop : (p : Parts) → IsProp (IsCivilDate p.year p.mon p.day)
 civil_prop p = hlevel (le_prop, ℕ_set)

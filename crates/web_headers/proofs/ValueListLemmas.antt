@@ -10,32 +10,13 @@ use Rattle.http_header.specs.FieldValue.{FieldValue, IsVisibleAscii, is_visible_
 use Rattle.web_texts.specs.Blanks.{trimmed}
 use Rattle.web_texts.specs.Pieces.{Rule, pieces}
 use Rattle.web_texts.specs.PieceItems.{is_comma, is_empty, one_or_none, item_of_piece}
-use Rattle.web_headers.specs.HeaderReaders.{value_bytes, items_of_value, header_text_of, first_text_of, comma_list_of, piece_list_of, each_comma, comma_items}
+use Rattle.web_texts.specs.HeaderTexts.{value_bytes, header_text_of, first_text_of}
+use Rattle.web_headers.specs.HeaderReaders.{items_of_value, comma_list_of, piece_list_of, each_comma, comma_items}
 
 -- what the values that are left add, and whether all of them are text
 pub record SaysRest {M T : Type 0} (rule : Rule M) (read : List ℕ → Option T) (out : List T) (left all : List FieldValue) : Type 0 where
   pub said : out ++ flat_map (items_of_value rule read) (value_bytes left) ≡ flat_map (items_of_value rule read) (value_bytes all)
   pub texts : list_all is_visible_text (value_bytes left) ≡ list_all is_visible_text (value_bytes all)
-
-by_cases : (bs : List ℕ) (b : Bool) → list_all is_visible_or_blank bs ≡ b → (IsVisibleAscii bs → ⊥) → list_all is_visible_or_blank bs ≡ false
-by_cases bs true e unfit = absurd (unfit (AllPass-from_list_all is_visible_or_blank bs e))
-by_cases bs false e unfit = e
-
-pub is_text : (bs : List ℕ) → IsVisibleAscii bs → header_text_of bs ≡ Some bs
-is_text bs fits = rw (list_all-from_AllPass is_visible_or_blank bs fits) refl
-
-pub no_text : (bs : List ℕ) → (IsVisibleAscii bs → ⊥) → header_text_of bs ≡ None
-no_text bs unfit = rw (by_cases bs (list_all is_visible_or_blank bs) refl unfit) refl
-
--- the first value
-
-pub first_is : (values : List FieldValue) (value : FieldValue) → Some value ≡ slice_get values 0 → first_text_of (value_bytes values) ≡ header_text_of value.bytes
-first_is [] value e = absurd (cc)
-first_is (v ∷ more) value e = let same : v ≡ value = cc in rw same refl
-
-pub first_is_none : (values : List FieldValue) → None ≡ slice_get values 0 → first_text_of (value_bytes values) ≡ None
-first_is_none [] e = refl
-first_is_none (v ∷ more) e = absurd (cc)
 
 -- at each comma
 

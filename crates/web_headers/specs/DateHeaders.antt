@@ -2,7 +2,7 @@
 use Rattle.std.specs.Prelude.{ℕ, List, Option, None, Some}
 use Rattle.httpdate.specs.declared.date.HttpDate.{HttpDate}
 use Rattle.httpdate.specs.Date.{IsDateText}
-use Rattle.web_headers.specs.HeaderReaders.{first_text_of}
+use Rattle.web_texts.specs.HeaderTexts.{first_text_of}
 
 -- no date has this text
 abbrev pub HasNoDate : List ℕ → Type 0

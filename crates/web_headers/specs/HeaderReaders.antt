@@ -3,23 +3,12 @@ use Rattle.std.specs.Prelude.{ℕ, true, List, [], ◌∷◌, map, filter, not, 
 use Rattle.std.specs.Prelude.{Option, None, Some, if◌then◌else◌}
 use Rattle.std.specs.Option.{option_and_then}
 use Rattle.std.specs.List.{list_all, filter_map, slice_split}
-use Rattle.http_header.specs.FieldValue.{FieldValue, is_visible_text}
+use Rattle.http_header.specs.FieldValue.{is_visible_text}
 use Rattle.web_texts.specs.Blanks.{trimmed}
+use Rattle.web_texts.specs.HeaderTexts.{first_text_of}
 use Rattle.web_texts.specs.Pieces.{Rule, pieces}
 use Rattle.web_texts.specs.PieceItems.{is_comma, is_empty, item_of_piece}
 use Rattle.web_headers.specs.declared.value_readers.EachComma.{EachComma}
-
-abbrev pub value_bytes : List FieldValue → List (List ℕ)
-value_bytes values = map (λ v. v.bytes) values
-
--- the text of a value of 0x20 to 0x7E and tabs alone
-abbrev pub header_text_of : List ℕ → Option (List ℕ)
-header_text_of bytes = if is_visible_text bytes then Some bytes else None
-
--- the first value, if there is one and it is header text
-abbrev pub first_text_of : List (List ℕ) → Option (List ℕ)
-first_text_of [] = None
-first_text_of (first ∷ more) = header_text_of first
 
 -- a text that is there and is not empty
 abbrev pub one_text_of : {T : Type 0} → (List ℕ → Option T) → Option (List ℕ) → Option T

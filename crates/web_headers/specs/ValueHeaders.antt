@@ -4,7 +4,8 @@ use Rattle.std.specs.Option.{option_and_then}
 use Rattle.web_texts.specs.Blanks.{trimmed}
 use Rattle.web_texts.specs.Digits.{digits_up_to}
 use Rattle.web_texts.specs.MediaTypes.{MediaType, media_type_of}
-use Rattle.web_headers.specs.HeaderReaders.{first_text_of, one_value_of}
+use Rattle.web_texts.specs.HeaderTexts.{first_text_of}
+use Rattle.web_headers.specs.HeaderReaders.{one_value_of}
 
 -- digits alone, up to 2^64 - 1, with blanks around them
 abbrev pub length_of : List ℕ → Option ℕ

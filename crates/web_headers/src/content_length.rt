@@ -3,13 +3,13 @@ ghost use Rattle.std.specs.Prelude.{◌≡◌};
 
 use crate::header_value::TryIntoHeaderValue;
 use crate::typed_header::Header;
-use crate::value_readers::first_text;
 use http_header::{CONTENT_LENGTH, HeaderMap, HeaderName, HeaderValue};
 use std::alloc::Global;
 use std::fmt;
 use std::ops::{Deref, DerefMut};
 use web_texts::{
-    Duplicate, Fail, InvalidHeaderValue, NoMemory, ParseError, ReadText, read_digits, trim,
+    Duplicate, Fail, InvalidHeaderValue, NoMemory, ParseError, ReadText, first_text, read_digits,
+    trim,
 };
 
 /// Content-Length (RFC 9110, section 8.6): the length of content, in bytes.
@@ -67,7 +67,7 @@ impl Header for ContentLength {
     ghost use Rattle.std.specs.Prelude.{◌≡◌, codes};
     ghost use Rattle.std.specs.Option.{option_map};
     ghost use Rattle.http_header.specs.HeaderMap.{get_all};
-    ghost use Rattle.web_headers.specs.HeaderReaders.{value_bytes};
+    ghost use Rattle.web_texts.specs.HeaderTexts.{value_bytes};
     ghost use Rattle.web_headers.specs.TypedHeaders.{ReadsAs, NeverNoMemory};
     ghost use Rattle.web_headers.specs.ValueHeaders.{content_length_of};
 

@@ -1,13 +1,12 @@
 //! Headers of one date.
 ghost use Rattle.http_header.specs.HeaderMap.{get_all};
 ghost use Rattle.web_headers.specs.DateHeaders.{ValuesSayDate};
-ghost use Rattle.web_headers.specs.HeaderReaders.{value_bytes};
+ghost use Rattle.web_texts.specs.HeaderTexts.{value_bytes};
 ghost use Rattle.web_headers.specs.TypedHeaders.{ReadsAs, NeverNoMemory};
 
-use crate::value_readers::first_text;
 use http_header::{HeaderMap, HeaderName, HeaderValue};
 use httpdate::HttpDate;
-use web_texts::{Fail, ParseError};
+use web_texts::{Fail, ParseError, first_text};
 
 /// Reads a header of one date (RFC 9110, section 5.6.7): the first value of this name, untrimmed,
 /// in one of the three formats. `ParseError::Header` comes where there is none, or where it is

@@ -18,7 +18,7 @@ impl Header for IfUnmodifiedSince {
     ghost use Rattle.std.specs.Prelude.{codes};
     ghost use Rattle.http_header.specs.HeaderMap.{get_all};
     ghost use Rattle.web_headers.specs.DateHeaders.{ValuesSayDate};
-    ghost use Rattle.web_headers.specs.HeaderReaders.{value_bytes};
+    ghost use Rattle.web_texts.specs.HeaderTexts.{value_bytes};
     ghost use Rattle.web_headers.specs.TypedHeaders.{ReadsAs, NeverNoMemory};
 
     ghost says = { ValuesSayDate (λ header. header.0) };

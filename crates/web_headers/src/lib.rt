@@ -49,6 +49,5 @@ pub use printed_list::fmt_comma_delimited;
 pub use text_writer::Writer;
 pub use typed_header::Header;
 pub use value_readers::{
-    EachComma, first_text, from_comma_delimited, from_one_raw_str, from_one_value, from_pieces,
-    header_text,
+    EachComma, from_comma_delimited, from_one_raw_str, from_one_value, from_pieces,
 };

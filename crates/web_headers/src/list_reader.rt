@@ -1,7 +1,8 @@
 //! Readers of the headers that are lists.
 ghost use Rattle.http_header.specs.HeaderMap.{get_all};
 ghost use Rattle.web_texts.specs.TextReaders.{Reads};
-ghost use Rattle.web_headers.specs.HeaderReaders.{value_bytes, comma_list_of};
+ghost use Rattle.web_texts.specs.HeaderTexts.{value_bytes};
+ghost use Rattle.web_headers.specs.HeaderReaders.{comma_list_of};
 ghost use Rattle.web_headers.specs.ListHeaders.{some_list_of};
 
 use crate::value_readers::from_comma_delimited;

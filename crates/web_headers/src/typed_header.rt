@@ -1,7 +1,7 @@
 //! Headers with a type of their own.
 ghost use Rattle.std.specs.Prelude.{◌≡◌, ℕ, List, Option};
 ghost use Rattle.http_header.specs.HeaderMap.{get_all};
-ghost use Rattle.web_headers.specs.HeaderReaders.{value_bytes};
+ghost use Rattle.web_texts.specs.HeaderTexts.{value_bytes};
 ghost use Rattle.web_headers.specs.TypedHeaders.{ReadsAs};
 
 use http_header::{HeaderMap, HeaderName, HeaderValue};

@@ -3,13 +3,13 @@ ghost use Rattle.std.specs.Prelude.{◌≡◌};
 ghost use Rattle.std.specs.Option.{option_map, option_and_then, option_copied};
 ghost use Rattle.http_header.specs.HeaderMap.{get_all};
 ghost use Rattle.web_texts.specs.TextReaders.{Reads, ReadsBy};
-ghost use Rattle.web_headers.specs.HeaderReaders.{value_bytes, header_text_of, first_text_of};
+ghost use Rattle.web_texts.specs.HeaderTexts.{value_bytes, header_text_of};
 ghost use Rattle.web_headers.specs.HeaderReaders.{one_text_of, one_value_of, piece_list_of};
 ghost use Rattle.web_headers.specs.HeaderReaders.{comma_list_of};
 
 use http_header::{HeaderMap, HeaderName, HeaderValue};
 use std::alloc::Global;
-use web_texts::{Fail, Mode, ParseError, ReadText, push_pieces};
+use web_texts::{Fail, Mode, ParseError, ReadText, first_text, header_text, push_pieces};
 
 /// The one mode of a list that is cut at each comma.
 #[derive(Clone, Copy, Debug, PartialEq, Eq)]
@@ -34,28 +34,6 @@ impl Mode for EachComma {
     }
 
     ghost ascii = { lit< tt };
-}
-
-/// The text of a value of header text: 0x20 to 0x7E and tabs. `None` for a value with another
-/// byte.
-pub fn header_text(value: &HeaderValue) -> Option<&str>
-    ensures { option_map (λ text. text.now) result ≡ header_text_of value.now.bytes }
-{
-    match value.to_str() {
-        Ok(text) => Some(text),
-        Err(_) => None,
-    }
-}
-
-/// The first value of this name, if there is one and it is header text.
-pub fn first_text<'a>(headers: &'a HeaderMap<HeaderValue>, name: &HeaderName) -> Option<&'a str>
-    ensures { option_map (λ text. text.now) result
-        ≡ first_text_of (value_bytes (get_all headers.now name.now)) }
-{
-    match headers.get(name) {
-        Some(value) => header_text(value),
-        None => None,
-    }
 }
 
 fn raw_text(value: Option<&HeaderValue>) -> Option<&str>

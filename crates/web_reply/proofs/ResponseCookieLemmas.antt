@@ -6,7 +6,7 @@ use native.Mathlib.Numerals.{unary_clauses}
 use Rattle.http_header.specs.FieldValue.{FieldValue}
 use Rattle.http_header.specs.HeaderMap.{IsUnique, append, get_all, remove}
 use Rattle.http_header.proofs.HeaderMapLemmas.{get_all-append_same, get_all-append_other, get_all-remove_same, get_all-remove_other}
-use Rattle.web_headers.specs.HeaderReaders.{header_text_of}
+use Rattle.web_texts.specs.HeaderTexts.{header_text_of}
 use Rattle.web_cookies.specs.declared.cookie_parse_error.CookieParseError.{CookieParseError}
 use Rattle.web_cookies.specs.CookieFields.{CookieFields}
 use Rattle.web_cookies.specs.CookieReaders.{cookie_said}

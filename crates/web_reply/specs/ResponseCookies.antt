@@ -10,7 +10,7 @@ use Rattle.http_header.specs.HeaderMap.{get_all, remove}
 use Rattle.web_texts.specs.declared.memory.NoMemory.{NoMemory}
 use Rattle.web_texts.specs.declared.memory.Fail.{Fail}
 use Rattle.web_texts.specs.declared.memory.Fail.TheVariants as fail
-use Rattle.web_headers.specs.HeaderReaders.{header_text_of}
+use Rattle.web_texts.specs.HeaderTexts.{header_text_of}
 use Rattle.web_cookies.specs.CookieFields.{CookieFields}
 use Rattle.web_cookies.specs.CookieReaders.{cookie_said}
 use Rattle.web_cookies.specs.CookieRemoval.{IsRemoval}

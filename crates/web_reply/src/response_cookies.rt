@@ -20,8 +20,7 @@ use httpdate::HttpDate;
 use std::alloc::Global;
 use std::marker::Model;
 use web_cookies::Cookie;
-use web_headers::header_text;
-use web_texts::{Duplicate, Fail, NoMemory};
+use web_texts::{Duplicate, Fail, NoMemory, header_text};
 
 /// The cookies that a response sets (RFC 6265, section 4.1), percent-decoded.
 ///

@@ -10,7 +10,6 @@ pub mod Computed
 pub mod Descriptions
 pub mod Nearest
 pub mod MessageFields
-pub mod Returns
 pub mod Pool
 pub mod KeptRecords
 pub mod Body

@@ -4,18 +4,15 @@ use Rattle.std.specs.Prelude.{codes, length, nat_le, take, Option, None, Some, R
 use Rattle.std.specs.List.{before_first}
 use Rattle.std.specs.Option.{ok_or, option_and_then, option_map, option_map_or}
 use Rattle.std.specs.Str.{str_eq_ignore_ascii_case}
-use Rattle.http_header.specs.FieldValue.{FieldValue, is_visible_text}
+use Rattle.http_header.specs.FieldValue.{FieldValue}
 use Rattle.http_header.specs.HeaderMap.{Entries, get}
 use Rattle.web_texts.specs.Blanks.{trimmed}
+use Rattle.web_texts.specs.HeaderTexts.{header_text}
 use Rattle.web_texts.specs.MediaTypes.{MediaType, charset_of, media_type_of}
 use Rattle.web_texts.specs.declared.errors.ContentTypeError.{ContentTypeError}
 use Rattle.web_texts.specs.declared.errors.ContentTypeError.TheVariants as content
 use Rattle.web_texts.specs.declared.errors.ParseError.{ParseError}
 use Rattle.web_texts.specs.declared.errors.ParseError.TheVariants.{Header}
-
--- the text of a value, where it is header text: visible ASCII, spaces and tabs
-abbrev pub header_text : FieldValue → Option (List ℕ)
-header_text value = if is_visible_text value.bytes then Some value.bytes else None
 
 abbrev pub first_content_type : Entries FieldValue → Option FieldValue
 first_content_type fields = get fields (codes "content-type")

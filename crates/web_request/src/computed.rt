@@ -2,7 +2,7 @@
 ghost use Rattle.std.specs.Prelude.{◌≡◌, IfOk, OnErr, OnOk, option_copied};
 ghost use Rattle.std.specs.Borrow.{sem};
 ghost use Rattle.std.specs.Io.BufRead.{Rests};
-ghost use Rattle.web_request.specs.Returns.{ReturnsBy};
+ghost use Rattle.web_texts.specs.Returns.{ReturnsBy};
 ghost use Rattle.web_request.specs.Computed.{KeepsConnection, KeepsCookies, KeepsRawCookies};
 ghost use Rattle.web_request.specs.Computed.{KeepsUrlConnection};
 ghost use Rattle.web_request.specs.FullUrls.{ReadsUrl, url_said};

@@ -4,7 +4,7 @@ ghost use Rattle.http_header.specs.FieldValue.{FieldValue};
 ghost use Rattle.http_header.specs.HeaderMap.{Entries};
 ghost use Rattle.web_request.specs.MessageFields.{content_type_of, encoding_of, is_chunked_of};
 ghost use Rattle.web_request.specs.MessageFields.{first_content_type, mime_type_of};
-ghost use Rattle.web_request.specs.Returns.{Returns};
+ghost use Rattle.web_texts.specs.Returns.{Returns};
 
 use crate::app::App;
 use crate::head::RequestHead;

@@ -1,27 +1,17 @@
 //! What the header fields of a message say of its body.
 ghost use Rattle.std.specs.Prelude.{◌≡◌, None, Ok, Some};
-ghost use Rattle.std.specs.Option.{option_map};
 ghost use Rattle.std.specs.Str.{str_eq_ignore_ascii_case};
 ghost use Rattle.web_texts.specs.MediaTypes.{charset_of};
 ghost use Rattle.web_request.specs.MessageFields.{before_semicolon, charset_test};
 ghost use Rattle.web_request.specs.MessageFields.{content_type_of, first_content_type};
-ghost use Rattle.web_request.specs.MessageFields.{contains_word, encoding_of, header_text};
+ghost use Rattle.web_request.specs.MessageFields.{contains_word, encoding_of};
 ghost use Rattle.web_request.specs.MessageFields.{is_chunked_of, is_utf8_name, mime_type_of};
 ghost use Rattle.web_request.specs.MessageFields.{starts_with_word, type_in};
-ghost use Rattle.web_request.specs.Returns.{Returns};
+ghost use Rattle.web_texts.specs.Returns.{Returns};
 
 use http_header::{CONTENT_TYPE, HeaderMap, HeaderValue, TRANSFER_ENCODING};
 use std::alloc::Global;
-use web_texts::{ContentTypeError, Fail, Mime, ParseError, cut_at, trim};
-
-fn header_text(value: &HeaderValue) -> Option<&str>
-    ensures { option_map (λ text. text.now) result ≡ header_text value.now }
-{
-    match value.to_str() {
-        Ok(text) => Some(text),
-        Err(_) => None,
-    }
-}
+use web_texts::{ContentTypeError, Fail, Mime, ParseError, cut_at, header_text, trim};
 
 fn before_semicolon(text: &str) -> &str
     ensures { result.now ≡ before_semicolon text.now }

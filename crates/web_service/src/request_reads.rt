@@ -9,7 +9,7 @@ ghost use Rattle.web_request.specs.KeptValues.{cookie_named, known_connection, k
 ghost use Rattle.web_request.specs.KeptValues.{known_raw_cookies, with_cookies};
 ghost use Rattle.web_request.specs.KeptValues.{with_raw_cookies};
 ghost use Rattle.web_request.specs.Nearest.{nearest};
-ghost use Rattle.web_request.specs.Returns.{ReturnsBy};
+ghost use Rattle.web_texts.specs.Returns.{ReturnsBy};
 ghost use Rattle.web_service.specs.contracts.service_request.ServiceRequest.{the_row};
 
 use crate::service_request::ServiceRequest;

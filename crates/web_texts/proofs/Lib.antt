@@ -11,6 +11,7 @@ pub mod PieceLemmas
 pub mod TextPartLemmas
 pub mod TagLemmas
 pub mod DecimalLemmas
+pub mod HeaderTextLemmas
 pub mod KeptMediaLemmas
 pub mod WrittenMediaLemmas
 mod MethodLemmas

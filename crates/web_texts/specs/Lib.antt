@@ -5,6 +5,7 @@ pub mod Counts
 pub mod Cut
 pub mod Digits
 pub mod ExtendedValues
+pub mod HeaderTexts
 pub mod LanguageTags
 pub mod MediaTypeEquality
 pub mod MediaTypeTexts
@@ -16,6 +17,7 @@ pub mod Pieces
 pub mod QualityItems
 pub mod QualityValues
 pub mod QuotedText
+pub mod Returns
 pub mod TextParts
 pub mod TextReaders
 pub mod Tokens

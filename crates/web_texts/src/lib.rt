@@ -10,6 +10,7 @@ mod digits;
 mod duplicate;
 mod errors;
 mod extended_value;
+mod header_texts;
 mod items;
 mod language_tag;
 mod media_names;
@@ -37,6 +38,7 @@ pub use digits::{next_digit, number_of, read_digits};
 pub use duplicate::Duplicate;
 pub use errors::{ContentTypeError, InvalidHeaderValue, MimeFault, ParseError, TagFault};
 pub use extended_value::{ExtendedValue, parse_extended_value};
+pub use header_texts::{first_text, header_text};
 pub use items::Items;
 pub use language_tag::LanguageTag;
 pub use media_names::{

@@ -1,5 +1,5 @@
 use Rattle.http_header.specs.HeaderMap.{get_all}
-use Rattle.web_headers.specs.HeaderReaders.{value_bytes}
+use Rattle.web_texts.specs.HeaderTexts.{value_bytes}
 use Rattle.web_headers.proofs.ValueListLemmas.{commas_said}
 use Rattle.web_headers.proofs.value_readers.from_comma_delimited.Goals as goal
 

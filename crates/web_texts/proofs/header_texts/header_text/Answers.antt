@@ -1,7 +1,7 @@
 use Rattle.std.proofs.Common.{refl, sym, ap, Some, ◌∙◌}
 use Rattle.std.proofs.lemmas.Bool.{false≢true}
-use Rattle.web_headers.proofs.ValueListLemmas.{is_text, no_text}
-use Rattle.web_headers.proofs.value_readers.header_text.Goals as goal
+use Rattle.web_texts.proofs.HeaderTextLemmas.{is_text, no_text}
+use Rattle.web_texts.proofs.header_texts.header_text.Goals as goal
 
 pub returns-in-Ok : goal.returns-in-Ok
 returns-in-Ok c = ap Some c.in-Ok.ensures.ok ∙ sym (is_text c.args.value.now.bytes (c.in-Ok.ensures.succeeds.0 refl))
