@@ -7,6 +7,7 @@ pub mod MessageBody
 pub mod MessageBodyPolls
 pub mod Payload
 pub mod PollSteps
+pub mod ReaderBodies
 pub mod ErrorTexts
 pub mod LinesErrorTexts
 pub mod PayloadSettings

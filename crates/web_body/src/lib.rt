@@ -17,6 +17,7 @@ mod payload;
 mod payload_config;
 mod poll;
 mod query_error;
+mod read_source;
 mod rope;
 mod take_payload;
 mod whole_payload;
@@ -36,6 +37,7 @@ pub use payload::Payload;
 pub use payload_config::PayloadConfig;
 pub use poll::{Poll, Step, pending_count_law};
 pub use query_error::QueryPayloadError;
+pub use read_source::ReadSource;
 pub use take_payload::TakePayload;
 pub use web_request::Mark;
 pub use web_values::{
