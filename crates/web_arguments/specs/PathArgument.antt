@@ -8,10 +8,11 @@ use Rattle.web_values.specs.declared.faults.ReadFault.{ReadFault}
 use Rattle.web_body.specs.declared.path_error.PathError.{PathError}
 use Rattle.web_body.specs.declared.path_error.PathError.TheVariants as path
 use Rattle.web_reply.specs.Replies.{Fault}
+use Rattle.web_extract.specs.Extracts.{Possible}
 use Rattle.web_extract.specs.HeadArguments.{immediate}
 use Rattle.web_extract.specs.ListResults.{DelayedResult}
-use Rattle.web_extract.specs.Refusals.{Handler, RefusedBy, path_fault, refused_by}
-use Rattle.web_arguments.specs.ReadArguments.{Possible, read_as, refused_possible}
+use Rattle.web_extract.specs.Refusals.{Handler, RefusedBy, path_fault, refused_by, refused_some}
+use Rattle.web_arguments.specs.ReadArguments.{read_as}
 
 -- percent-decoded once; bytes that are no UTF-8 are replaced by U+FFFD
 abbrev pub decoded_value : List ℕ → List ℕ
@@ -34,7 +35,7 @@ PathRefused refuses handler head e error =
 pub path_refused_some : {H : Type 0} (refuses : Handler H PathError) (handler : Option H)
     (head : Head) (e : ReadFault) → Possible (PathRefused refuses handler head e)
 path_refused_some refuses handler head e =
-    refused_possible refuses path_fault handler (path.Deserialize e) head
+    refused_some refuses path_fault handler (path.Deserialize e) head
 
 -- what is read of a path's parameters, where the reader and the handler are functions
 abbrev pub path_result : {T H : Type 0}

@@ -7,10 +7,11 @@ use Rattle.web_values.specs.DecodedForms.{DecodesForm, PairReader, decoded_form}
 use Rattle.web_body.specs.declared.query_error.QueryPayloadError.{QueryPayloadError}
 use Rattle.web_body.specs.declared.query_error.QueryPayloadError.TheVariants as query
 use Rattle.web_reply.specs.Replies.{Fault}
+use Rattle.web_extract.specs.Extracts.{Possible}
 use Rattle.web_extract.specs.HeadArguments.{immediate}
 use Rattle.web_extract.specs.ListResults.{DelayedResult}
-use Rattle.web_extract.specs.Refusals.{Handler, RefusedBy, query_fault, refused_by}
-use Rattle.web_arguments.specs.ReadArguments.{Possible, read_as, refused_possible}
+use Rattle.web_extract.specs.Refusals.{Handler, RefusedBy, query_fault, refused_by, refused_some}
+use Rattle.web_arguments.specs.ReadArguments.{read_as}
 use Rattle.web_arguments.specs.declared.query_argument.Query.{Query}
 
 abbrev pub as_query : {T : Type 0} → Result T ReadFault → Result (Query T) QueryPayloadError
@@ -38,7 +39,7 @@ QueryRefused refuses handler head e error =
 pub query_refused_some : {H : Type 0} (refuses : Handler H QueryPayloadError) (handler : Option H)
     (head : Head) (e : ReadFault) → Possible (QueryRefused refuses handler head e)
 query_refused_some refuses handler head e =
-    refused_possible refuses query_fault handler (query.Deserialize e) head
+    refused_some refuses query_fault handler (query.Deserialize e) head
 
 -- what is read of a query, where the reader and the handler are functions
 abbrev pub query_result : {T H : Type 0}

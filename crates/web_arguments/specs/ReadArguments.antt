@@ -1,15 +1,13 @@
 -- Arguments that a reader makes of pairs, where a configured handler may answer its refusals.
-use Rattle.std.specs.Prelude.{◌≡◌, ℕ, List, [], Option, None, Some, Result, Ok, Err, refl}
-use Rattle.std.proofs.Common.{inl, inr}
-use Rattle.web_request.specs.Head.{Head}
+use Rattle.std.specs.Prelude.{◌≡◌, ℕ, List, [], Result, Ok, Err, refl}
 use Rattle.web_request.specs.declared.source.Mark.{Mark}
 use Rattle.web_values.specs.declared.faults.ReadFault.{ReadFault}
 use Rattle.web_values.specs.Answers.{OrAll}
+use Rattle.web_decoders.specs.JsonBodies.{or_all_some}
 use Rattle.web_reply.specs.Replies.{Fault}
-use Rattle.web_extract.specs.Extracts.{AllowsSome}
+use Rattle.web_extract.specs.Extracts.{AllowsOnly, AllowsSome, Possible}
 use Rattle.web_extract.specs.HeadArguments.{AllowsNow, immediate}
 use Rattle.web_extract.specs.ListResults.{Exactly}
-use Rattle.web_extract.specs.Refusals.{Handler, RefusedBy}
 
 -- T and X: what is read, and the argument; refused: the errors that a refusal may have
 module _ {T X : Type 0} (value : T → X) (refused : ReadFault → Fault → Type 0) where
@@ -27,20 +25,6 @@ module _ {T X : Type 0} (value : T → X) (refused : ReadFault → Fault → Typ
       → List Mark → List Mark → ℕ → Result X Fault → Type 0
   MeansRead reads m rest n x = AllowsNow (ReadsAs reads) m rest n x
 
--- it cannot be that nothing is allowed
-abbrev pub Possible : {A : Type 0} → (A → Type 0) → Type 0
-Possible {A} allowed = ((a : A) → allowed a → ⊥) → ⊥
-
-pub or_all_possible : {A : Type 0} (allowed : A → Type 0) (a : A) → Possible (OrAll allowed)
-or_all_possible allowed a none = none a (inr (λ b h. none b (inl h)))
-
--- a refusal has some error, with a handler or without
-pub refused_possible : {H E : Type 0} (refuses : Handler H E) (own : E → Fault)
-    (handler : Option H) (e : E) (head : Head) → Possible (RefusedBy refuses own handler e head)
-refused_possible refuses own None e head none = none (own e) refl
-refused_possible refuses own (Some h) e head none =
-    or_all_possible (refuses h e head) (own e) none
-
 module _ {T X : Type 0} (value : T → X) (refused : ReadFault → Fault → Type 0)
     (some : (e : ReadFault) → Possible (refused e)) where
   is_read_possible : (y : Result T ReadFault) → Possible (IsReadAs value refused y)
@@ -50,12 +34,8 @@ module _ {T X : Type 0} (value : T → X) (refused : ReadFault → Fault → Typ
   pub read_some : (reads : Result T ReadFault → Type 0) (m : List Mark)
       → AllowsSome (MeansRead value refused reads m)
   read_some reads m none =
-      or_all_possible reads (Err record { text = [] }) (λ y h. is_read_possible y (λ x k.
+      or_all_some reads (Err record { text = [] }) (λ y h. is_read_possible y (λ x k.
       none m 0 x (refl, refl, (y, h, k))))
-
--- this is allowed, and nothing else
-abbrev pub AllowsOnly : {A : Type 0} → (A → Type 0) → A → Type 0
-AllowsOnly {A} allowed a = allowed a × ((b : A) → allowed b → b ≡ a)
 
 -- what was read, or the error of its refusal
 abbrev pub read_as :

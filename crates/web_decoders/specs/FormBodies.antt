@@ -1,6 +1,8 @@
 -- Collectors of forms, and the results that they may give.
-use Rattle.std.specs.Prelude.{◌≡◌, ℕ, List, [], Result, Ok, Err, refl}
+use Rattle.std.specs.Prelude.{◌≡◌, ℕ, Bool, List, [], Option, Result, Ok, Err, refl}
+use Rattle.std.specs.Option.{IfNone}
 use Rattle.web_texts.specs.declared.text.Pair.{Pair}
+use Rattle.web_request.specs.declared.source.Mark.{Mark}
 use Rattle.web_request.specs.Feed.{Feed}
 use Rattle.web_values.specs.declared.faults.ReadFault.{ReadFault}
 use Rattle.web_values.specs.FormPairs.{form_pairs}
@@ -10,10 +12,13 @@ use Rattle.web_body.specs.declared.message_body.PayloadError.TheVariants.{Io}
 use Rattle.web_body.specs.declared.form_error.UrlencodedError.{UrlencodedError}
 use Rattle.web_body.specs.declared.form_error.UrlencodedError.TheVariants as form
 use Rattle.web_body.specs.declared.payload.Payload.{Payload}
+use Rattle.web_body.specs.declared.poll.Step.{Step}
+use Rattle.web_body.specs.Payload.{payload_feed}
+use Rattle.web_body.specs.PollSteps.{GivesSome, IfReady}
 use Rattle.web_body.specs.Collector.{Collector, Read}
 use Rattle.web_decoders.specs.declared.form_head.FormHead.{FormHead}
 use Rattle.web_decoders.specs.Decoding.{Decoding, new_decoding, decoding_gives, DecodesSome}
-use Rattle.web_decoders.specs.Decoding.{CameBy}
+use Rattle.web_decoders.specs.Decoding.{CameBy, PollsDecoding, decoding_some}
 use Rattle.web_decoders.specs.FormHeads.{form_refusal}
 use Rattle.web_decoders.specs.JsonBodies.{or_all_some}
 
@@ -56,6 +61,18 @@ abbrev pub form_gives : {S T : Type 0} → (S → Feed) → PairReader T
     → FormBody S → ℕ → Result T UrlencodedError → Type 0
 form_gives feed reads b n x = decoding_gives feed (λ d. FormAnswer reads d) b.decoding n x
 
+-- its result was given
+abbrev pub form_body_finished : {S : Type 0} → FormBody S → Bool
+form_body_finished b = b.decoding.is_finished
+
+-- the refusal by the head, until it is given
+abbrev pub form_body_refusal : {S : Type 0} → FormBody S → Option UrlencodedError
+form_body_refusal b = b.decoding.refusal
+
+-- the marks of its payload, where they are stated
+abbrev pub form_body_marks : {S : Type 0} → (S → Feed) → FormBody S → Option (List Mark)
+form_body_marks feed b = (payload_feed feed b.decoding.body.payload).marks
+
 -- It is not the case that nothing is allowed.
 pub form_answer_some : {T : Type 0} (reads : PairReader T) (limit : ℕ)
     → DecodesSome (FormAnswer reads limit)
@@ -75,3 +92,17 @@ FormCame feed old (Err (form.Parse e)) new = CameBy feed old (Ok []) new
 FormCame feed old (Err (form.Overflow size limit)) new = CameBy feed old (Err (TooLong size)) new
 FormCame feed old (Err (form.Payload Io)) new = CameBy feed old (Err Failed) new
 FormCame feed old (Err _) new = ⊥
+
+-- It is not the case that nothing may come of it.
+pub form_gives_some : {S T : Type 0} (feed : S → Feed) (reads : PairReader T) (b : FormBody S)
+    → GivesSome (form_gives feed reads b)
+form_gives_some feed reads b =
+    decoding_some feed (λ d. FormAnswer reads d) (form_answer_some reads) b.decoding
+
+-- what one poll from old to new with this result says of the collector
+abbrev pub PollsFormBody : {S T : Type 0} → (S → Feed) → PairReader T → FormBody S
+    → Step (Result T UrlencodedError) → FormBody S → Type 0
+PollsFormBody feed reads old s new =
+    PollsDecoding feed (λ d. FormAnswer reads d) old.decoding s new.decoding
+    × IfNone old.decoding.refusal
+    (IfReady s (λ x. FormCame feed old.decoding.body x new.decoding.body))

@@ -1,9 +1,11 @@
 -- Collectors of JSON bodies, and the results that they may give.
 use Rattle.std.specs.Prelude.{◌≡◌, ℕ, Bool, true, false, Option, None, Some, Result, Ok, Err}
-use Rattle.std.specs.Prelude.{[], refl}
+use Rattle.std.specs.Prelude.{List, [], refl}
+use Rattle.std.specs.Option.{IfNone}
 use Rattle.std.proofs.Common.{inl, inr}
 use Rattle.serde_json.specs.Data.{Data}
 use Rattle.serde_json.specs.Written.{has_float}
+use Rattle.web_request.specs.declared.source.Mark.{Mark}
 use Rattle.web_request.specs.Feed.{Feed}
 use Rattle.web_values.specs.declared.faults.JsonFault.{JsonFault}
 use Rattle.web_values.specs.declared.faults.JsonFault.TheVariants as fault
@@ -17,10 +19,13 @@ use Rattle.web_body.specs.declared.message_body.PayloadError.TheVariants.{Io}
 use Rattle.web_body.specs.declared.json_error.JsonPayloadError.{JsonPayloadError}
 use Rattle.web_body.specs.declared.json_error.JsonPayloadError.TheVariants as json
 use Rattle.web_body.specs.declared.payload.Payload.{Payload}
+use Rattle.web_body.specs.declared.poll.Step.{Step}
+use Rattle.web_body.specs.Payload.{payload_feed}
+use Rattle.web_body.specs.PollSteps.{GivesSome, IfReady}
 use Rattle.web_body.specs.Collector.{Collector, Read}
 use Rattle.web_decoders.specs.declared.json_head.JsonHead.{JsonHead}
 use Rattle.web_decoders.specs.Decoding.{Decoding, new_decoding, decoding_gives, DecodesSome}
-use Rattle.web_decoders.specs.Decoding.{CameBy}
+use Rattle.web_decoders.specs.Decoding.{CameBy, PollsDecoding, decoding_some}
 use Rattle.web_decoders.specs.JsonHeads.{json_refusal}
 
 -- the limit where no other is chosen, in bytes
@@ -62,6 +67,18 @@ abbrev pub json_gives : {S T : Type 0} → (S → Feed) → JsonReader T
     → JsonBody S → ℕ → Result T JsonPayloadError → Type 0
 json_gives feed reads b n x = decoding_gives feed (λ d. JsonAnswer reads d) b.decoding n x
 
+-- its result was given
+abbrev pub json_body_finished : {S : Type 0} → JsonBody S → Bool
+json_body_finished b = b.decoding.is_finished
+
+-- the refusal by the head, until it is given
+abbrev pub json_body_refusal : {S : Type 0} → JsonBody S → Option JsonPayloadError
+json_body_refusal b = b.decoding.refusal
+
+-- the marks of its payload, where they are stated
+abbrev pub json_body_marks : {S : Type 0} → (S → Feed) → JsonBody S → Option (List Mark)
+json_body_marks feed b = (payload_feed feed b.decoding.body.payload).marks
+
 -- It is not the case that nothing is allowed.
 pub or_all_some : {T : Type 0} (allowed : T → Type 0) → T
     → ((x : T) → OrAll allowed x → ⊥) → ⊥
@@ -94,3 +111,17 @@ JsonCame feed old (Err (json.Deserialize e)) new = CameBy feed old (Ok []) new
 JsonCame feed old (Err (json.Overflow limit)) new = CameBy feed old (Err (TooLong 0)) new
 JsonCame feed old (Err (json.Payload Io)) new = CameBy feed old (Err Failed) new
 JsonCame feed old (Err _) new = ⊥
+
+-- It is not the case that nothing may come of it.
+pub json_gives_some : {S T : Type 0} (feed : S → Feed) (reads : JsonReader T) (b : JsonBody S)
+    → GivesSome (json_gives feed reads b)
+json_gives_some feed reads b =
+    decoding_some feed (λ d. JsonAnswer reads d) (json_answer_some reads) b.decoding
+
+-- what one poll from old to new with this result says of the collector
+abbrev pub PollsJsonBody : {S T : Type 0} → (S → Feed) → JsonReader T → JsonBody S
+    → Step (Result T JsonPayloadError) → JsonBody S → Type 0
+PollsJsonBody feed reads old s new =
+    PollsDecoding feed (λ d. JsonAnswer reads d) old.decoding s new.decoding
+    × IfNone old.decoding.refusal
+    (IfReady s (λ x. JsonCame feed old.decoding.body x new.decoding.body))

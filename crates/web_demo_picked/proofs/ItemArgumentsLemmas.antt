@@ -1,24 +1,23 @@
 -- The arguments that read an item allow one rest, one delay and one result.
-use Rattle.std.proofs.Common.{◌≡◌, ℕ, List, refl, sym, ◌∙◌, inl, inr}
-use Rattle.std.specs.Prelude.{Option, None, Some, Result, Ok, Err}
+use Rattle.std.proofs.Common.{◌≡◌, ℕ, List, refl, sym, ◌∙◌}
+use Rattle.std.specs.Prelude.{Result, Ok, Err}
 use Rattle.web_request.specs.declared.source.Mark.{Mark}
 use Rattle.web_request.specs.Head.{Head, head_query}
 use Rattle.web_body.specs.declared.path_error.PathError.TheVariants as path
 use Rattle.web_body.specs.declared.query_error.QueryPayloadError.TheVariants as query
-use Rattle.web_values.specs.Answers.{OrAll}
 use Rattle.web_values.specs.FormPairs.{form_pairs}
 use Rattle.web_reply.specs.Replies.{Fault}
 use Rattle.web_extract.specs.CollectedResults.{map_value}
-use Rattle.web_extract.specs.Refusals.{RefusedBy, path_fault, query_fault, refused_by}
+use Rattle.web_extract.specs.Refusals.{path_fault, query_fault, refused_by}
 use Rattle.web_extract.specs.SomeAnswer.{itself}
 use Rattle.web_types.specs.EitherLaw.{Only, OnlyOf}
-use Rattle.web_types.specs.TypeFunctions.{AllowsOnly, IsHandler, IsPairReader, IsPredicate, IsReader}
+use Rattle.web_types.specs.TypeFunctions.{IsHandler, IsPairReader, IsPredicate, IsReader}
 use Rattle.web_types.specs.declared.either.Either.{Either}
 use Rattle.web_types.specs.declared.form_value.Form.{Form}
 use Rattle.web_types.specs.declared.json_value.Json.{Json}
 use Rattle.web_types.proofs.EitherLawLemmas.{either_decides}
 use Rattle.web_types.specs.JsonArgument.{MeansJson, json_result}
-use Rattle.web_types.proofs.TypeFunctionsLemmas.{decides_form, decides_json, json_to}
+use Rattle.web_types.proofs.TypeFunctionsLemmas.{decides_form, decides_json, json_to, refused_only}
 use Rattle.web_arguments.specs.PathArgument.{PathRefused, decoded_parameters}
 use Rattle.web_arguments.specs.QueryArgument.{QueryRefused}
 use Rattle.web_arguments.proofs.ReadArgumentsLemmas.{only_read}
@@ -55,21 +54,6 @@ is_reader d = (refl, λ x k. k)
 
 is_pair_reader : IsPairReader ItemOfPairs item_of_pairs
 is_pair_reader pairs = (refl, λ x k. k)
-
-or_all_only : {A : Type 0} (P : A → Type 0) (y : A) → P y → ((x : A) → P x → x ≡ y)
-    → (x : A) → OrAll P x → x ≡ y
-or_all_only P y p only x (inl h) = only x h
-or_all_only P y p only x (inr none) = absurd (none y p)
-
-refused_only : {E : Type 0} (answer : Teapot → E → Head → Fault) (own : E → Fault)
-    (handler : Option Teapot) (e : E) (head : Head)
-    → AllowsOnly (RefusedBy (ByHandler answer) own handler e head)
-    (refused_by answer own handler e head)
-refused_only answer own None e head = (refl, λ x k. k)
-refused_only answer own (Some h) e head = (
-  inl refl,
-  λ x k. or_all_only (ByHandler answer h e head) (answer h e head) refl (λ z i. i) x k,
-)
 
 -- of a body
 
@@ -148,7 +132,8 @@ path_seen q m left n y h =
     (ItemOfPairs (decoded_parameters q.params)) (item_of_pairs (decoded_parameters q.params))
     (λ e. refused_by path_teapot path_fault (path_handler_of q) (path.Deserialize e) q.head) m
     (refl, λ x k. k)
-    (λ e. refused_only path_teapot path_fault (path_handler_of q) (path.Deserialize e) q.head)
+    (λ e. refused_only (ByHandler path_teapot) path_teapot (is_handler path_teapot) path_fault q.head
+    (path_handler_of q) (path.Deserialize e))
     left n y).0 h in
     (is.0, is.1, converted_same y ∙ is.2)
 
@@ -160,6 +145,7 @@ query_seen q m left n y h =
     (ItemOfPairs (form_pairs (head_query q.head))) (item_of_pairs (form_pairs (head_query q.head)))
     (λ e. refused_by query_teapot query_fault (query_handler_of q) (query.Deserialize e) q.head) m
     (refl, λ x k. k)
-    (λ e. refused_only query_teapot query_fault (query_handler_of q) (query.Deserialize e) q.head)
+    (λ e. refused_only (ByHandler query_teapot) query_teapot (is_handler query_teapot) query_fault q.head
+    (query_handler_of q) (query.Deserialize e))
     left n y).0 h in
     (is.0, is.1, converted_same y ∙ is.2)

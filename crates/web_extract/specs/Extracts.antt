@@ -27,3 +27,11 @@ ExtractsEmpty {T} means gives =
 -- it cannot be that nothing is allowed
 abbrev pub AllowsSome : {T : Type 0} → (List Mark → ℕ → T → Type 0) → Type 0
 AllowsSome {T} means = ((rest : List Mark) (n : ℕ) (x : T) → means rest n x → ⊥) → ⊥
+
+-- the same of values alone
+abbrev pub Possible : {A : Type 0} → (A → Type 0) → Type 0
+Possible {A} allowed = ((a : A) → allowed a → ⊥) → ⊥
+
+-- this is allowed, and nothing else
+abbrev pub AllowsOnly : {A : Type 0} → (A → Type 0) → A → Type 0
+AllowsOnly {A} allowed a = allowed a × ((b : A) → allowed b → b ≡ a)

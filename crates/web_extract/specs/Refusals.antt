@@ -1,5 +1,5 @@
 -- What configured handlers answer to refusals.
-use Rattle.std.specs.Prelude.{◌≡◌, Option, None, Some, Result, Ok}
+use Rattle.std.specs.Prelude.{◌≡◌, Option, None, Some, Result, Ok, refl}
 use Rattle.std.specs.Fn.{Shared, FnReturns}
 use Rattle.std.specs.Borrow.{Bor}
 use Rattle.web_texts.specs.declared.memory.NoMemory.{NoMemory}
@@ -11,9 +11,11 @@ use Rattle.web_body.specs.declared.path_error.PathError.TheVariants as path
 use Rattle.web_body.specs.declared.query_error.QueryPayloadError.{QueryPayloadError}
 use Rattle.web_body.specs.declared.json_error.JsonPayloadError.{JsonPayloadError}
 use Rattle.web_body.specs.declared.form_error.UrlencodedError.{UrlencodedError}
+use Rattle.web_decoders.specs.JsonBodies.{or_all_some}
 use Rattle.web_reply.specs.declared.cause.Cause.TheVariants.{Custom, Form, Io, Json, Query}
 use Rattle.web_reply.specs.declared.cause.IoKind.TheVariants.{Other}
 use Rattle.web_reply.specs.Replies.{Fault, fault_of}
+use Rattle.web_extract.specs.Extracts.{Possible}
 
 -- a call of the closure f with e and the head of a request may return the error x
 pub record ClosureRefuses {F E : Type 0}
@@ -37,6 +39,12 @@ abbrev pub RefusedBy : {H E : Type 0} → Handler H E → (E → Fault)
     → Option H → E → Head → Fault → Type 0
 RefusedBy refuses own None e head x = x ≡ own e
 RefusedBy refuses own (Some h) e head x = OrAll (refuses h e head) x
+
+-- a refusal has some error, with a handler or without
+pub refused_some : {H E : Type 0} (refuses : Handler H E) (own : E → Fault)
+    (handler : Option H) (e : E) (head : Head) → Possible (RefusedBy refuses own handler e head)
+refused_some refuses own None e head none = none (own e) refl
+refused_some refuses own (Some h) e head none = or_all_some (refuses h e head) (own e) none
 
 -- the same where the handler is a function
 abbrev pub refused_by : {H E : Type 0} → (H → E → Head → Fault) → (E → Fault)

@@ -1,5 +1,5 @@
 -- Where handlers, predicates and readers are functions, exactly one result is allowed.
-use Rattle.std.proofs.Common.{◌≡◌, ℕ, Bool, true, false, List, refl, ap, subst, ◌∙◌, inl, inr}
+use Rattle.std.proofs.Common.{◌≡◌, ℕ, Bool, true, false, List, refl, ap, subst, ◌∙◌, inl}
 use Rattle.std.specs.Prelude.{◌||◌, Option, None, Some, Result, Ok, Err}
 use Rattle.http_header.specs.FieldValue.{FieldValue}
 use Rattle.http_header.specs.HeaderMap.{Entries}
@@ -12,7 +12,6 @@ use Rattle.web_request.specs.declared.source.Mark.{Mark}
 use Rattle.web_request.specs.Head.{Head}
 use Rattle.web_request.specs.MessageFields.{mime_type_of}
 use Rattle.web_request.specs.Reading.{reading}
-use Rattle.web_values.specs.Answers.{OrAll}
 use Rattle.web_values.specs.declared.faults.ReadFault.{ReadFault}
 use Rattle.web_values.specs.DecodedForms.{PairReader}
 use Rattle.web_values.specs.DecodedJson.{DecodesData, DecodesValue, JsonReader, as_target, decoded_data, decoded_value}
@@ -28,22 +27,20 @@ use Rattle.web_decoders.specs.JsonBodies.{JsonAnswer, as_deserialize, json_answe
 use Rattle.web_decoders.specs.TypePredicates.{AllowsBy, AllowsOther, AllowsRead, Predicate, ReadsType, is_json_type}
 use Rattle.web_reply.specs.Replies.{Fault}
 use Rattle.web_extract.specs.ConvertedFutures.{ConvertsResult, converted_result}
+use Rattle.web_extract.specs.Extracts.{AllowsOnly}
 use Rattle.web_extract.specs.LayerConfigurations.{Configurations, form_settings, json_settings}
 use Rattle.web_extract.specs.Refusals.{Handler, RefusedBy, form_fault, json_fault, refused_by}
+use Rattle.web_extract.proofs.RefusalsLemmas.{or_all_only}
 use Rattle.web_decoders.specs.DecoderSettings.{FormSettings, JsonSettings}
 use Rattle.web_types.specs.HandledBodies.{ReadsBody, delay_of_body, rest_where, result_of_body}
 use Rattle.web_types.specs.FormArgument.{MeansForm, form_of, form_rest, form_result}
 use Rattle.web_types.specs.JsonArgument.{MeansJson, json_head_refusal, json_of, json_rest, json_result}
 use Rattle.web_types.specs.ReadTypes.{allows_other, allows_read, reads_type}
-use Rattle.web_types.specs.TypeFunctions.{AllowsOnly, DecidesForm, DecidesJson, IsHandler, IsPairReader, IsPredicate, IsReader}
-
-or_all_only : {X : Type 0} (allowed : X → Type 0) (y : X) → AllowsOnly allowed y → (x : X) → OrAll allowed x → x ≡ y
-or_all_only allowed y only x (inl h) = only.1 x h
-or_all_only allowed y only x (inr none) = absurd (none y only.0)
+use Rattle.web_types.specs.TypeFunctions.{DecidesForm, DecidesJson, IsHandler, IsPairReader, IsPredicate, IsReader}
 
 module _ {H E : Type 0} (refuses : Handler H E) (answer : H → E → Head → Fault) (is : IsHandler refuses answer)
     (own : E → Fault) (head : Head) where
-  refused_only : (handler : Option H) (e : E)
+  pub refused_only : (handler : Option H) (e : E)
       → AllowsOnly (RefusedBy refuses own handler e head) (refused_by answer own handler e head)
   refused_only None e = (refl, λ x h. h)
   refused_only (Some k) e = (inl (is k e head).0, λ x h. or_all_only (refuses k e head) (answer k e head) (is k e head) x h)

@@ -1,6 +1,5 @@
 -- Forms as arguments.
 use Rattle.std.specs.Prelude.{◌≡◌, ℕ, List, Option, Result, min, refl}
-use Rattle.std.specs.Option.{IfNone}
 use Rattle.http_header.specs.FieldValue.{FieldValue}
 use Rattle.http_header.specs.HeaderMap.{Entries}
 use Rattle.web_texts.specs.declared.text.Pair.{Pair}
@@ -11,19 +10,17 @@ use Rattle.web_values.specs.declared.faults.ReadFault.{ReadFault}
 use Rattle.web_values.specs.DecodedForms.{PairReader}
 use Rattle.web_body.specs.declared.form_error.UrlencodedError.{UrlencodedError}
 use Rattle.web_body.specs.declared.poll.Step.{Step}
-use Rattle.web_body.specs.PollSteps.{IfReady}
-use Rattle.web_decoders.specs.Decoding.{PollsDecoding}
 use Rattle.web_decoders.specs.DecoderSettings.{FormSettings}
-use Rattle.web_decoders.specs.FormBodies.{FormAnswer, FormBody, FormCame, form_answer}
+use Rattle.web_decoders.specs.FormBodies.{FormAnswer, FormBody, PollsFormBody, form_answer}
 use Rattle.web_decoders.specs.FormBodies.{form_answer_some}
 use Rattle.web_decoders.specs.FormHeads.{form_head, form_refusal, takes_form}
 use Rattle.web_reply.specs.Replies.{Fault}
 use Rattle.web_extract.specs.Extracts.{AllowsSome}
 use Rattle.web_extract.specs.LayerConfigurations.{Configurations, form_settings}
 use Rattle.web_extract.specs.ListResults.{DelayedResult}
-use Rattle.web_extract.specs.Refusals.{Handler, RefusedBy, form_fault, refused_by}
+use Rattle.web_extract.specs.Refusals.{Handler, RefusedBy, form_fault, refused_by, refused_some}
 use Rattle.web_types.specs.HandledBodies.{GivesHandled, ReadsBody, handled_result, handled_some}
-use Rattle.web_types.specs.HandledBodies.{reads_some, refused_some, rest_where}
+use Rattle.web_types.specs.HandledBodies.{reads_some, rest_where}
 use Rattle.web_types.specs.declared.form_value.Form.{Form}
 
 abbrev pub form_of : {T : Type 0} → T → Form T
@@ -89,7 +86,5 @@ abbrev pub PollsForm : {S T : Type 0} → (S → Feed) → PairReader T
     → (Step (Result T UrlencodedError) → Type 0) → FormBody S → FormBody S → Type 0
 PollsForm {S} {T} feed reads holds old new =
     (s : Step (Result T UrlencodedError))
-    × PollsDecoding feed (λ d. FormAnswer reads d) old.decoding s new.decoding
-    × IfNone old.decoding.refusal
-    (IfReady s (λ x. FormCame feed old.decoding.body x new.decoding.body))
+    × PollsFormBody feed reads old s new
     × holds s

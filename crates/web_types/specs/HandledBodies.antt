@@ -2,7 +2,6 @@
 use Rattle.std.specs.Prelude.{◌≡◌, ℕ, Bool, List, [], if◌then◌else◌, ⊤, refl}
 use Rattle.std.specs.Prelude.{Option, None, Some, Result, Ok, Err}
 use Rattle.web_request.specs.declared.source.Mark.{Mark}
-use Rattle.web_request.specs.Head.{Head}
 use Rattle.web_request.specs.Reading.{reading}
 use Rattle.web_request.specs.Request.{Request, Record}
 use Rattle.web_body.specs.Collector.{Read, StallsNext, read_of}
@@ -12,9 +11,9 @@ use Rattle.web_body.specs.declared.poll.Step.TheVariants.{Pending, Ready, NoMemo
 use Rattle.web_decoders.specs.Decoding.{DecodedReading, DecodesSome, RefusedOr}
 use Rattle.web_reply.specs.Replies.{Fault}
 use Rattle.web_extract.specs.ConvertedFutures.{GivesConverted, converted_result}
+use Rattle.web_extract.specs.Extracts.{Possible}
 use Rattle.web_extract.specs.ListResults.{DelayedResult}
-use Rattle.web_decoders.specs.JsonBodies.{or_all_some}
-use Rattle.web_extract.specs.Refusals.{Handler, RefusedBy}
+use Rattle.web_extract.specs.Refusals.{Handler, RefusedBy, refused_some}
 
 -- a collector under way, and the request, where a handler may have to answer its refusal
 pub record HandledBody (B R : Type 0) : Type 0 where
@@ -28,13 +27,6 @@ IsKept None q kept = kept ≡ None
 IsKept {H} {L} {D} {C} (Some h) q kept =
     (r : Record L D C) × (kept ≡ Some r) × (r.request ≡ q)
 
--- It is not the case that nothing may be answered to a refusal.
-pub refused_some : {H E : Type 0} (refuses : Handler H E) (own : E → Fault)
-    (handler : Option H) (e : E) (head : Head)
-    → ((x : Fault) → RefusedBy refuses own handler e head x → ⊥) → ⊥
-refused_some refuses own None e head none = none (own e) refl
-refused_some refuses own (Some h) e head none = or_all_some (refuses h e head) (own e) none
-
 module _ {H E L D C : Type 0}
     (refuses : Handler H E) (own : E → Fault) (handler : List L → Option H) where
   -- the error of a refusal, by the handler that counts for the request that is kept; where none is
@@ -45,7 +37,7 @@ module _ {H E L D C : Type 0}
       RefusedBy refuses own (handler r.request.layers) e r.request.head x
 
   pub kept_some : (kept : Option (Record L D C)) (e : E)
-      → ((x : Fault) → KeptErrors kept e x → ⊥) → ⊥
+      → Possible (KeptErrors kept e)
   kept_some None e none = none (own e) refl
   kept_some (Some r) e none =
       refused_some refuses own (handler r.request.layers) e r.request.head none
@@ -55,13 +47,13 @@ module _ {T V E : Type 0} (value : T → V) (errors : E → Fault → Type 0) wh
   abbrev pub GivesHandled : (ℕ → Result T E → Type 0) → ℕ → Result V Fault → Type 0
   GivesHandled gives n x = GivesConverted (λ v w. w ≡ value v) errors gives n x
 
-  some_of : ((e : E) → ((x : Fault) → errors e x → ⊥) → ⊥)
+  some_of : ((e : E) → Possible (errors e))
       → (gives : ℕ → Result T E → Type 0) (n : ℕ) (y : Result T E) → gives n y
-      → ((k : ℕ) (x : Result V Fault) → GivesHandled gives k x → ⊥) → ⊥
+      → GivesSome (GivesHandled gives)
   some_of some gives n (Ok v) h none = none n (Ok (value v)) (Ok v, h, (value v, refl, refl))
   some_of some gives n (Err e) h none = some e (λ f k. none n (Err f) (Err e, h, (f, k, refl)))
 
-  pub handled_some : ((e : E) → ((x : Fault) → errors e x → ⊥) → ⊥)
+  pub handled_some : ((e : E) → Possible (errors e))
       → (gives : ℕ → Result T E → Type 0) → GivesSome gives → GivesSome (GivesHandled gives)
   handled_some some gives given none = given (λ n y h. some_of some gives n y h none)
 

@@ -1,6 +1,5 @@
 -- JSON values as arguments and as responses.
 use Rattle.std.specs.Prelude.{◌≡◌, ℕ, Bool, List, Option, Result, min, refl}
-use Rattle.std.specs.Option.{IfNone}
 use Rattle.http_header.specs.FieldValue.{FieldValue}
 use Rattle.http_header.specs.HeaderMap.{Entries}
 use Rattle.serde_json.specs.Data.{Data}
@@ -12,10 +11,8 @@ use Rattle.web_values.specs.declared.faults.ReadFault.{ReadFault}
 use Rattle.web_values.specs.DecodedJson.{JsonReader}
 use Rattle.web_body.specs.declared.json_error.JsonPayloadError.{JsonPayloadError}
 use Rattle.web_body.specs.declared.poll.Step.{Step}
-use Rattle.web_body.specs.PollSteps.{IfReady}
-use Rattle.web_decoders.specs.Decoding.{PollsDecoding}
 use Rattle.web_decoders.specs.DecoderSettings.{JsonSettings}
-use Rattle.web_decoders.specs.JsonBodies.{JsonAnswer, JsonBody, JsonCame, json_answer}
+use Rattle.web_decoders.specs.JsonBodies.{JsonAnswer, JsonBody, PollsJsonBody, json_answer}
 use Rattle.web_decoders.specs.JsonBodies.{json_answer_some}
 use Rattle.web_decoders.specs.JsonHeads.{head_under, json_head, json_refusal}
 use Rattle.web_decoders.specs.TypePredicates.{Predicate, ReadsType}
@@ -24,9 +21,9 @@ use Rattle.web_reply.specs.Replies.{Fault}
 use Rattle.web_extract.specs.Extracts.{AllowsSome}
 use Rattle.web_extract.specs.LayerConfigurations.{Configurations, json_settings}
 use Rattle.web_extract.specs.ListResults.{DelayedResult}
-use Rattle.web_extract.specs.Refusals.{Handler, RefusedBy, json_fault, refused_by}
+use Rattle.web_extract.specs.Refusals.{Handler, RefusedBy, json_fault, refused_by, refused_some}
 use Rattle.web_types.specs.HandledBodies.{GivesHandled, ReadsBody, handled_result, handled_some}
-use Rattle.web_types.specs.HandledBodies.{reads_some, refused_some, rest_where}
+use Rattle.web_types.specs.HandledBodies.{reads_some, rest_where}
 use Rattle.web_types.specs.declared.json_value.Json.{Json}
 
 abbrev pub json_of : {T : Type 0} → T → Json T
@@ -107,7 +104,5 @@ abbrev pub PollsJson : {S T : Type 0} → (S → Feed) → JsonReader T
     → (Step (Result T JsonPayloadError) → Type 0) → JsonBody S → JsonBody S → Type 0
 PollsJson {S} {T} feed reads holds old new =
     (s : Step (Result T JsonPayloadError))
-    × PollsDecoding feed (λ d. JsonAnswer reads d) old.decoding s new.decoding
-    × IfNone old.decoding.refusal
-    (IfReady s (λ x. JsonCame feed old.decoding.body x new.decoding.body))
+    × PollsJsonBody feed reads old s new
     × holds s

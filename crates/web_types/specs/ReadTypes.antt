@@ -9,6 +9,7 @@ use Rattle.web_request.specs.MessageFields.{mime_type_of}
 use Rattle.web_decoders.specs.JsonBodies.{or_all_some}
 use Rattle.web_decoders.specs.TypePredicates.{AllowsBy, AllowsOther, AllowsRead, Predicate}
 use Rattle.web_decoders.specs.TypePredicates.{ReadsType, is_json_type}
+use Rattle.web_extract.specs.Extracts.{Possible}
 
 -- where a media type is none of JSON, the predicate decides, if there is one
 abbrev pub allows_other : {P : Type 0} → (P → MediaType → Bool) → Option P → MediaType → Bool
@@ -31,25 +32,25 @@ reads_type allowed predicate true headers =
 
 -- It is not the case that neither answer is allowed.
 other_some : {P : Type 0} (allows : Predicate P) (predicate : Option P) (m : MediaType)
-    → ((b : Bool) → AllowsOther allows predicate m b → ⊥) → ⊥
+    → Possible (AllowsOther allows predicate m)
 other_some allows None m none = none false refl
 other_some allows (Some p) m none = or_all_some (allows p m) false none
 
 by_some : {P : Type 0} (allows : Predicate P) (predicate : Option P) (m : MediaType) (is : Bool)
-    → ((b : Bool) → AllowsBy allows predicate m is b → ⊥) → ⊥
+    → Possible (AllowsBy allows predicate m is)
 by_some allows predicate m true none = none true refl
 by_some allows predicate m false none = other_some allows predicate m none
 
 read_some : {P : Type 0} (allows : Predicate P) (predicate : Option P)
     (x : Result (Option MediaType) ContentTypeError)
-    → ((b : Bool) → AllowsRead allows predicate x b → ⊥) → ⊥
+    → Possible (AllowsRead allows predicate x)
 read_some allows predicate (Ok (Some m)) none = by_some allows predicate m (is_json_type m) none
 read_some allows predicate (Ok None) none = none false refl
 read_some allows predicate (Err e) none = none false refl
 
 pub reads_type_some : {P : Type 0} (allows : Predicate P) (predicate : Option P)
     (required : Bool) (headers : Entries FieldValue)
-    → ((b : Bool) → ReadsType allows predicate required headers b → ⊥) → ⊥
+    → Possible (ReadsType allows predicate required headers)
 reads_type_some allows predicate false headers none = none true refl
 reads_type_some allows predicate true headers none =
     read_some allows predicate (mime_type_of headers) none

@@ -1,5 +1,5 @@
 -- Arguments whose handlers, predicates and readers are functions.
-use Rattle.std.specs.Prelude.{◌≡◌, Bool, List, Result}
+use Rattle.std.specs.Prelude.{Bool, List, Result}
 use Rattle.serde_json.specs.Data.{Data}
 use Rattle.web_texts.specs.MediaTypes.{MediaType}
 use Rattle.web_texts.specs.declared.text.Pair.{Pair}
@@ -13,6 +13,7 @@ use Rattle.web_body.specs.declared.json_error.JsonPayloadError.{JsonPayloadError
 use Rattle.web_body.specs.declared.form_error.UrlencodedError.{UrlencodedError}
 use Rattle.web_decoders.specs.TypePredicates.{Predicate}
 use Rattle.web_reply.specs.Replies.{Fault}
+use Rattle.web_extract.specs.Extracts.{AllowsOnly}
 use Rattle.web_extract.specs.LayerConfigurations.{Configurations, form_settings, json_settings}
 use Rattle.web_extract.specs.ListMeanings.{Meaning}
 use Rattle.web_extract.specs.ListResults.{Exactly}
@@ -21,10 +22,6 @@ use Rattle.web_types.specs.FormArgument.{form_rest, form_result}
 use Rattle.web_types.specs.JsonArgument.{json_rest, json_result}
 use Rattle.web_types.specs.declared.form_value.Form.{Form}
 use Rattle.web_types.specs.declared.json_value.Json.{Json}
-
--- this is allowed, and nothing else
-abbrev pub AllowsOnly : {X : Type 0} → (X → Type 0) → X → Type 0
-AllowsOnly {X} allowed y = allowed y × ((x : X) → allowed x → x ≡ y)
 
 -- the handler allows what this function gives, and nothing else
 abbrev pub IsHandler : {H E : Type 0} → Handler H E → (H → E → Head → Fault) → Type 0

@@ -3,7 +3,7 @@ ghost use Rattle.std.specs.Prelude.{◌≡◌, ◌⊎◌, false, IfOk, min, opti
 ghost use Rattle.std.specs.Option.{unwrap_or};
 ghost use Rattle.web_body.specs.Payload.{payload_feed};
 ghost use Rattle.web_decoders.specs.DecoderSettings.{default_form_settings};
-ghost use Rattle.web_decoders.specs.FormBodies.{form_gives};
+ghost use Rattle.web_decoders.specs.FormBodies.{form_body_finished, form_gives};
 ghost use Rattle.web_extract.specs.Extracts.{Extracts};
 ghost use Rattle.web_types.specs.FormArgument.{MeansFormBody};
 
@@ -99,7 +99,7 @@ fn form_body<A: App, T: ReadPairs>(
     payload: &mut Payload<A::Source>,
     limit: usize,
 ) -> Result<UrlEncoded<T, A::Source>, NoMemory>
-    ensures fresh { IfOk result (λ b. b.decoding.is_finished ≡ false) }
+    ensures fresh { IfOk result (λ b. form_body_finished b ≡ false) }
     ensures extracts { IfOk result (λ b. Extracts
         (λ m rest n y. MeansFormBody limit T.reads_pairs req.now.request.head.headers m rest n y)
         (form_gives A.Source.feed T.reads_pairs b)

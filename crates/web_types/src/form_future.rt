@@ -54,9 +54,8 @@ where
 {
     ghost use Rattle.std.specs.Prelude.{◌≡◌, false};
     ghost use Rattle.web_body.specs.PollSteps.{Ends, IfReady, NeverNoMemory, Shifts};
-    ghost use Rattle.web_body.specs.Payload.{payload_feed};
-    ghost use Rattle.web_decoders.specs.Decoding.{decoding_some};
-    ghost use Rattle.web_decoders.specs.FormBodies.{FormAnswer, form_answer_some, form_gives};
+    ghost use Rattle.web_decoders.specs.FormBodies.{form_body_finished, form_body_marks};
+    ghost use Rattle.web_decoders.specs.FormBodies.{form_body_refusal, form_gives, form_gives_some};
     ghost use Rattle.web_extract.specs.Refusals.{form_fault};
     ghost use Rattle.web_types.specs.HandledBodies.{GivesHandled, HandledNeedsNoMemory};
     ghost use Rattle.web_types.specs.HandledBodies.{HandlesStep, KeptErrors};
@@ -65,15 +64,15 @@ where
 
     type Output = Result<Form<T>, Error>;
 
-    ghost is_finished = { λ f. f.body.decoding.is_finished };
+    ghost is_finished = { λ f. form_body_finished f.body };
 
     ghost gives = { λ f n x. GivesHandled form_of
         (KeptErrors A.Layer.OnForm.refuses form_fault
         (form_handler A.Layer.Configs.configurations) f.request)
         (form_gives A.Source.feed T.reads_pairs f.body) n x };
 
-    ghost needs_no_memory = { λ f. HandledNeedsNoMemory f.request f.body.decoding.refusal
-        (payload_feed A.Source.feed f.body.decoding.body.payload).marks };
+    ghost needs_no_memory = { λ f. HandledNeedsNoMemory f.request
+        (form_body_refusal f.body) (form_body_marks A.Source.feed f.body) };
 
     ghost some = { λ f h. handled_some form_of
         (KeptErrors A.Layer.OnForm.refuses form_fault
@@ -81,16 +80,15 @@ where
         (kept_some A.Layer.OnForm.refuses form_fault
         (form_handler A.Layer.Configs.configurations) f.request)
         (form_gives A.Source.feed T.reads_pairs f.body)
-        (decoding_some A.Source.feed (λ d. FormAnswer T.reads_pairs d)
-        (form_answer_some T.reads_pairs) f.body.decoding) };
+        (form_gives_some A.Source.feed T.reads_pairs f.body) };
 
     fn finished(&self) -> bool {
         self.body.finished()
     }
 
     fn poll(&mut self, alloc: Global) -> Step<Result<Form<T>, Error>>
-        requires unfinished { self.old.body.decoding.is_finished ≡ false }
-        ensures ends { Ends result self.new.body.decoding.is_finished }
+        requires unfinished { form_body_finished self.old.body ≡ false }
+        ensures ends { Ends result (form_body_finished self.new.body) }
         ensures value { IfReady result (GivesHandled form_of
             (KeptErrors A.Layer.OnForm.refuses form_fault
             (form_handler A.Layer.Configs.configurations) self.old.request)
@@ -102,8 +100,8 @@ where
             (GivesHandled form_of (KeptErrors A.Layer.OnForm.refuses form_fault
             (form_handler A.Layer.Configs.configurations) self.new.request)
             (form_gives A.Source.feed T.reads_pairs self.new.body)) }
-        ensures memory { HandledNeedsNoMemory self.old.request self.old.body.decoding.refusal
-            (payload_feed A.Source.feed self.old.body.decoding.body.payload).marks
+        ensures memory { HandledNeedsNoMemory self.old.request
+            (form_body_refusal self.old.body) (form_body_marks A.Source.feed self.old.body)
             → NeverNoMemory result }
         ensures request { self.new.request ≡ self.old.request }
         ensures polls { PollsForm A.Source.feed T.reads_pairs

@@ -3,7 +3,7 @@ ghost use Rattle.std.specs.Prelude.{◌≡◌, ◌⊎◌, false, IfOk, IfSome, m
 ghost use Rattle.std.specs.Option.{unwrap_or};
 ghost use Rattle.web_body.specs.Payload.{payload_feed};
 ghost use Rattle.web_decoders.specs.DecoderSettings.{default_json_settings};
-ghost use Rattle.web_decoders.specs.JsonBodies.{json_gives};
+ghost use Rattle.web_decoders.specs.JsonBodies.{json_body_finished, json_gives};
 ghost use Rattle.web_extract.specs.Extracts.{Extracts};
 ghost use Rattle.web_extract.specs.LayerConfigurations.{IsReady};
 ghost use Rattle.web_types.specs.JsonArgument.{MeansJsonBody};
@@ -101,7 +101,7 @@ fn json_body<A: App, T: ReadJson, H, P: AllowType>(
     limit: usize,
 ) -> Result<JsonBody<T, A::Source>, NoMemory>
     requires { IfSome config (λ c. IsReady P.ready c.now.predicate) }
-    ensures fresh { IfOk result (λ b. b.decoding.is_finished ≡ false) }
+    ensures fresh { IfOk result (λ b. json_body_finished b ≡ false) }
     ensures extracts { IfOk result (λ b. Extracts
         (λ m rest n y. MeansJsonBody
         (record (unwrap_or (option_copied config.entry) default_json_settings) { limit = limit })

@@ -54,9 +54,8 @@ where
 {
     ghost use Rattle.std.specs.Prelude.{◌≡◌, false};
     ghost use Rattle.web_body.specs.PollSteps.{Ends, IfReady, NeverNoMemory, Shifts};
-    ghost use Rattle.web_body.specs.Payload.{payload_feed};
-    ghost use Rattle.web_decoders.specs.Decoding.{decoding_some};
-    ghost use Rattle.web_decoders.specs.JsonBodies.{JsonAnswer, json_answer_some, json_gives};
+    ghost use Rattle.web_decoders.specs.JsonBodies.{json_body_finished, json_body_marks};
+    ghost use Rattle.web_decoders.specs.JsonBodies.{json_body_refusal, json_gives, json_gives_some};
     ghost use Rattle.web_extract.specs.Refusals.{json_fault};
     ghost use Rattle.web_types.specs.HandledBodies.{GivesHandled, HandledNeedsNoMemory};
     ghost use Rattle.web_types.specs.HandledBodies.{HandlesStep, KeptErrors};
@@ -65,15 +64,15 @@ where
 
     type Output = Result<Json<T>, Error>;
 
-    ghost is_finished = { λ f. f.body.decoding.is_finished };
+    ghost is_finished = { λ f. json_body_finished f.body };
 
     ghost gives = { λ f n x. GivesHandled json_of
         (KeptErrors A.Layer.OnJson.refuses json_fault
         (json_handler A.Layer.Configs.configurations) f.request)
         (json_gives A.Source.feed T.reads f.body) n x };
 
-    ghost needs_no_memory = { λ f. HandledNeedsNoMemory f.request f.body.decoding.refusal
-        (payload_feed A.Source.feed f.body.decoding.body.payload).marks };
+    ghost needs_no_memory = { λ f. HandledNeedsNoMemory f.request
+        (json_body_refusal f.body) (json_body_marks A.Source.feed f.body) };
 
     ghost some = { λ f h. handled_some json_of
         (KeptErrors A.Layer.OnJson.refuses json_fault
@@ -81,16 +80,15 @@ where
         (kept_some A.Layer.OnJson.refuses json_fault
         (json_handler A.Layer.Configs.configurations) f.request)
         (json_gives A.Source.feed T.reads f.body)
-        (decoding_some A.Source.feed (λ d. JsonAnswer T.reads d)
-        (json_answer_some T.reads) f.body.decoding) };
+        (json_gives_some A.Source.feed T.reads f.body) };
 
     fn finished(&self) -> bool {
         self.body.finished()
     }
 
     fn poll(&mut self, alloc: Global) -> Step<Result<Json<T>, Error>>
-        requires unfinished { self.old.body.decoding.is_finished ≡ false }
-        ensures ends { Ends result self.new.body.decoding.is_finished }
+        requires unfinished { json_body_finished self.old.body ≡ false }
+        ensures ends { Ends result (json_body_finished self.new.body) }
         ensures value { IfReady result (GivesHandled json_of
             (KeptErrors A.Layer.OnJson.refuses json_fault
             (json_handler A.Layer.Configs.configurations) self.old.request)
@@ -102,8 +100,8 @@ where
             (GivesHandled json_of (KeptErrors A.Layer.OnJson.refuses json_fault
             (json_handler A.Layer.Configs.configurations) self.new.request)
             (json_gives A.Source.feed T.reads self.new.body)) }
-        ensures memory { HandledNeedsNoMemory self.old.request self.old.body.decoding.refusal
-            (payload_feed A.Source.feed self.old.body.decoding.body.payload).marks
+        ensures memory { HandledNeedsNoMemory self.old.request
+            (json_body_refusal self.old.body) (json_body_marks A.Source.feed self.old.body)
             → NeverNoMemory result }
         ensures request { self.new.request ≡ self.old.request }
         ensures polls { PollsJson A.Source.feed T.reads

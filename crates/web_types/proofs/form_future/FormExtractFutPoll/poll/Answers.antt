@@ -25,4 +25,4 @@ returns-clause-shift g c =
 pub returns-clause-polls : goal.returns-clause-polls
 returns-clause-polls g c =
     rw (← c.self.view_is)
-    (c.poll-step.result, c.poll-step.ensures.polled, c.poll-step.ensures.came, c.handle_step.ensures.handles)
+    (c.poll-step.result, (c.poll-step.ensures.polled, c.poll-step.ensures.came), c.handle_step.ensures.handles)
