@@ -6,18 +6,29 @@ use bytes::Bytes;
 use http::StatusCode;
 use http_header::{CONTENT_TYPE, HeaderValue};
 use std::alloc::Global;
+use std::marker::Model;
 use web_reply::{HttpResponse, Responder, WholeBody};
 use web_request::{App, HttpRequest};
 use web_texts::{Duplicate, NoMemory, Text};
 
-/// A page in HTML: 200 with `text/html; charset=utf-8`.
+/// A page in HTML: 200 with `text/html; charset=utf-8`. Contracts see its text.
 #[derive(Debug, Drop, PartialEq, Eq, Hash)]
 pub struct Html(Text);
+
+impl Model for Html {
+    ghost use Rattle.std.specs.Prelude.{List, ℕ};
+
+    ghost Value = { List ℕ };
+
+    ghost view = { λ page. page.0 };
+
+    ghost inverse = { λ text. record { 0 = text } };
+}
 
 impl Html {
     /// The page of this text.
     pub fn new(html: Text) -> Html
-        ensures { result.0 ≡ html }
+        ensures { result ≡ html }
     {
         Html(html)
     }
@@ -38,7 +49,7 @@ impl<A: App> Responder<A> for Html {
 
     type Body = WholeBody;
 
-    ghost responds = { λ v q r. r ≡ plain_reply whole_plain (html_reply v.0) };
+    ghost responds = { λ v q r. r ≡ plain_reply whole_plain (html_reply v) };
 
     fn respond_to(
         self,
