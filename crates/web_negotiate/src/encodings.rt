@@ -16,7 +16,7 @@ use web_texts::{Duplicate, NoMemory, QualityItem};
 /// An item of Accept-Encoding.
 type Coding = QualityItem<Preference<Encoding>>;
 
-fn coding_class(coding: &Preference<Encoding>) -> u32
+fn coding_class(coding: &Preference<Encoding>) -> u64
     ensures { result ≡ spec.coding_class coding.now }
 {
     match coding {
@@ -29,10 +29,10 @@ fn coding_class(coding: &Preference<Encoding>) -> u32
     }
 }
 
-fn coding_rank(item: &Coding) -> u32
+fn coding_rank(item: &Coding) -> u64
     ensures { result ≡ spec.coding_rank item.now }
 {
-    match u32::from(item.quality.thousandths()) {
+    match u64::from(item.quality.thousandths()) {
         0 => 0,
         quality => quality * 8 + coding_class(&item.item),
     }
@@ -45,7 +45,7 @@ struct ByCoding;
 impl Ranking<Coding> for ByCoding {
     ghost ranks = { λ ranking. spec.coding_rank };
 
-    fn rank(&self, item: &Coding) -> u32 {
+    fn rank(&self, item: &Coding) -> u64 {
         coding_rank(item)
     }
 }
@@ -65,7 +65,7 @@ fn is_supported(supported: &[Encoding], encoding: &Encoding) -> bool
 impl<'a> Ranking<Coding> for AmongSupported<'a> {
     ghost ranks = { λ ranking. spec.supported_rank ranking.supported.now };
 
-    fn rank(&self, item: &Coding) -> u32 {
+    fn rank(&self, item: &Coding) -> u64 {
         match &item.item {
             Preference::Specific(e) if is_supported(self.supported, e) => coding_rank(item),
             _ => 0,

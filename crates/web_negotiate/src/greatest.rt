@@ -4,7 +4,9 @@ ghost use Rattle.web_negotiate.specs.Rankings.{IsFirstGreatest, IsGreatest};
 
 use crate::rankings::Ranking;
 
-fn place_of_greatest<T, R: Ranking<T>>(ranking: &R, items: &[T]) -> Option<usize>
+/// The place of the first item of the greatest rank above zero; `None` where every rank is zero, as
+/// of no items. The items are gone through once, and each is ranked once.
+pub fn place_of_greatest<T, R: Ranking<T>>(ranking: &R, items: &[T]) -> Option<usize>
     ensures { IsFirstGreatest (R.ranks ranking.now) items.now result }
 {
     let mut best = None;

@@ -10,4 +10,6 @@ mod media_types;
 pub mod prelude;
 mod rankings;
 
+pub use greatest::place_of_greatest;
 pub use laws::ranking_law;
+pub use rankings::Ranking;

@@ -16,7 +16,7 @@ use web_texts::{Duplicate, Fail, Mime, MimeFault, NoMemory, QualityItem, STAR_ST
 #[derive(Clone, Copy)]
 struct BySpecificity;
 
-fn media_class(mime: &Mime) -> u32
+fn media_class(mime: &Mime) -> u64
     ensures { result ≡ class_of mime.now }
 {
     if mime.type_() == "*" {
@@ -33,8 +33,8 @@ impl Ranking<QualityItem<Mime>> for BySpecificity {
 
     ghost ranks = { λ ranking. media_rank };
 
-    fn rank(&self, item: &QualityItem<Mime>) -> u32 {
-        u32::from(item.quality.thousandths()) * 4 + media_class(&item.item)
+    fn rank(&self, item: &QualityItem<Mime>) -> u64 {
+        u64::from(item.quality.thousandths()) * 4 + media_class(&item.item)
     }
 }
 

@@ -6,11 +6,13 @@ use std::alloc::Global;
 use std::cmp::Reverse;
 use web_texts::{Duplicate, Items, NoMemory, QualityItem};
 
-/// A way to rank items: a greater one stands before a lesser.
+/// A way to rank items: a greater one stands before a lesser. Contracts see it as the function from
+/// an item to its rank.
 pub trait Ranking<T> {
     ghost ranks: { Self → T → ℕ };
 
-    fn rank(&self, item: &T) -> u32
+    /// The rank of this item. An item of rank zero is never chosen.
+    fn rank(&self, item: &T) -> u64
         ensures { result ≡ ranks self.now item.now };
 }
 
@@ -23,8 +25,8 @@ impl<T> Ranking<QualityItem<T>> for ByQuality {
 
     ghost ranks = { λ ranking. quality_rank };
 
-    fn rank(&self, item: &QualityItem<T>) -> u32 {
-        u32::from(item.quality.thousandths())
+    fn rank(&self, item: &QualityItem<T>) -> u64 {
+        u64::from(item.quality.thousandths())
     }
 }
 
