@@ -15,10 +15,11 @@ const PIECE_LIMIT: usize = 8_192;
 
 /// A body that a reader gives, as a socket, a file or a pipe, in pieces of at most 8,192 bytes.
 ///
-/// Each turn is one call of the reader. `Ok(0)` is the end of the body, and an error is a fault, also
-/// one of a read that was interrupted. A source has a budget of turns: where none is left before the
-/// end came, it fails too, so that a body that was cut short is never taken as whole. Each piece is
-/// copied into memory of its own, and `NoMemory` comes where there is none for it. It never stalls.
+/// Each turn is one call of the reader. `Ok(0)` is the end of the body, and an error is a fault,
+/// also that of a read which was interrupted. A source has a budget of turns: where none is left
+/// before the end came, it fails too, so a body that was cut short is never taken as whole. Each
+/// piece is copied into memory of its own; `NoMemory` comes where there is none for it. It never
+/// stalls.
 ///
 /// Contracts know nothing of the bytes that a reader will give, so the marks are not stated. The
 /// count of faults stops at the greatest `u64`.
@@ -66,8 +67,8 @@ impl<R: Read + Drop> ReadSource<R> {
         }
     }
 
-    /// The next result of the body, as `Source::next` gives it: one call of the reader, where a turn
-    /// is left and the body is not over. Where no turn is left, it is a fault.
+    /// The next result of the body, as `Source::next` gives it: one call of the reader, where a
+    /// turn is left and the body is not over. Where no turn is left, it is a fault.
     pub fn read_next(&mut self) -> Turn
         ensures next { Next result self.old self.new }
         ensures given { self.new.given ≡ self.old.given + bytes_given result }
