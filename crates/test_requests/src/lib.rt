@@ -46,6 +46,8 @@ mod messages;
 #[cfg(test)]
 mod origin_arguments;
 #[cfg(test)]
+mod readers;
+#[cfg(test)]
 mod records;
 #[cfg(test)]
 mod request_cookies;
