@@ -6,6 +6,7 @@ import re
 import repository
 
 LINK = re.compile(r"\]\((?!\w+:)(?P<target>[^)\s]+)\)")
+CODE = re.compile(r"`([^`]+)`")
 HEADING = re.compile(r"^#+ (?P<text>.*?)\s*$")
 FENCE = re.compile(r"^(?P<ticks>```+)(?P<kind>\w*)\s*$")
 COMMENT = re.compile(r"^<!-- (?:from (?P<path>\S+)|crate:?(?P<uses>[\w ]*)) -->$")
@@ -62,6 +63,30 @@ def links(page):
     for number, line in prose(page):
         for link in LINK.finditer(line):
             yield number, link["target"]
+
+
+def codes(page):
+    """Each piece of code within the prose of a page, with the number of its line."""
+    for number, line in prose(page):
+        for code in CODE.findall(line):
+            yield number, code
+
+
+def first_cells(page, heads):
+    """The names that the codes in first cells of tables begin with, of tables whose first head is one of these."""
+    head = None
+    for number, line in prose(page):
+        if not line.startswith("|"):
+            head = None
+            continue
+        cell = line.split("|")[1].strip()
+        if head is None:
+            head = cell
+        elif head in heads:
+            for code in CODE.findall(cell):
+                name = re.match(r"\w+(?:\.\.)?", code)
+                if name:
+                    yield number, name[0]
 
 
 def headings(page):
