@@ -5,6 +5,9 @@ import re
 
 import repository
 
+LINK = re.compile(r"\]\((?!\w+:)(?P<target>[^)\s]+)\)")
+CODE = re.compile(r"`([^`]+)`")
+HEADING = re.compile(r"^#+ (?P<text>.*?)\s*$")
 FENCE = re.compile(r"^(?P<ticks>```+)(?P<kind>\w*)\s*$")
 COMMENT = re.compile(r"^<!-- (?:from (?P<path>\S+)|crate:?(?P<uses>[\w ]*)) -->$")
 
@@ -40,6 +43,56 @@ def block_of(number, kind, has_end, said, lines):
     source = said["path"] if said else None
     uses = said["uses"].split() if said and said["uses"] is not None else None
     return Block(number, kind, has_end, source, uses, lines)
+
+
+def prose(page):
+    """The lines of a page outside of its blocks, with their numbers."""
+    within = None
+    for number, line in enumerate(lines_of(page), 1):
+        fence = FENCE.match(line)
+        if within is None and fence:
+            within = fence["ticks"]
+        elif within is None:
+            yield number, line
+        elif line.rstrip() == within:
+            within = None
+
+
+def links(page):
+    """The target of each link of a page but those to other sites, with the number of its line."""
+    for number, line in prose(page):
+        for link in LINK.finditer(line):
+            yield number, link["target"]
+
+
+def codes(page):
+    """Each piece of code within the prose of a page, with the number of its line."""
+    for number, line in prose(page):
+        for code in CODE.findall(line):
+            yield number, code
+
+
+def first_cells(page, heads):
+    """The names that the codes in first cells of tables begin with, of tables whose first head is one of these."""
+    head = None
+    for number, line in prose(page):
+        if not line.startswith("|"):
+            head = None
+            continue
+        cell = line.split("|")[1].strip()
+        if head is None:
+            head = cell
+        elif head in heads:
+            for code in CODE.findall(cell):
+                name = re.match(r"\w+(?:\.\.)?", code)
+                if name:
+                    yield number, name[0]
+
+
+def headings(page):
+    """The names by which links lead to the headings of a page."""
+    found = (HEADING.match(line) for _, line in prose(page))
+    return {re.sub(r"[^\w\- ]", "", it["text"].lower()).replace(" ", "-") for it in found if it}
 
 
 def documents():
