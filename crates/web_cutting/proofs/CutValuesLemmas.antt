@@ -19,7 +19,8 @@ use Rattle.web_decoders.specs.JsonBodies.{JsonAnswer}
 use Rattle.web_decoders.specs.TypePredicates.{Predicate}
 use Rattle.web_reply.specs.Replies.{Fault}
 use Rattle.web_extract.specs.Refusals.{Handler}
-use Rattle.web_types.specs.EitherArgument.{ArgumentMeaning, EitherResult, MeansEither}
+use Rattle.web_extract.specs.ListMeanings.{ArgumentMeaning}
+use Rattle.web_types.specs.EitherArgument.{EitherResult, MeansEither}
 use Rattle.web_types.specs.FormArgument.{MeansForm, form_rest}
 use Rattle.web_types.specs.HandledBodies.{rest_where}
 use Rattle.web_types.specs.JsonArgument.{MeansJson, json_head_refusal}

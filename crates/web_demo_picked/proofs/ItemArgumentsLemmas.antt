@@ -10,6 +10,7 @@ use Rattle.web_reply.specs.Replies.{Fault}
 use Rattle.web_extract.specs.CollectedResults.{map_value}
 use Rattle.web_extract.specs.Refusals.{path_fault, query_fault, refused_by}
 use Rattle.web_extract.specs.SomeAnswer.{itself}
+use Rattle.web_extract.specs.ListMeanings.{Member}
 use Rattle.web_types.specs.EitherLaw.{Only, OnlyOf}
 use Rattle.web_types.specs.TypeFunctions.{IsHandler, IsPairReader, IsPredicate, IsReader}
 use Rattle.web_types.specs.declared.either.Either.{Either}
@@ -27,7 +28,6 @@ use Rattle.web_demo_layers.specs.Teapots.{form_teapot, is_vendor_type, json_teap
 use Rattle.web_demo_layers.specs.Teapots.{path_teapot, query_teapot}
 use Rattle.web_demo_layers.specs.declared.item.Item.{Item}
 use Rattle.web_demo_layers.specs.declared.teapot.Teapot.{Teapot}
-use Rattle.web_demo_picked.specs.ArgumentMeanings.{InList}
 use Rattle.web_demo_picked.specs.Picking.{By, ByEither, same_fault}
 use Rattle.web_demo_picked.specs.BodyArguments.{MeansBody, body_rest, body_result}
 use Rattle.web_demo_layers.specs.DemoRequests.{DemoRequest}
@@ -94,14 +94,14 @@ body_only : (q : DemoRequest) (m left : List Mark) → Only (MeansBody q m left)
 body_only q m left n x h = (h.1, h.2)
 
 json_only : (q : DemoRequest)
-    → OnlyOf (InList (By same_fault) (MeansJsonItem q)) (json_item_result q)
+    → OnlyOf (Member (By same_fault) (MeansJsonItem q)) (json_item_result q)
 json_only q m left n x h =
     let is = listed_seen (λ v. v) (By same_fault) same_fault (λ e f k. k) (MeansJsonItem q)
     (json_item_rest q) (json_item_result q) (json_seen q) m left n x h in
     (is.1, sym (same_value x) ∙ is.2)
 
 form_only : (q : DemoRequest)
-    → OnlyOf (InList (By same_fault) (MeansFormItem q)) (form_item_result q)
+    → OnlyOf (Member (By same_fault) (MeansFormItem q)) (form_item_result q)
 form_only q m left n x h =
     let is = listed_seen (λ v. v) (By same_fault) same_fault (λ e f k. k) (MeansFormItem q)
     (form_item_rest q) (form_item_result q) (form_seen q) m left n x h in
@@ -110,12 +110,12 @@ form_only q m left n x h =
 -- the marks that are left are those that the buffering leaves
 either_left : (q : DemoRequest) (m left : List Mark) (n : ℕ)
     (x : Result (Either (Json Item) (Form Item)) Fault)
-    → InList ByEither (MeansEitherItem q) m left n x → left ≡ body_rest q m
+    → Member ByEither (MeansEitherItem q) m left n x → left ≡ body_rest q m
 either_left q m left n (Ok v) h = h.3.0
 either_left q m left n (Err f) h = h.1.3.0
 
 pub either_seen : (q : DemoRequest)
-    → Seen (λ v. v) (InList ByEither (MeansEitherItem q)) (body_rest q) (either_item_result q)
+    → Seen (λ v. v) (Member ByEither (MeansEitherItem q)) (body_rest q) (either_item_result q)
 either_seen q m left n x h =
     let is = either_decides (MeansBody q) (By same_fault) (MeansJsonItem q) (By same_fault)
     (MeansFormItem q) itself itself m left (body_result q m) (json_item_result q)

@@ -21,7 +21,7 @@ use Rattle.web_extract.specs.CollectedResults.{map_value}
 use Rattle.web_extract.specs.ConvertedFutures.{ConvertsResult, GivesConverted, converted_result}
 use Rattle.web_extract.specs.Extracts.{Extracts}
 use Rattle.web_extract.specs.HeadArguments.{IsRequest, immediate as at_once, seen_request}
-use Rattle.web_extract.specs.ListMeanings.{Meaning}
+use Rattle.web_extract.specs.ListMeanings.{ArgumentMeaning, Meaning, Member}
 use Rattle.web_extract.specs.ListResults.{DelayedResult}
 use Rattle.web_extract.specs.OptionArgument.{GivesOption, as_option}
 use Rattle.web_extract.specs.PayloadArgument.{payload_result, seen_payload}
@@ -40,10 +40,9 @@ use Rattle.web_demo_arguments.specs.Choices.{choice_of}
 use Rattle.web_demo_arguments.specs.DemoArguments.{raw_view, seen_data}
 use Rattle.web_demo_layers.specs.DemoRequests.{DemoRequest}
 use Rattle.web_demo_arguments.specs.LateAndWait.{MeansLate, MeansWait}
-use Rattle.web_demo_picked.specs.BodyArguments.{Alone, MeansBody, MeansRaw, MeansText, body_rest, body_result}
+use Rattle.web_demo_picked.specs.BodyArguments.{MeansBody, MeansRaw, MeansText, body_rest, body_result}
 use Rattle.web_demo_picked.specs.BodyArguments.{MeansCapped, capped_rest, capped_result, capped_settings_of}
 use Rattle.web_demo_picked.specs.BodyArguments.{text_rest, text_result}
-use Rattle.web_demo_picked.specs.ArgumentMeanings.{InList}
 use Rattle.web_demo_picked.specs.ArgumentMeanings.{MeansAccept, accept_result, header_or_fault}
 use Rattle.web_demo_picked.specs.ArgumentMeanings.{MeansBoth, both_result, delayed_late}
 use Rattle.web_demo_picked.specs.ArgumentMeanings.{MeansData, MeansLocal, MeansNumber, MeansRequest}
@@ -193,20 +192,20 @@ result_seen q m left n x h =
 by_only : {E : Type 0} (error : E → Fault) (e : E) (f : Fault) → By error e f → f ≡ error e
 by_only error e f h = h
 
-listed : {T E V : Type 0} (f : T → V) (error : E → Fault) (means : Alone T E) (rest : List Mark → List Mark) (a : List Mark → DelayedResult V)
-    → SeenAlone f error means rest a → Seen f (InList (By error) means) rest a
+listed : {T E V : Type 0} (f : T → V) (error : E → Fault) (means : ArgumentMeaning T E) (rest : List Mark → List Mark) (a : List Mark → DelayedResult V)
+    → SeenAlone f error means rest a → Seen f (Member (By error) means) rest a
 listed f error means rest a seen = listed_seen f (By error) error (by_only error) means rest a seen
 
 both_seen : (q : DemoRequest) → Seen (λ v. (string_bytes v.0, v.1)) (MeansBoth q) (text_rest q) (both_result q)
 both_seen q =
-    pair_seen string_bytes (λ v. v) (InList (By same_fault) (MeansText q)) (InList (By same_fault) (MeansLate q.params))
+    pair_seen string_bytes (λ v. v) (Member (By same_fault) (MeansText q)) (Member (By same_fault) (MeansLate q.params))
     (text_rest q) (λ m. m) (text_result q) (λ m. delayed_late q.params)
     (listed string_bytes same_fault (MeansText q) (text_rest q) (text_result q) (text_seen q))
     (listed (λ v. v) same_fault (MeansLate q.params) (λ m. m) (λ m. delayed_late q.params) (late_seen q))
 
 optional_seen : (q : DemoRequest) → Seen (λ v. (v.0, v.1)) (MeansOptional q) (λ m. body_rest q (json_item_rest q m)) (optional_result q)
 optional_seen q =
-    pair_seen (λ v. v) (λ v. v) (InList (By never_fault) (λ m rest. GivesOption (MeansJsonItem q m rest))) (InList (By same_fault) (MeansBody q))
+    pair_seen (λ v. v) (λ v. v) (Member (By never_fault) (λ m rest. GivesOption (MeansJsonItem q m rest))) (Member (By same_fault) (MeansBody q))
     (json_item_rest q) (body_rest q) (λ m. without_refusal (json_item_result q m)) (body_result q)
     (listed (λ v. v) never_fault (λ m rest. GivesOption (MeansJsonItem q m rest)) (json_item_rest q) (λ m. without_refusal (json_item_result q m)) (option_seen q))
     (listed (λ v. v) same_fault (MeansBody q) (body_rest q) (body_result q) (body_seen q))
@@ -214,29 +213,29 @@ optional_seen q =
 data_seen : (q : DemoRequest) → Seen (λ v. (v.0, v.1, v.2.request)) (MeansData q) (λ m. m) (λ m. numbers_result q)
 data_seen q =
     three_seen (λ v. v) (λ v. v) (λ r. r.request)
-    (InList (By same_fault) (MeansNumber q)) (InList (By same_fault) (MeansLocal q)) (InList (By same_fault) (MeansRequest q))
+    (Member (By same_fault) (MeansNumber q)) (Member (By same_fault) (MeansLocal q)) (Member (By same_fault) (MeansRequest q))
     (λ m. m) (λ m. m) (λ m. m) (λ m. number_result q) (λ m. local_result q) (λ m. at_once (Ok q))
     (listed (λ v. v) same_fault (MeansNumber q) (λ m. m) (λ m. number_result q) (number_seen q))
     (listed (λ v. v) same_fault (MeansLocal q) (λ m. m) (λ m. local_result q) (local_seen q))
     (listed (λ r. r.request) same_fault (MeansRequest q) (λ m. m) (λ m. at_once (Ok q)) (request_seen q))
 
 -- what is picked of an argument that is seen by a function
-module _ {T E V : Type 0} (f : T → V) (converts : E → Fault → Type 0) (value : V → Picked) (means : Alone T E)
+module _ {T E V : Type 0} (f : T → V) (converts : E → Fault → Type 0) (value : V → Picked) (means : ArgumentMeaning T E)
     (rest : List Mark → List Mark) (a : List Mark → DelayedResult V) where
   as_listed : (m left : List Mark) (n : ℕ) (y : Result T E) (x : Result Picked Fault) → means m left n y
       → ConvertsResult (λ v w. w ≡ value (f v)) converts y x
-      → (z : Result T Fault) × InList converts means m left n z × (x ≡ map_value value (map_value f z))
+      → (z : Result T Fault) × Member converts means m left n z × (x ≡ map_value value (map_value f z))
   as_listed m left n (Ok v) x h c = (Ok v, h, c.2 ∙ ap Ok c.1)
   as_listed m left n (Err e) x h c = (Err c.0, (e, h, c.1), c.2)
 
-  pick_listed : Seen f (InList converts means) rest a → (m left : List Mark)
+  pick_listed : Seen f (Member converts means) rest a → (m left : List Mark)
       → GivesOnly (λ n x. Picks (λ v. value (f v)) converts means m left n x) (a m).delay (map_value value (a m).result)
   pick_listed seen m left n x h =
       let z = as_listed m left n h.0 x h.1 h.2 in
       let once = seen m left n z.0 z.1 in
       (once.1, z.2 ∙ ap (map_value value) once.2)
 
-pick : {T E V : Type 0} (f : T → V) (error : E → Fault) (value : V → Picked) (means : Alone T E)
+pick : {T E V : Type 0} (f : T → V) (error : E → Fault) (value : V → Picked) (means : ArgumentMeaning T E)
     (rest : List Mark → List Mark) (a : List Mark → DelayedResult V) → SeenAlone f error means rest a → (m left : List Mark)
     → GivesOnly (λ n x. Picks (λ v. value (f v)) (By error) means m left n x) (a m).delay (map_value value (a m).result)
 pick f error value means rest a seen = pick_listed f (By error) value means rest a (listed f error means rest a seen)
@@ -290,7 +289,7 @@ pub extracts_chosen : {C : Type 0} (means : C → Meaning Picked) (made chosen :
 extracts_chosen means made chosen gives old new e h = rw e h
 
 -- of a value that is there, what is picked of it
-pub extracts_now : {T E : Type 0} (value : T → Picked) (converts : E → Fault → Type 0) (means : Alone T E)
+pub extracts_now : {T E : Type 0} (value : T → Picked) (converts : E → Fault → Type 0) (means : ArgumentMeaning T E)
     (gives : ℕ → Result T E → Type 0) (now : ℕ → Result Picked Fault → Type 0) (old new : Option (List Mark))
     → ((n : ℕ) (x : Result Picked Fault) → now n x → GivesConverted (λ v w. w ≡ value v) converts gives n x)
     → Extracts means gives old new → Extracts (λ m rest n x. Picks value converts means m rest n x) now old new

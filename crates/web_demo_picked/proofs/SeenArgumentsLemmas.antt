@@ -9,12 +9,10 @@ use Rattle.web_extract.specs.CollectedResults.{collected2, map_value}
 use Rattle.web_extract.specs.ConvertedFutures.{ConvertsResult, GivesConvertedBy, converted_result}
 use Rattle.web_extract.specs.ListResults.{DelayedResult, Exactly, list2, list3, with_value}
 use Rattle.web_extract.specs.declared.capped_argument.Capped.{Capped}
-use Rattle.web_extract.specs.ListMeanings.{Meaning, Means2, Means3}
+use Rattle.web_extract.specs.ListMeanings.{ArgumentMeaning, Meaning, Means2, Means3, Member}
 use Rattle.web_extract.proofs.ConvertedFuturesLemmas.{GivesOnly}
 use Rattle.web_extract.proofs.HandedMarksLemmas.{decides2, decides3}
-use Rattle.web_demo_picked.specs.ArgumentMeanings.{InList}
 use Rattle.web_demo_picked.specs.Picking.{same_fault}
-use Rattle.web_demo_picked.specs.BodyArguments.{Alone}
 
 -- Of each list of marks the argument leaves these, and its result, seen by f, is this one.
 abbrev pub Seen : {T V : Type 0} → (T → V) → Meaning T → (List Mark → List Mark)
@@ -25,7 +23,7 @@ Seen {T} f means rest a =
 
 -- the same of an argument with an error of its own
 abbrev pub SeenAlone : {T E V : Type 0} → (T → V) → (E → Fault)
-    → Alone T E → (List Mark → List Mark) → (List Mark → DelayedResult V) → Type 0
+    → ArgumentMeaning T E → (List Mark → List Mark) → (List Mark → DelayedResult V) → Type 0
 SeenAlone {T} {E} f error means rest a =
     (m left : List Mark) (n : ℕ) (y : Result T E) → means m left n y
     → (left ≡ rest m) × (n ≡ (a m).delay) × (converted_result f error y ≡ (a m).result)
@@ -40,7 +38,7 @@ wrapped_value (Ok v) = refl
 wrapped_value (Err e) = refl
 
 -- an argument under a limit of its own
-pub capped_alone : {T : Type 0} (cap : ℕ) (means : Alone T Fault) (rest : List Mark → List Mark) (a : List Mark → DelayedResult T)
+pub capped_alone : {T : Type 0} (cap : ℕ) (means : ArgumentMeaning T Fault) (rest : List Mark → List Mark) (a : List Mark → DelayedResult T)
     → SeenAlone (λ v. v) same_fault means rest a
     → SeenAlone {T = Capped T cap} (λ v. v) same_fault (λ m left. GivesCapped (means m left)) rest (λ m. with_value as_capped (a m))
 capped_alone cap means rest a seen m left n x h =
@@ -58,8 +56,8 @@ exactly rest a m left n y = (λ h. h, λ h. h)
 -- an argument as a place of a list, whose refusals convert as a function says
 pub listed_seen : {T E V : Type 0} (f : T → V) (converts : E → Fault → Type 0) (error : E → Fault)
     → ((e : E) (x : Fault) → converts e x → x ≡ error e)
-    → (means : Alone T E) (rest : List Mark → List Mark) (a : List Mark → DelayedResult V)
-    → SeenAlone f error means rest a → Seen f (InList converts means) rest a
+    → (means : ArgumentMeaning T E) (rest : List Mark → List Mark) (a : List Mark → DelayedResult V)
+    → SeenAlone f error means rest a → Seen f (Member converts means) rest a
 listed_seen f converts error only means rest a seen m left n (Ok v) h = seen m left n (Ok v) h
 listed_seen f converts error only means rest a seen m left n (Err e) h =
     rw (only h.0 e h.2) (seen m left n (Err h.0) h.1)

@@ -20,7 +20,7 @@ use Rattle.web_extract.specs.DataArguments.{data_result, request_data_result}
 use Rattle.web_extract.specs.Extracts.{AllowsSome}
 use Rattle.web_extract.specs.HeadArguments.{AllowsNow, IsRequest, MeansNow, immediate, now_some}
 use Rattle.web_extract.specs.HeadArguments.{request_some}
-use Rattle.web_extract.specs.ListMeanings.{Meaning, Means2, Means3, Member}
+use Rattle.web_extract.specs.ListMeanings.{ArgumentMeaning, Meaning, Means2, Means3, Member}
 use Rattle.web_extract.specs.ListResults.{DelayedResult, list2, list3}
 use Rattle.web_extract.specs.OptionArgument.{GivesOption, means_option_some}
 use Rattle.web_extract.specs.ResultArgument.{GivesResult, means_result_some}
@@ -33,7 +33,7 @@ use Rattle.web_demo_layers.specs.declared.app.DemoConn.{DemoConn}
 use Rattle.web_demo_layers.specs.declared.app.DemoLocal.{DemoLocal}
 use Rattle.web_demo_layers.specs.declared.item.Item.{Item}
 use Rattle.web_demo_layers.specs.declared.layer.DemoLayer.{DemoLayer}
-use Rattle.web_demo_picked.specs.BodyArguments.{Alone, MeansBody, MeansText, body_result, body_some}
+use Rattle.web_demo_picked.specs.BodyArguments.{MeansBody, MeansText, body_result, body_some}
 use Rattle.web_demo_picked.specs.BodyArguments.{text_result, text_some}
 use Rattle.web_demo_layers.specs.DemoRequests.{DemoRequest}
 use Rattle.web_demo_picked.specs.ItemArguments.{MeansJsonItem, json_item_rest, json_item_result}
@@ -42,14 +42,10 @@ use Rattle.web_demo_picked.specs.Picking.{By, converted_by, never_fault, same_fa
 use Rattle.web_demo_arguments.specs.LateAndWait.{MeansLate, delay_in, late_result, late_some}
 use Rattle.web_demo_arguments.specs.declared.late.Late.{Late}
 
--- an argument as a place of a list
-abbrev pub InList : {T E : Type 0} → (E → Fault → Type 0) → Alone T E → Meaning T
-InList converts means = Member converts means
-
 module _ {T E : Type 0} (converts : E → Fault → Type 0)
-    (converted : (e : E) → (f : Fault) × converts e f) (means : Alone T E)
+    (converted : (e : E) → (f : Fault) × converts e f) (means : ArgumentMeaning T E)
     (some : (m : List Mark) → AllowsSome (means m)) where
-  pub in_list_some : (m : List Mark) → AllowsSome (InList converts means m)
+  pub in_list_some : (m : List Mark) → AllowsSome (Member converts means m)
   in_list_some = member_some converts converted means some
 
 -- the header Accept
@@ -58,7 +54,7 @@ abbrev pub SaysAccept : DemoRequest → Option Accept → Type 0
 SaysAccept q said =
     option_map (λ header. header.0) said ≡ accept_of (request_values (codes "accept") q)
 
-abbrev pub MeansAccept : DemoRequest → Alone (Header Accept) ParseError
+abbrev pub MeansAccept : DemoRequest → ArgumentMeaning (Header Accept) ParseError
 MeansAccept q = MeansHeader (SaysAccept q)
 
 pub accept_some : (q : DemoRequest) (m : List Mark) → AllowsSome (MeansAccept q m)
@@ -78,11 +74,11 @@ delayed_late params = record { delay = delay_in params; result = late_result par
 
 abbrev pub MeansBoth : DemoRequest → Meaning (String Global × Late)
 MeansBoth q =
-    Means2 (InList (By same_fault) (MeansText q)) (InList (By same_fault) (MeansLate q.params))
+    Means2 (Member (By same_fault) (MeansText q)) (Member (By same_fault) (MeansLate q.params))
 
 pub both_some : (q : DemoRequest) (m : List Mark) → AllowsSome (MeansBoth q m)
 both_some q =
-    means2_some (InList (By same_fault) (MeansText q)) (InList (By same_fault) (MeansLate q.params))
+    means2_some (Member (By same_fault) (MeansText q)) (Member (By same_fault) (MeansLate q.params))
     (in_list_some (By same_fault) (converted_by same_fault) (MeansText q) (text_some q))
     (in_list_some (By same_fault) (converted_by same_fault) (MeansLate q.params)
     (late_some q.params))
@@ -98,25 +94,25 @@ number_result q = data_result (λ layer. layer.number) q.layers
 abbrev pub local_result : DemoRequest → DelayedResult DemoLocal
 local_result q = request_data_result (λ local. Some local) q.local
 
-abbrev pub MeansNumber : DemoRequest → Alone ℕ Fault
+abbrev pub MeansNumber : DemoRequest → ArgumentMeaning ℕ Fault
 MeansNumber q = MeansNow (number_result q).result
 
-abbrev pub MeansLocal : DemoRequest → Alone DemoLocal Fault
+abbrev pub MeansLocal : DemoRequest → ArgumentMeaning DemoLocal Fault
 MeansLocal q = MeansNow (local_result q).result
 
-abbrev pub MeansRequest : DemoRequest → Alone (Record DemoLayer DemoLocal DemoConn) Fault
+abbrev pub MeansRequest : DemoRequest → ArgumentMeaning (Record DemoLayer DemoLocal DemoConn) Fault
 MeansRequest q = AllowsNow (IsRequest q)
 
 abbrev pub MeansData :
     DemoRequest → Meaning (ℕ × DemoLocal × Record DemoLayer DemoLocal DemoConn)
 MeansData q =
-    Means3 (InList (By same_fault) (MeansNumber q)) (InList (By same_fault) (MeansLocal q))
-    (InList (By same_fault) (MeansRequest q))
+    Means3 (Member (By same_fault) (MeansNumber q)) (Member (By same_fault) (MeansLocal q))
+    (Member (By same_fault) (MeansRequest q))
 
 pub data_some : (q : DemoRequest) (m : List Mark) → AllowsSome (MeansData q m)
 data_some q =
-    means3_some (InList (By same_fault) (MeansNumber q)) (InList (By same_fault) (MeansLocal q))
-    (InList (By same_fault) (MeansRequest q))
+    means3_some (Member (By same_fault) (MeansNumber q)) (Member (By same_fault) (MeansLocal q))
+    (Member (By same_fault) (MeansRequest q))
     (in_list_some (By same_fault) (converted_by same_fault) (MeansNumber q)
     (now_some (number_result q).result))
     (in_list_some (By same_fault) (converted_by same_fault) (MeansLocal q)
@@ -130,13 +126,13 @@ numbers_result q = list3 (number_result q) (local_result q) (immediate (Ok q))
 
 abbrev pub MeansOptional : DemoRequest → Meaning (Option (Json Item) × List ℕ)
 MeansOptional q =
-    Means2 (InList (By never_fault) (λ m rest. GivesOption (MeansJsonItem q m rest)))
-    (InList (By same_fault) (MeansBody q))
+    Means2 (Member (By never_fault) (λ m rest. GivesOption (MeansJsonItem q m rest)))
+    (Member (By same_fault) (MeansBody q))
 
 pub optional_some : (q : DemoRequest) (m : List Mark) → AllowsSome (MeansOptional q m)
 optional_some q =
-    means2_some (InList (By never_fault) (λ m rest. GivesOption (MeansJsonItem q m rest)))
-    (InList (By same_fault) (MeansBody q))
+    means2_some (Member (By never_fault) (λ m rest. GivesOption (MeansJsonItem q m rest)))
+    (Member (By same_fault) (MeansBody q))
     (in_list_some (By never_fault) (converted_by never_fault)
     (λ m rest. GivesOption (MeansJsonItem q m rest))
     (λ m. means_option_some (MeansJsonItem q m) (json_item_some q m)))
@@ -157,7 +153,7 @@ optional_result q m =
 
 -- an item of the body as JSON, or its refusal
 
-abbrev pub MeansItemOrRefusal : DemoRequest → Alone (Result (Json Item) Fault) Never
+abbrev pub MeansItemOrRefusal : DemoRequest → ArgumentMeaning (Result (Json Item) Fault) Never
 MeansItemOrRefusal q m rest = GivesResult (By same_fault) (MeansJsonItem q m rest)
 
 pub item_or_refusal_some : (q : DemoRequest) (m : List Mark) → AllowsSome (MeansItemOrRefusal q m)
@@ -173,7 +169,7 @@ as_value v = record { delay = v.delay; result = Ok v.result }
 abbrev pub demo_connection : DemoRequest → Connection
 demo_connection q = connection_of q.head q.config
 
-abbrev pub MeansWho : DemoRequest → Alone Connection Never
+abbrev pub MeansWho : DemoRequest → ArgumentMeaning Connection Never
 MeansWho q = MeansNow (Ok (demo_connection q))
 
 pub who_some : (q : DemoRequest) (m : List Mark) → AllowsSome (MeansWho q m)

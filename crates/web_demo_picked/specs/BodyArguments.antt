@@ -1,5 +1,5 @@
 -- The demo's arguments that take the body as it is.
-use Rattle.std.specs.Prelude.{ℕ, List, [], Result, String}
+use Rattle.std.specs.Prelude.{ℕ, List, [], String}
 use Rattle.std.specs.Global.{Global}
 use Rattle.web_request.specs.declared.source.Mark.{Mark}
 use Rattle.web_request.specs.Feed.{Feed}
@@ -16,19 +16,16 @@ use Rattle.web_extract.specs.ListResults.{DelayedResult, with_value}
 use Rattle.web_extract.specs.PayloadArgument.{MeansPayload, payload_some}
 use Rattle.web_extract.specs.declared.capped_argument.Capped.{Capped}
 use Rattle.web_extract.specs.StringArgument.{MeansString, string_rest, string_result, string_some}
+use Rattle.web_extract.specs.ListMeanings.{ArgumentMeaning}
 use Rattle.web_demo_layers.specs.DemoLayers.{demo_configurations}
 use Rattle.web_demo_layers.specs.DemoRequests.{DemoRequest}
-
--- what an argument without a list means, with errors of its own
-abbrev pub Alone : Type 0 → Type 0 → Type 1
-Alone T E = List Mark → List Mark → ℕ → Result T E → Type 0
 
 -- the whole body, its bytes and as a text
 
 abbrev pub settings_of : DemoRequest → PayloadSettings
 settings_of q = payload_settings demo_configurations q.layers
 
-abbrev pub MeansBody : DemoRequest → Alone (List ℕ) Fault
+abbrev pub MeansBody : DemoRequest → ArgumentMeaning (List ℕ) Fault
 MeansBody q = MeansBytes (settings_of q) q.head.headers
 
 pub body_some : (q : DemoRequest) (m : List Mark) → AllowsSome (MeansBody q m)
@@ -40,7 +37,7 @@ body_rest q m = bytes_rest (settings_of q) q.head.headers m
 abbrev pub body_result : DemoRequest → List Mark → DelayedResult (List ℕ)
 body_result q m = bytes_result (settings_of q) q.head.headers m
 
-abbrev pub MeansText : DemoRequest → Alone (String Global) Fault
+abbrev pub MeansText : DemoRequest → ArgumentMeaning (String Global) Fault
 MeansText q = MeansString (settings_of q) q.head.headers
 
 pub text_some : (q : DemoRequest) (m : List Mark) → AllowsSome (MeansText q m)
@@ -57,7 +54,7 @@ text_result q m = string_result (settings_of q) q.head.headers m
 abbrev pub capped_settings_of : DemoRequest → PayloadSettings
 capped_settings_of q = capped_settings 4 (settings_of q)
 
-abbrev pub MeansCapped : DemoRequest → Alone (Capped (List ℕ) 4) Fault
+abbrev pub MeansCapped : DemoRequest → ArgumentMeaning (Capped (List ℕ) 4) Fault
 MeansCapped q m rest n x =
     GivesCapped (MeansBytes (capped_settings_of q) q.head.headers m rest) n x
 
@@ -75,7 +72,7 @@ capped_result q m =
 
 -- the body, unread
 
-abbrev pub MeansRaw : Alone (Payload Feed) Fault
+abbrev pub MeansRaw : ArgumentMeaning (Payload Feed) Fault
 MeansRaw = MeansPayload (λ feed. feed)
 
 pub raw_some : (m : List Mark) → AllowsSome (MeansRaw m)

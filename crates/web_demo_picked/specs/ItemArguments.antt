@@ -15,6 +15,7 @@ use Rattle.web_extract.specs.LayerConfigurations.{query_settings}
 use Rattle.web_extract.specs.ListResults.{DelayedResult, with_value}
 use Rattle.web_extract.specs.Refusals.{Handler}
 use Rattle.web_extract.specs.declared.capped_argument.Capped.{Capped}
+use Rattle.web_extract.specs.ListMeanings.{ArgumentMeaning}
 use Rattle.web_types.specs.EitherArgument.{MeansEither, either_result, either_some}
 use Rattle.web_types.specs.FormArgument.{MeansForm, form_rest, form_result, form_some}
 use Rattle.web_types.specs.JsonArgument.{MeansJson, capped_json, json_rest, json_result}
@@ -35,7 +36,7 @@ use Rattle.web_demo_layers.specs.Teapots.{path_teapot, query_teapot}
 use Rattle.web_demo_layers.specs.declared.item.Item.{Item}
 use Rattle.web_demo_layers.specs.declared.teapot.Teapot.{Teapot}
 use Rattle.web_demo_layers.specs.declared.teapot.VendorType.{VendorType}
-use Rattle.web_demo_picked.specs.BodyArguments.{Alone, MeansBody, body_result, body_some}
+use Rattle.web_demo_picked.specs.BodyArguments.{MeansBody, body_result, body_some}
 use Rattle.web_demo_layers.specs.DemoRequests.{DemoRequest}
 
 -- a handler, a predicate and readers that are functions, as relations
@@ -57,7 +58,7 @@ ItemOfPairs pairs x = x ≡ item_of_pairs pairs
 abbrev pub json_settings_of : DemoRequest → JsonSettings Teapot VendorType
 json_settings_of q = json_settings demo_configurations q.layers
 
-abbrev pub MeansJsonItem : DemoRequest → Alone (Json Item) Fault
+abbrev pub MeansJsonItem : DemoRequest → ArgumentMeaning (Json Item) Fault
 MeansJsonItem q =
     MeansJson (json_settings_of q) (ByHandler json_teapot) IsVendorType ItemOfJson q.head
 
@@ -78,7 +79,7 @@ json_item_result q m =
 abbrev pub capped_json_settings : DemoRequest → JsonSettings Teapot VendorType
 capped_json_settings q = capped_json 16 (json_settings_of q)
 
-abbrev pub MeansCappedItem : DemoRequest → Alone (Capped (Json Item) 16) Fault
+abbrev pub MeansCappedItem : DemoRequest → ArgumentMeaning (Capped (Json Item) 16) Fault
 MeansCappedItem q m rest n x =
     GivesCapped (MeansJson (capped_json_settings q) (ByHandler json_teapot) IsVendorType
     ItemOfJson q.head m rest) n x
@@ -102,7 +103,7 @@ capped_item_result q m = with_value as_capped
 abbrev pub form_settings_of : DemoRequest → FormSettings Teapot
 form_settings_of q = form_settings demo_configurations q.layers
 
-abbrev pub MeansFormItem : DemoRequest → Alone (Form Item) Fault
+abbrev pub MeansFormItem : DemoRequest → ArgumentMeaning (Form Item) Fault
 MeansFormItem q = MeansForm (form_settings_of q) (ByHandler form_teapot) ItemOfPairs q.head
 
 pub form_item_some : (q : DemoRequest) (m : List Mark) → AllowsSome (MeansFormItem q m)
@@ -117,7 +118,7 @@ form_item_result q m = form_result (form_settings_of q) form_teapot item_of_pair
 -- of a JSON body, and where that is refused of a form
 
 abbrev pub MeansEitherItem :
-    DemoRequest → Alone (Either (Json Item) (Form Item)) (EitherExtractError Fault Fault)
+    DemoRequest → ArgumentMeaning (Either (Json Item) (Form Item)) (EitherExtractError Fault Fault)
 MeansEitherItem q = MeansEither (MeansBody q) (MeansJsonItem q) (MeansFormItem q)
 
 pub either_item_some : (q : DemoRequest) (m : List Mark) → AllowsSome (MeansEitherItem q m)
@@ -135,7 +136,7 @@ either_item_result q m =
 abbrev pub path_handler_of : DemoRequest → Option Teapot
 path_handler_of q = (path_settings demo_configurations q.layers).handler
 
-abbrev pub MeansPathItem : DemoRequest → Alone Item Fault
+abbrev pub MeansPathItem : DemoRequest → ArgumentMeaning Item Fault
 MeansPathItem q =
     MeansRead (λ v. v) (PathRefused (ByHandler path_teapot) (path_handler_of q) q.head)
     (ItemOfPairs (decoded_parameters q.params))
@@ -157,7 +158,7 @@ query_handler_of q = (query_settings demo_configurations q.layers).handler
 abbrev pub as_query : Item → Query Item
 as_query item = record { 0 = item }
 
-abbrev pub MeansQueryItem : DemoRequest → Alone (Query Item) Fault
+abbrev pub MeansQueryItem : DemoRequest → ArgumentMeaning (Query Item) Fault
 MeansQueryItem q =
     MeansRead as_query (QueryRefused (ByHandler query_teapot) (query_handler_of q) q.head)
     (ItemOfPairs (form_pairs (head_query q.head)))

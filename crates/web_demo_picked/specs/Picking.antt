@@ -7,12 +7,11 @@ use Rattle.web_reply.specs.Replies.{Fault, fault_of}
 use Rattle.web_texts.specs.declared.errors.ParseError.{ParseError}
 use Rattle.web_extract.specs.ConvertedFutures.{GivesConverted, converts_by, means_converted_some}
 use Rattle.web_extract.specs.Extracts.{AllowsSome}
-use Rattle.web_extract.specs.ListMeanings.{Meaning}
+use Rattle.web_extract.specs.ListMeanings.{ArgumentMeaning, Meaning}
 use Rattle.web_extract.specs.SomeAnswer.{itself}
 use Rattle.web_extract.specs.declared.never.Never.{Never}
 use Rattle.web_types.specs.EitherArgument.{ConvertsEither, either_converted}
 use Rattle.web_types.specs.declared.either.EitherExtractError.{EitherExtractError}
-use Rattle.web_demo_picked.specs.BodyArguments.{Alone}
 use Rattle.web_demo_picked.specs.declared.picked.Picked.{Picked}
 
 -- the errors that refusals convert to
@@ -40,7 +39,7 @@ pub converted_by_either : (e : EitherExtractError Fault Fault) → (f : Fault) �
 converted_by_either = either_converted (By same_fault) itself
 
 module _ {T E : Type 0} (value : T → Picked) (converts : E → Fault → Type 0)
-    (means : Alone T E) where
+    (means : ArgumentMeaning T E) where
   -- the value as what is picked, or the error that the refusal converts to
   abbrev pub Picks : Meaning Picked
   Picks m rest n x = GivesConverted (λ v w. w ≡ value v) converts (means m rest) n x

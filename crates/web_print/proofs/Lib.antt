@@ -2,6 +2,5 @@ pub mod CountLemmas
 pub mod HeaderLinesLemmas
 pub mod HexadecimalLemmas
 pub mod MappedListsLemmas
-pub mod SortedNamesLemmas
 pub mod SummaryLemmas
 pub mod TextLinesLemmas

@@ -6,7 +6,8 @@ use Rattle.hex.specs.Hex.{encode_lower}
 use Rattle.web_request.specs.declared.source.Mark.{Mark}
 use Rattle.web_request.specs.declared.source.Mark.TheVariants.{Piece, Stall, Fault}
 use Rattle.web_reply.specs.ResponseBodies.{Plain}
-use Rattle.web_print.specs.TextLines.{line_text, newline, numbered_text}
+use Rattle.web_describe.specs.HeaderDescriptions.{newline}
+use Rattle.web_print.specs.TextLines.{line_text, numbered_text}
 
 -- a byte that prints as itself
 abbrev pub is_visible : ℕ → Bool

@@ -7,9 +7,10 @@ use Rattle.web_reply.specs.declared.head.ConnectionType.{ConnectionType}
 use Rattle.web_reply.specs.declared.head.ConnectionType.TheVariants.{KeepAlive, Close, Upgrade}
 use Rattle.web_reply.specs.declared.head.ResponseHead.{ResponseHead}
 use Rattle.web_worker.specs.Outcomes.{OutcomeView}
+use Rattle.web_describe.specs.HeaderDescriptions.{newline}
 use Rattle.web_print.specs.BodyLines.{body_text}
 use Rattle.web_print.specs.HeaderLines.{header_lines}
-use Rattle.web_print.specs.TextLines.{line_text, newline, numbered_text}
+use Rattle.web_print.specs.TextLines.{line_text, numbered_text}
 
 -- the reason, where one is set
 abbrev pub reason_text : Option (List ℕ) → List ℕ

@@ -1,29 +1,13 @@
 //! The lines of the headers.
-ghost use Rattle.std.specs.Prelude.{◌≡◌, ◌++◌, IfOk, OnOk, flat_map, map};
-ghost use Rattle.http_header.specs.HeaderMap.{keys, pairs};
+ghost use Rattle.std.specs.Prelude.{◌≡◌, ◌++◌, OnOk, flat_map, map};
+ghost use Rattle.http_header.specs.HeaderMap.{pairs};
 ghost use Rattle.web_print.specs.HeaderLines.{header_line, header_lines, name_lines, pair_line};
-ghost use Rattle.web_print.specs.HeaderLines.{sorted_names};
 
 use crate::lines::put;
 use http_header::{HeaderMap, HeaderName, HeaderValue};
 use std::alloc::Global;
+use web_describe::sorted_names;
 use web_texts::NoMemory;
-
-/// The names of a map, sorted by their bytes. A map has each name once.
-fn sorted_names(
-    alloc: Global,
-    headers: &HeaderMap<HeaderValue>,
-) -> Result<Vec<&HeaderName>, NoMemory>
-    ensures { IfOk result (λ names.
-        map (λ n. n.now) names.items ≡ sorted_names (keys headers.now)) }
-{
-    let mut names = Vec::with_capacity(alloc, headers.keys_len())?;
-    for name in headers.keys() {
-        names.push(name)?;
-    }
-    names.sort_unstable_by(|a, b| a.as_str().cmp(b.as_str()));
-    Ok(names)
-}
 
 fn put_value(out: &mut Vec<u8>, name: &HeaderName, value: &HeaderValue) -> Result<(), NoMemory>
     ensures { OnOk result (out.new.items ≡ out.old.items ++ header_line name.now value.now) }

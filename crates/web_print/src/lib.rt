@@ -5,13 +5,11 @@
 mod body;
 mod header_lines;
 mod hexadecimal;
-mod law;
 mod lines;
 mod marks;
 mod outcomes;
 mod response;
 mod summary;
 
-pub use law::header_order_law;
 pub use outcomes::printed;
 pub use summary::summarized;

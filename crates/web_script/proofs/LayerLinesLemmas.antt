@@ -6,11 +6,11 @@ use Rattle.std.specs.Option.{option_map, option_and_then}
 use Rattle.std.specs.Str.{is_utf8}
 use Rattle.std.proofs.lemmas.List.Folds.{list_any-append}
 use Rattle.web_texts.specs.Cut.{IsCut}
-use Rattle.web_texts.specs.MediaTypes.{MediaType, media_type_of}
+use Rattle.web_texts.specs.MediaTypes.{MediaType, is_equals, media_type_of}
 use Rattle.web_texts.proofs.SplitLemmas.{split_cut, split_whole, cut_parts, no_cut}
 use Rattle.web_script.specs.Line.{is_space}
 use Rattle.web_script.specs.PlanEntries.{all_values}
-use Rattle.web_script.specs.LayerLines.{is_equals, is_layer, mime_of, plain_setting, valued_setting, setting_of, settings_of, layer_of, no_settings, with_setting, with_settings, IsSet}
+use Rattle.web_script.specs.LayerLines.{is_layer, mime_of, plain_setting, valued_setting, setting_of, settings_of, layer_of, no_settings, with_setting, with_settings, IsSet}
 use Rattle.web_script.specs.LineFaults.{unless}
 use Rattle.web_script.specs.declared.layer.LayerSettings.{LayerSettings}
 use Rattle.web_script.specs.declared.layer.Setting.{Setting}

@@ -20,7 +20,8 @@ use Rattle.web_script.specs.Line.{is_space}
 use Rattle.web_script.specs.LineArguments.{before_space, after_space, has_space, is_method, is_request, request_fault, target_fault, is_field_name, is_field_value, is_param, param_of}
 use Rattle.web_script.specs.LineFaults.{unless}
 use Rattle.web_script.specs.Reader.{bare_exchange, new_exchange}
-use Rattle.web_script.specs.Targets.{Target, IsReading, parts_of, target_of}
+use Rattle.web_request.specs.Head.{Target, uri_view}
+use Rattle.web_script.specs.Targets.{IsReading, target_of}
 use Rattle.web_script.specs.declared.reason.Reason.{Reason}
 use Rattle.web_script.specs.declared.reason.Reason.TheVariants as reason
 use Rattle.web_script.proofs.AcceptanceLemmas.{met, not_met}
@@ -80,7 +81,7 @@ text_refused text bad = refuted (is_utf8 text) (utf8_decides text) bad
 same_parts : (s a : Option (List ℕ)) (k : List ℕ) (t : Target) → s ≡ t.scheme → a ≡ t.authority → k ≡ t.path_and_query → Some t ≡ Some (record { scheme = s; authority = a; path_and_query = k })
 same_parts s a k t first second third = rw (first, second, third) refl
 
-spelled_by : (text : List ℕ) (u : Uri) (o : Option Target) → IsReading text o → Spells text u → o ≡ Some (parts_of u)
+spelled_by : (text : List ℕ) (u : Uri) (o : Option Target) → IsReading text o → Spells text u → o ≡ Some (uri_view u)
 spelled_by text u None none spells = absurd (none (uri_scheme u) (uri_authority u) (uri_data u) spells)
 spelled_by text u (Some t) is spells =
     let same = form_unique text _ _ _ _ _ _ spells.1 is.1 in
@@ -90,7 +91,7 @@ unread_by : (text : List ℕ) (o : Option Target) → IsReading text o → Spell
 unread_by text None is none = refl
 unread_by text (Some t) is none = absurd (none t.scheme t.authority t.path_and_query is)
 
-pub target_read : (text : List ℕ) (u : Uri) → Spells text u → target_of text ≡ Some (parts_of u)
+pub target_read : (text : List ℕ) (u : Uri) → Spells text u → target_of text ≡ Some (uri_view u)
 target_read text u spells = spelled_by text u (target_of text) (reading text) spells
 
 pub target_refused : (text : List ℕ) → SpellsNone text → target_of text ≡ None

@@ -1,19 +1,16 @@
 -- The settings of a `layer` line.
-use Rattle.std.specs.Prelude.{◌≡◌, ℕ, ◌==◌, Bool, true, false, List, [], map, codes}
+use Rattle.std.specs.Prelude.{◌≡◌, ℕ, Bool, true, false, List, [], map, codes}
 use Rattle.std.specs.Prelude.{Option, None, Some, is_some, unwrap_or, if◌then◌else◌}
 use Rattle.std.specs.List.{list_any, fold, before_first, after_first, slice_split}
 use Rattle.std.specs.Option.{option_map}
 use Rattle.std.specs.Str.{bytes_eq, is_utf8}
-use Rattle.web_texts.specs.MediaTypes.{MediaType, media_type_of}
+use Rattle.web_texts.specs.MediaTypes.{MediaType, is_equals, media_type_of}
 use Rattle.web_script.specs.Line.{is_space}
 use Rattle.web_script.specs.Numbers.{number_of}
 use Rattle.web_script.specs.PlanEntries.{all_values}
 use Rattle.web_script.specs.declared.layer.LayerSettings.{LayerSettings}
 use Rattle.web_script.specs.declared.layer.Setting.{Setting}
 use Rattle.web_script.specs.declared.layer.Setting.TheVariants as setting
-
-abbrev pub is_equals : ℕ → Bool
-is_equals b = b == 61
 
 -- a media type in UTF-8
 abbrev pub mime_of : List ℕ → Option MediaType

@@ -7,7 +7,8 @@ use Rattle.http_header.specs.FieldValue.{FieldValue, plain_value}
 use Rattle.http_header.specs.Token.{is_token_byte, is_value_byte, lowercase}
 use Rattle.web_texts.specs.declared.text.Pair.{Pair}
 use Rattle.web_script.specs.Line.{is_space}
-use Rattle.web_script.specs.Targets.{Target, target_of}
+use Rattle.web_request.specs.Head.{Target}
+use Rattle.web_script.specs.Targets.{target_of}
 use Rattle.web_script.specs.declared.reason.Reason.{Reason}
 use Rattle.web_script.specs.declared.reason.Reason.TheVariants as reason
 

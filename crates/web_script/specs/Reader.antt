@@ -12,7 +12,7 @@ use Rattle.web_script.specs.Acceptance.{Accepts}
 use Rattle.web_script.specs.ExchangeSinks.{open_exchanges}
 use Rattle.web_script.specs.Line.{Line}
 use Rattle.web_script.specs.ScriptedView.{ScriptedExchangeView}
-use Rattle.web_script.specs.Targets.{Target}
+use Rattle.web_request.specs.Head.{Target}
 use Rattle.web_script.specs.LineFaults.{argument_fault, max_headers}
 use Rattle.web_script.specs.Numbers.{line_number}
 use Rattle.web_script.specs.Peers.{line_peer}

@@ -5,7 +5,7 @@ use Rattle.http_header.specs.HeaderMap.{Entries}
 use Rattle.web_texts.specs.declared.text.Pair.{Pair}
 use Rattle.web_request.specs.declared.address.SocketAddr.{SocketAddr}
 use Rattle.web_request.specs.declared.source.Mark.{Mark}
-use Rattle.web_script.specs.Targets.{Target}
+use Rattle.web_request.specs.Head.{Target}
 use Rattle.web_script.specs.declared.layer.LayerSettings.{LayerSettings}
 
 pub record ScriptedExchangeView : Type 0 where

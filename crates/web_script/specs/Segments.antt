@@ -1,9 +1,7 @@
 -- The first segment of a path, by which the program chooses what it does.
-use Rattle.std.specs.Prelude.{ℕ, ◌==◌, Bool, List}
+use Rattle.std.specs.Prelude.{ℕ, List}
 use Rattle.std.specs.List.{before_first, after_first}
-
-abbrev pub is_slash : ℕ → Bool
-is_slash b = b == 47
+use Rattle.web_texts.specs.MediaTypes.{is_slash}
 
 -- the text between the first slash and the next, or the end; a path without a slash has none
 abbrev pub first_segment : List ℕ → List ℕ

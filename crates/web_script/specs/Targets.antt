@@ -10,23 +10,8 @@ use Rattle.http_uri.specs.ByteClasses.{split_once_back, at_sign, colon, left_bra
 use Rattle.http_uri.specs.ByteClasses.{question_mark, right_bracket, slash}
 use Rattle.http_uri.specs.Grammar.{IsUriText, last_piece, normal_scheme, without_fragment, path_of}
 use Rattle.http_uri.specs.Grammar.{scheme_len, authority_len}
-use Rattle.http_uri.specs.declared.uri.Uri.{Uri}
-use Rattle.http_uri.specs.Uri.{SpellsNone, uri_scheme, uri_authority, uri_data}
-
--- the parts of a target
-pub record Target : Type 0 where
-  pub scheme : Option (List ℕ)
-  pub authority : Option (List ℕ)
-  -- the path, with the query where there is one
-  pub path_and_query : List ℕ
-
--- the parts that a URI holds
-abbrev pub parts_of : Uri → Target
-parts_of u = record {
-  scheme = uri_scheme u;
-  authority = uri_authority u;
-  path_and_query = uri_data u;
-}
+use Rattle.http_uri.specs.Uri.{SpellsNone}
+use Rattle.web_request.specs.Head.{Target}
 
 -- the text spells these parts, or none
 abbrev pub IsReading : List ℕ → Option Target → Type 0

@@ -5,7 +5,8 @@ ghost use Rattle.web_script.specs.LineArguments.{has_space, is_method, request_f
 ghost use Rattle.web_script.specs.LineArguments.{target_fault};
 ghost use Rattle.web_script.specs.LineFaults.{unless};
 ghost use Rattle.web_script.specs.Reader.{bare_exchange, new_exchange};
-ghost use Rattle.web_script.specs.Targets.{parts_of, target_of};
+ghost use Rattle.web_request.specs.Head.{uri_view};
+ghost use Rattle.web_script.specs.Targets.{target_of};
 ghost use Rattle.web_script.specs.declared.reason.Reason.TheVariants.{BadExchange};
 
 use crate::layer::LayerSettings;
@@ -45,13 +46,13 @@ pub struct ScriptedExchange {
 
 impl Model for ScriptedExchange {
     ghost use Rattle.web_script.specs.ScriptedView.{ScriptedExchangeView};
-    ghost use Rattle.web_script.specs.Targets.{parts_of};
+    ghost use Rattle.web_request.specs.Head.{uri_view};
 
     ghost Value = { ScriptedExchangeView };
 
     ghost view = { λ e. record {
       method = e.method;
-      target = parts_of e.uri;
+      target = uri_view e.uri;
       headers = e.headers;
       params = e.params.items;
       layers = e.layers.items;
@@ -83,7 +84,7 @@ fn read_method(alloc: Global, text: &[u8]) -> Result<Method, Fail<Reason>>
 /// The target that is written so, if the text has the form of one. It is not copied.
 fn read_target(text: Bytes) -> Result<Uri, Fail<Reason>>
     ensures { Accepts result (target_fault (target_of text))
-        (λ uri. target_of text ≡ Some (parts_of uri)) }
+        (λ uri. target_of text ≡ Some (uri_view uri)) }
 {
     match Uri::from_shared(text) {
         Ok(uri) => Ok(uri),
@@ -103,7 +104,7 @@ pub struct RequestLine {
 /// target is what is left of the argument, which is not copied.
 pub fn read_request(alloc: Global, text: Bytes) -> Result<RequestLine, Fail<Reason>>
     ensures { Accepts result (request_fault text)
-        (λ line. bare_exchange line.method (parts_of line.uri) ≡ new_exchange text) }
+        (λ line. bare_exchange line.method (uri_view line.uri) ≡ new_exchange text) }
 {
     let Some((method, target)) = split_once_at(text.as_slice(), b' ') else {
         return Err(Fail::Of(Reason::BadExchange));
@@ -123,11 +124,11 @@ impl ScriptedExchange {
     ghost use Rattle.std.specs.Prelude.{◌≡◌, ◌∷◌, [], OnOk};
     ghost use Rattle.web_script.specs.Reader.{bare_exchange};
     ghost use Rattle.web_script.specs.Reader.{with_headers, with_layers, with_marks, with_params};
-    ghost use Rattle.web_script.specs.Targets.{parts_of};
+    ghost use Rattle.web_request.specs.Head.{uri_view};
 
     /// An exchange without headers, parameters, layers, body and data.
     pub fn new(alloc: Global, method: Method, uri: Uri) -> Self
-        ensures { result ≡ bare_exchange method (parts_of uri) }
+        ensures { result ≡ bare_exchange method (uri_view uri) }
     {
         ScriptedExchange {
             method,

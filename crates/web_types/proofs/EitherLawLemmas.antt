@@ -4,13 +4,13 @@ use Rattle.std.specs.Prelude.{Result, Ok, Err}
 use Rattle.web_request.specs.Body.{whole}
 use Rattle.web_request.specs.declared.source.Mark.{Mark}
 use Rattle.web_reply.specs.Replies.{Fault}
-use Rattle.web_extract.specs.ListMeanings.{Member}
+use Rattle.web_extract.specs.ListMeanings.{ArgumentMeaning, Member}
 use Rattle.web_extract.specs.ListResults.{DelayedResult}
 use Rattle.web_types.specs.declared.either.Either.{Either}
 use Rattle.web_types.specs.declared.either.Either.TheVariants.{Left, Right}
 use Rattle.web_types.specs.declared.either.EitherExtractError.TheVariants.{Bytes, Extract}
 use Rattle.web_types.specs.AddedDelays.{Then}
-use Rattle.web_types.specs.EitherArgument.{AfterBytes, AfterLeft, ArgumentMeaning, ComesRight}
+use Rattle.web_types.specs.EitherArgument.{AfterBytes, AfterLeft, ComesRight}
 use Rattle.web_types.specs.EitherArgument.{ConvertsEither, EitherResult, MeansEither, On}
 use Rattle.web_types.specs.EitherArgument.{added, after_bytes, after_left, either_result}
 use Rattle.web_types.specs.EitherArgument.{right_or, right_result}

@@ -7,11 +7,12 @@ use Rattle.web_body.specs.PollSteps.{Shifts}
 use Rattle.web_body.specs.declared.poll.Step.{Step}
 use Rattle.web_reply.specs.Replies.{Fault}
 use Rattle.web_extract.specs.Extracts.{Extracts}
+use Rattle.web_extract.specs.ListMeanings.{ArgumentMeaning}
 use Rattle.web_types.specs.declared.either.EitherExtractState.{EitherExtractState}
 use Rattle.web_types.specs.declared.either_steps.Next.{Next}
 use Rattle.web_types.specs.declared.either_steps.Next.TheVariants.{Waits, Comes, NoMemory}
 use Rattle.web_types.specs.AddedDelays.{Then}
-use Rattle.web_types.specs.EitherArgument.{ArgumentMeaning, EitherResult, On, ComesRight, AfterLeft}
+use Rattle.web_types.specs.EitherArgument.{EitherResult, On, ComesRight, AfterLeft}
 use Rattle.web_types.specs.EitherArgument.{AfterBytes, MeansEither}
 use Rattle.web_types.specs.EitherStates.{GivesOn, Keeps, Proceeds, state_finished, state_gives}
 

@@ -6,6 +6,7 @@ use Rattle.web_body.specs.PollSteps.{GivesSome}
 use Rattle.web_reply.specs.Replies.{Fault}
 use Rattle.web_extract.specs.Extracts.{AllowsSome}
 use Rattle.web_extract.specs.ListResults.{DelayedResult}
+use Rattle.web_extract.specs.ListMeanings.{ArgumentMeaning}
 use Rattle.web_types.specs.declared.either.Either.{Either}
 use Rattle.web_types.specs.declared.either.Either.TheVariants.{Left, Right}
 use Rattle.web_types.specs.declared.either.EitherExtractError.{EitherExtractError}
@@ -26,10 +27,6 @@ either_converted converts converted (Extract e f) = converted e
 
 abbrev pub EitherResult : Type 0 → Type 0 → Type 0 → Type 0 → Type 0
 EitherResult V W E F = Result (Either V W) (EitherExtractError E F)
-
--- what an argument means, of marks
-abbrev pub ArgumentMeaning : Type 0 → Type 0 → Type 1
-ArgumentMeaning T E = List Mark → List Mark → ℕ → Result T E → Type 0
 
 -- what may come of these marks, whatever is left of them
 abbrev pub On : {T E : Type 0} → ArgumentMeaning T E → List Mark → ℕ → Result T E → Type 0

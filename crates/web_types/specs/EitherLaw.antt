@@ -2,9 +2,9 @@
 use Rattle.std.specs.Prelude.{◌≡◌, ℕ, List, Result}
 use Rattle.web_request.specs.declared.source.Mark.{Mark}
 use Rattle.web_reply.specs.Replies.{Fault}
-use Rattle.web_extract.specs.ListMeanings.{Meaning, Member}
+use Rattle.web_extract.specs.ListMeanings.{ArgumentMeaning, Meaning, Member}
 use Rattle.web_extract.specs.ListResults.{DelayedResult}
-use Rattle.web_types.specs.EitherArgument.{ArgumentMeaning, ConvertsEither, MeansEither}
+use Rattle.web_types.specs.EitherArgument.{ConvertsEither, MeansEither}
 use Rattle.web_types.specs.EitherArgument.{either_result}
 
 -- it allows this result at this delay, and no other

@@ -7,12 +7,13 @@ use Rattle.web_body.specs.declared.poll.Step.{Step}
 use Rattle.web_body.specs.declared.poll.Step.TheVariants as step
 use Rattle.web_reply.specs.Replies.{Fault}
 use Rattle.web_extract.specs.Extracts.{AllowsSome}
+use Rattle.web_extract.specs.ListMeanings.{ArgumentMeaning}
 use Rattle.web_types.specs.declared.either.EitherExtractState.{EitherExtractState}
 use Rattle.web_types.specs.declared.either.EitherExtractState.TheVariants as state
 use Rattle.web_types.specs.declared.either_steps.Next.{Next}
 use Rattle.web_types.specs.declared.either_steps.Next.TheVariants as next
 use Rattle.web_types.specs.AddedDelays.{Then, then_some}
-use Rattle.web_types.specs.EitherArgument.{ArgumentMeaning, EitherResult, On, ComesRight, AfterLeft}
+use Rattle.web_types.specs.EitherArgument.{EitherResult, On, ComesRight, AfterLeft}
 use Rattle.web_types.specs.EitherArgument.{AfterBytes, after_left_some, after_bytes_some}
 use Rattle.web_types.specs.EitherArgument.{right_some, on_some}
 

@@ -2,7 +2,8 @@ use Rattle.std.proofs.Common.{◌≡◌, ◌-◌, length, drop, sym, ◌∙◌}
 use Rattle.std.proofs.lemmas.Result.{err_from_is_err_and}
 use Rattle.web_script.specs.LineArguments.{is_method, request_fault, target_fault}
 use Rattle.web_script.specs.LineFaults.{unless}
-use Rattle.web_script.specs.Targets.{parts_of, target_of}
+use Rattle.web_request.specs.Head.{uri_view}
+use Rattle.web_script.specs.Targets.{target_of}
 use Rattle.web_script.specs.declared.reason.Reason.TheVariants.{BadExchange}
 use Rattle.web_script.proofs.AcceptanceLemmas.{passed_on}
 use Rattle.web_script.proofs.LineArgumentsLemmas.{unspaced_request, spaced_target, no_method, no_target, asked_for, cut_end}
@@ -37,5 +38,5 @@ returns c =
     let cut = rw c.as_slice.ensures at c.in-Some.ensures in
     let end : drop (length c.args.text - length c.in-Some.target.now) c.args.text ≡ c.in-Some.target.now = sym (cut_end c.args.text c.in-Some.method.now c.in-Some.target.now cut) in
     let target = rw (c.advance.ensures, c.len.ensures.value, end) at c.in_ok-uri.ensures in
-    asked_for c.args.text c.in-Some.method.now c.in-Some.target.now cut (parts_of c.in_ok-uri.uri) c.in_ok-method.method
+    asked_for c.args.text c.in-Some.method.now c.in-Some.target.now cut (uri_view c.in_ok-uri.uri) c.in_ok-method.method
     (sym c.has_space.ensures ∙ c.if-has_space.false) c.in_ok-method.ensures.0 c.in_ok-method.ensures.1 target.0 target.1
