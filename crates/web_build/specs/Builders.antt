@@ -1,6 +1,6 @@
 -- The builder of a response.
 use Rattle.std.specs.Prelude.{◌≡◌, ℕ, List, [], Option, None, Some, Result, Ok, Err, true, false}
-use Rattle.std.specs.Prelude.{Bool, is_some, codes, decimal}
+use Rattle.std.specs.Prelude.{Bool, ◌||◌, is_none, is_some, codes, decimal}
 use Rattle.std.specs.Option.{option_and_then, option_map}
 use Rattle.serde_json.specs.Data.{Data}
 use Rattle.http_header.specs.FieldValue.{FieldValue, plain_value}
@@ -66,6 +66,10 @@ setter step b = record {
   response = option_map (set_head b.error step) b.response;
   error = error_after b.error (option_map (step_of step) b.response);
 }
+
+-- an error is kept, or the builder is spent, so that setters change nothing
+abbrev pub ignores_setters : Building → Bool
+ignores_setters b = is_some b.error || is_none b.response
 
 abbrev pub set_status : ℕ → Building → Building
 set_status status b = setter (λ head. Ok (record head { status = status })) b

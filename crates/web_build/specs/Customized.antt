@@ -106,6 +106,11 @@ abbrev pub CustomizeResponds : {R Q : Type 0} → (R → Q → Reply Plain → T
 CustomizeResponds responds (Some e) c q r = r ≡ refusal_reply e
 CustomizeResponds responds None c q r = LayersOwn responds c q r
 
+-- no error is kept, no header is changed, and the response of the responder itself takes no memory
+abbrev pub CustomizedNeedsNoMemory : {R : Type 0} → (R → Type 0) → Customized R → Type 0
+CustomizedNeedsNoMemory needs_no_memory c =
+    (c.error ≡ None) × (c.overrides ≡ []) × (c.appended ≡ []) × needs_no_memory c.inner
+
 abbrev pub insert_all : Headers → List (List ℕ × FieldValue) → Headers
 insert_all m headers = fold (λ n header. insert n header.0 header.1) m headers
 
