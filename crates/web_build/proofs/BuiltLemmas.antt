@@ -1,6 +1,6 @@
 -- What a builder builds, and when it is spent.
-use Rattle.std.proofs.Common.{◌≡◌, ℕ, true, false, Option, Some, None, MatchOption, is_none, IfOk, refl, ap, ◌∙◌, inl, inr}
-use Rattle.std.specs.Prelude.{List, Result, Ok, Err, codes, is_some}
+use Rattle.std.proofs.Common.{◌≡◌, ℕ, true, false, Option, Some, None, MatchOption, is_none, IfOk, refl, ap, ◌∙◌, subst, sym, inl, inr}
+use Rattle.std.specs.Prelude.{List, Result, Ok, Err, IsOkAnd, codes, is_some}
 use Rattle.std.specs.Option.{unwrap_or}
 use Rattle.std.specs.Bool.{Decides}
 use Rattle.std.proofs.lemmas.Bool.{cases_Bool}
@@ -56,6 +56,14 @@ pub is_built : {B : Type 0} (plain : B → Plain) (body : B) (r : Option (Reply 
 is_built plain body r (Some e) x is = ap (λ (y : Result _ Fault). reply_of plain y) (some_same x (Err (fault_of (Http e))) is)
 is_built plain body None None x is = absurd (cc)
 is_built plain body (Some r) None x is = ap (λ (y : Result _ Fault). reply_of plain y) (some_same x (Ok (with_body body r)) is)
+
+-- where no error is kept, what is built has the body that was given
+pub has_body : {B : Type 0} (P : B → Type 0) (body : B) (r : Option (Reply (Unit {0}))) (e : Option HttpError) (x : Result (Reply B) Fault)
+    → Some x ≡ message_of body r e → e ≡ None → P body → IsOkAnd x (λ reply. P reply.body)
+has_body P body r (Some e) x is none p = absurd (cc)
+has_body P body None None x is none p = absurd (cc)
+has_body {B} P body (Some r) None x is none p =
+    subst (λ (y : Result (Reply B) Fault). IsOkAnd y (λ reply. P reply.body)) (sym (some_same x (Ok (with_body body r)) is)) p
 
 module _ {R E : Type 0} (view : R → Reply Plain) where
   pub gives_same : (answer : Result R E) (x y : Reply Plain) → x ≡ y → IfOk answer (λ r. view r ≡ x) → IfOk answer (λ r. view r ≡ y)

@@ -1,6 +1,6 @@
 -- The builder of a response.
 use Rattle.std.specs.Prelude.{◌≡◌, ℕ, List, [], Option, None, Some, Result, Ok, Err, true, false}
-use Rattle.std.specs.Prelude.{Bool, is_some, codes, decimal}
+use Rattle.std.specs.Prelude.{Bool, ◌||◌, is_none, is_some, codes, decimal}
 use Rattle.std.specs.Option.{option_and_then, option_map}
 use Rattle.serde_json.specs.Data.{Data}
 use Rattle.http_header.specs.FieldValue.{FieldValue, plain_value}
@@ -67,6 +67,10 @@ setter step b = record {
   error = error_after b.error (option_map (step_of step) b.response);
 }
 
+-- an error is kept, or the builder is spent, so that setters change nothing
+abbrev pub ignores_setters : Building → Bool
+ignores_setters b = is_some b.error || is_none b.response
+
 abbrev pub set_status : ℕ → Building → Building
 set_status status b = setter (λ head. Ok (record head { status = status })) b
 
@@ -79,15 +83,16 @@ set_connection kind b = setter (λ head. Ok (record head { connection = Some kin
 abbrev pub mark_no_chunking : Building → Building
 mark_no_chunking b = setter (λ head. Ok (record head { no_chunking = true })) b
 
-abbrev pub with_headers : ResponseHead → Result Headers HttpError → Result ResponseHead HttpError
-with_headers head (Ok m) = Ok (record head { headers = m })
-with_headers head (Err e) = Err e
+-- the head with the headers that a step of them gives, or the step's refusal
+abbrev pub head_with : ResponseHead → Result Headers HttpError → Result ResponseHead HttpError
+head_with head (Ok m) = Ok (record head { headers = m })
+head_with head (Err e) = Err e
 
 -- a header, if it was not refused, in place of those of its name or behind them
 abbrev pub put_header :
     Placing → Result (List ℕ × FieldValue) HttpError → Building → Building
 put_header placing header b =
-    setter (λ head. with_headers head (place_one placing header head.headers)) b
+    setter (λ head. head_with head (place_one placing header head.headers)) b
 
 -- Content-Length, and the mark where that was not refused
 abbrev pub set_no_chunking : ℕ → Building → Building
@@ -107,7 +112,8 @@ upgraded_head r = record r { head = record (r.head) { connection = Some connecti
 abbrev pub upgraded : Building → Building
 upgraded b = record b { response = option_map upgraded_head b.response }
 
-abbrev pub unless_kept : Option HttpError → Building → Building → Building
+-- the first where an error is kept, else the second
+abbrev pub unless_kept : {T : Type 0} → Option HttpError → T → T → T
 unless_kept (Some e) kept changed = kept
 unless_kept None kept changed = changed
 
@@ -139,7 +145,7 @@ typed_headers content_type m = typed_unless (has_type m) content_type m
 -- the content type, unless there is one
 abbrev pub default_type : List ℕ → Building → Building
 default_type content_type b =
-    setter (λ head. with_headers head (typed_headers content_type head.headers)) b
+    setter (λ head. head_with head (typed_headers content_type head.headers)) b
 
 -- the first Content-Length, where that is digits alone, up to 2^64 - 1
 abbrev pub said_length : Building → Option ℕ

@@ -15,6 +15,8 @@ use Rattle.web_reply.specs.declared.cause.Cause.TheVariants.{Http}
 use Rattle.web_reply.specs.declared.cause.HttpError.{HttpError}
 use Rattle.web_reply.specs.HeaderSteps.{Headers, and_place_each, place_each, place_one}
 use Rattle.web_reply.specs.declared.header_setting.Placing.TheVariants.{Replace, Append}
+use Rattle.web_reply.specs.ResponseCookies.{with_headers}
+use Rattle.web_build.specs.Builders.{unless_kept}
 
 -- A responder, with the status in place of its response's, the headers in place of those of their
 -- names, those that are added, and the first error that a call met.
@@ -28,11 +30,6 @@ pub record Customized (R : Type 0) : Type 0 where
 abbrev pub new_customized : {R : Type 0} → R → Customized R
 new_customized inner =
     record { inner = inner; status = None; overrides = []; appended = []; error = None }
-
--- unless an error is kept
-abbrev pub unless_kept : {T : Type 0} → Option HttpError → T → T → T
-unless_kept (Some e) kept changed = kept
-unless_kept None kept changed = changed
 
 abbrev pub set_customized_status : {R : Type 0} → ℕ → Customized R → Customized R
 set_customized_status status c = unless_kept c.error c (record c { status = Some status })
@@ -70,9 +67,6 @@ abbrev pub with_status : {B : Type 0} → Option ℕ → Reply B → Reply B
 with_status status r =
     record r { head = record (r.head) { status = unwrap_or status r.head.status } }
 
-abbrev pub with_headers : {B : Type 0} → Reply B → Headers → Reply B
-with_headers r m = record r { head = record (r.head) { headers = m } }
-
 abbrev pub with_layers : Reply Plain → ℕ → Result Headers HttpError → Reply Plain
 with_layers own status (Ok m) =
     record own { head = record (own.head) { status = status; headers = m } }
@@ -83,7 +77,7 @@ with_layers own status (Err e) = refusal_reply e
 abbrev pub Changes : {B : Type 0} → Option ℕ → Result Headers HttpError → Reply B
     → Result (Unit {0}) (Fail HttpError) → Reply B → Type 0
 Changes status headers old (Ok done) new =
-    (headers ≡ Ok new.head.headers) × (new ≡ with_headers (with_status status old) new.head.headers)
+    (headers ≡ Ok new.head.headers) × (new ≡ with_headers new.head.headers (with_status status old))
 Changes status headers old (Err fail.NoMemory) new = ⊤
 Changes status headers old (Err (fail.Of e)) new = headers ≡ Err e
 
@@ -91,7 +85,7 @@ Changes status headers old (Err (fail.Of e)) new = headers ≡ Err e
 abbrev pub either_reply : {B : Type 0} → Reply B → Option ℕ → Result Headers HttpError
     → Reply (EitherBody B WholeBody)
 either_reply own status (Ok m) =
-    with_body (Left own.body) (with_headers (with_status status own) m)
+    with_body (Left own.body) (with_headers m (with_status status own))
 either_reply own status (Err e) =
     let reply = error_reply (fault_of (Http e)) in with_body (Right reply.body) reply
 
@@ -111,6 +105,11 @@ abbrev pub CustomizeResponds : {R Q : Type 0} → (R → Q → Reply Plain → T
     → Option HttpError → Customized R → Q → Reply Plain → Type 0
 CustomizeResponds responds (Some e) c q r = r ≡ refusal_reply e
 CustomizeResponds responds None c q r = LayersOwn responds c q r
+
+-- no error is kept, no header is changed, and the response of the responder itself takes no memory
+abbrev pub CustomizedNeedsNoMemory : {R : Type 0} → (R → Type 0) → Customized R → Type 0
+CustomizedNeedsNoMemory needs_no_memory c =
+    (c.error ≡ None) × (c.overrides ≡ []) × (c.appended ≡ []) × needs_no_memory c.inner
 
 abbrev pub insert_all : Headers → List (List ℕ × FieldValue) → Headers
 insert_all m headers = fold (λ n header. insert n header.0 header.1) m headers

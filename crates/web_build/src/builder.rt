@@ -1,13 +1,14 @@
 //! The builder of a response.
-ghost use Rattle.std.specs.Prelude.{◌≡◌, None, Some, Ok as ok, IfOk, IsOk, IsTrue, OnErr, OnOk};
-ghost use Rattle.std.specs.Prelude.{codes, false, is_none};
+ghost use Rattle.std.specs.Prelude.{◌≡◌, None, Some, Ok as ok, IfOk, IsOk, IsOkAnd, IsTrue};
+ghost use Rattle.std.specs.Prelude.{OnErr, OnOk, codes, false, is_none};
 ghost use Rattle.http_header.specs.FieldValue.{is_visible_text, plain_value};
 ghost use Rattle.web_body.specs.Payload.{payload_feed};
 ghost use Rattle.web_reply.specs.ResponseBodies.{Plain, box_plain, whole_plain};
 ghost use Rattle.web_reply.specs.Replies.{error_reply, plain_reply};
 ghost use Rattle.web_reply.specs.HeaderSteps.{StepsTo, named, valued};
 ghost use Rattle.web_build.specs.Builders.{BuildsJson, after_message, built_reply, default_type};
-ghost use Rattle.web_build.specs.Builders.{finished_reply, message_of, mark_no_chunking};
+ghost use Rattle.web_build.specs.Builders.{finished_reply, ignores_setters, message_of};
+ghost use Rattle.web_build.specs.Builders.{mark_no_chunking};
 ghost use Rattle.web_build.specs.Builders.{new_building, put_header, put_unless_refused};
 ghost use Rattle.web_build.specs.Builders.{put_upgrade, reply_of, said_length, set_connection};
 ghost use Rattle.web_build.specs.Builders.{set_no_chunking, set_reason, set_status, set_upgrade};
@@ -165,6 +166,7 @@ impl HttpResponseBuilder {
     ) -> Result<(), NoMemory>
         ensures ok { OnOk result (self.new ≡ put_header placing header self.old) }
         ensures err { OnErr result (self.new ≡ self.old) }
+        ensures memory { IsTrue (ignores_setters self.old) → IsOk result }
     {
         match self.error {
             Some(_) => Ok(()),
@@ -182,7 +184,8 @@ impl HttpResponseBuilder {
         }
     }
 
-    /// Sets a header in place of all those of its name.
+    /// Sets a header in place of all those of its name. Where an error is kept or the builder is
+    /// spent, this takes no memory.
     pub fn insert_header(
         &mut self,
         name: HeaderName,
@@ -191,12 +194,14 @@ impl HttpResponseBuilder {
         ensures same_reference { IfOk result (λ b. b.ghost_name ≡ self.entry.ghost_name) }
         ensures value { IfOk result (λ b.
             b.now ≡ put_header Placing.Replace (ok (name, value)) self.old) }
+        ensures memory { IsTrue (ignores_setters self.old) → IsOk result }
     {
         self.put(Placing::Replace, Ok((name, value)))?;
         Ok(self)
     }
 
-    /// Adds a header behind those of its name.
+    /// Adds a header behind those of its name. Where an error is kept or the builder is spent, this
+    /// takes no memory.
     pub fn append_header(
         &mut self,
         name: HeaderName,
@@ -205,6 +210,7 @@ impl HttpResponseBuilder {
         ensures same_reference { IfOk result (λ b. b.ghost_name ≡ self.entry.ghost_name) }
         ensures value { IfOk result (λ b.
             b.now ≡ put_header Placing.Append (ok (name, value)) self.old) }
+        ensures memory { IsTrue (ignores_setters self.old) → IsOk result }
     {
         self.put(Placing::Append, Ok((name, value)))?;
         Ok(self)
@@ -393,7 +399,8 @@ impl HttpResponseBuilder {
         }
     }
 
-    /// The response with this body, or the reply to the kept error.
+    /// The response with this body, or the reply to the kept error. Where none is kept, this takes no
+    /// memory but what the common form of the body takes.
     pub fn body<S: Source, B: MessageBody<S>>(
         self,
         body: B,
@@ -401,6 +408,7 @@ impl HttpResponseBuilder {
         requires unspent { is_none self.response ≡ false }
         ensures value { IfOk result (λ reply. plain_reply (λ b. box_plain S.feed b) reply
             ≡ built_reply (B.plain body) self) }
+        ensures memory { self.error ≡ None → B.needs_no_memory body → IsOk result }
     {
         let alloc = self.alloc;
         let mut builder = self;
@@ -408,11 +416,13 @@ impl HttpResponseBuilder {
         in_common_form(alloc, built)
     }
 
-    /// The response with an empty body, or the reply to the kept error.
+    /// The response with an empty body, or the reply to the kept error. Where none is kept, this takes
+    /// no memory.
     pub fn finish<S: Source>(self) -> Result<HttpResponse<BoxBody<S>>, NoMemory>
         requires unspent { is_none self.response ≡ false }
         ensures value { IfOk result (λ reply. plain_reply (λ b. box_plain S.feed b) reply
             ≡ built_reply Plain.Empty self) }
+        ensures memory { self.error ≡ None → IsOk result }
     {
         self.body(())
     }
@@ -558,8 +568,9 @@ fn in_common_form<S: Source, B: MessageBody<S>>(
     alloc: Global,
     built: Result<HttpResponse<B>, Error>,
 ) -> Result<HttpResponse<BoxBody<S>>, NoMemory>
-    ensures { IfOk result (λ reply. plain_reply (λ b. box_plain S.feed b) reply
+    ensures value { IfOk result (λ reply. plain_reply (λ b. box_plain S.feed b) reply
         ≡ reply_of (λ body. B.plain body) built) }
+    ensures memory { IsOkAnd built (λ response. B.needs_no_memory response.body) → IsOk result }
 {
     match built {
         Ok(response) => response.map_into_boxed_body(alloc),

@@ -1,9 +1,10 @@
 //! Responders whose response is changed.
-ghost use Rattle.std.specs.Prelude.{◌≡◌, Ok as ok, IfOk, OnOk};
+ghost use Rattle.std.specs.Prelude.{◌≡◌, [], Ok as ok, IfOk, IsOk, IsSome, OnOk};
 ghost use Rattle.http_header.specs.FieldValue.{plain_value};
+ghost use Rattle.http_header.specs.HeaderMap.{pairs};
 ghost use Rattle.web_reply.specs.Replies.{Reply, error_reply, fault_of, plain_reply};
 ghost use Rattle.web_reply.specs.declared.cause.Cause.TheVariants.{Http};
-ghost use Rattle.web_reply.specs.HeaderSteps.{AllStepTo, named};
+ghost use Rattle.web_reply.specs.HeaderSteps.{AllStepTo, named, place_each};
 ghost use Rattle.web_build.specs.Customized.{append_to, layer_headers, new_customized};
 ghost use Rattle.web_build.specs.Customized.{put_override, set_customized_status};
 ghost use Rattle.web_build.specs.Customized.{Customized, Fits, layered, stacked};
@@ -138,7 +139,8 @@ impl<R> CustomizeResponder<R> {
         &mut self,
         header: Result<(HeaderName, HeaderValue), HttpError>,
     ) -> Result<(), NoMemory>
-        ensures { OnOk result (self.new ≡ put_override header self.old) }
+        ensures ok { OnOk result (self.new ≡ put_override header self.old) }
+        ensures memory { IsSome self.old.error → IsOk result }
     {
         match self.error {
             Some(_) => Ok(()),
@@ -159,7 +161,8 @@ impl<R> CustomizeResponder<R> {
         &mut self,
         header: Result<(HeaderName, HeaderValue), HttpError>,
     ) -> Result<(), NoMemory>
-        ensures { OnOk result (self.new ≡ append_to header self.old) }
+        ensures ok { OnOk result (self.new ≡ append_to header self.old) }
+        ensures memory { IsSome self.old.error → IsOk result }
     {
         match self.error {
             Some(_) => Ok(()),
@@ -176,26 +179,29 @@ impl<R> CustomizeResponder<R> {
 }
 
 impl<R: Drop> CustomizeResponder<R> {
-    /// Overrides a header: it stands in place of all those of its name.
+    /// Overrides a header: it stands in place of all those of its name. Where an error is kept, this
+    /// takes no memory.
     pub fn insert_header(
         self,
         name: HeaderName,
         value: HeaderValue,
     ) -> Result<CustomizeResponder<R>, NoMemory>
-        ensures { IfOk result (λ c. c ≡ put_override (ok (name, value)) self) }
+        ensures value { IfOk result (λ c. c ≡ put_override (ok (name, value)) self) }
+        ensures memory { IsSome self.error → IsOk result }
     {
         let mut customized = self;
         customized.put_override(Ok((name, value)))?;
         Ok(customized)
     }
 
-    /// Adds a header behind those of its name.
+    /// Adds a header behind those of its name. Where an error is kept, this takes no memory.
     pub fn append_header(
         self,
         name: HeaderName,
         value: HeaderValue,
     ) -> Result<CustomizeResponder<R>, NoMemory>
-        ensures { IfOk result (λ c. c ≡ append_to (ok (name, value)) self) }
+        ensures value { IfOk result (λ c. c ≡ append_to (ok (name, value)) self) }
+        ensures memory { IsSome self.error → IsOk result }
     {
         let mut customized = self;
         customized.append_to(Ok((name, value)))?;
@@ -208,7 +214,8 @@ impl<R: Drop> CustomizeResponder<R> {
         name: HeaderName,
         value: HeaderValue,
     ) -> Result<CustomizeResponder<R>, NoMemory>
-        ensures { IfOk result (λ c. c ≡ put_override (ok (name, value)) self) }
+        ensures value { IfOk result (λ c. c ≡ put_override (ok (name, value)) self) }
+        ensures memory { IsSome self.error → IsOk result }
     {
         self.insert_header(name, value)
     }
@@ -274,16 +281,36 @@ pub fn layering_law<R>()
         → layered c own ≡ stacked c own }
 {}
 
+/// Sets copies of all headers of a map, in their order, up to the first that has no room. Where
+/// there are none, this takes no memory.
+fn place_all(
+    headers: &mut HeaderMap<HeaderValue>,
+    placing: Placing,
+    added: &HeaderMap<HeaderValue>,
+) -> Result<(), Fail<HttpError>>
+    ensures headers { AllStepTo (place_each placing (pairs added.now) headers.old)
+        result headers.new }
+    ensures memory { added.now ≡ [] → IsOk result }
+{
+    if added.is_empty() {
+        return Ok(());
+    }
+    place_each(headers, placing, added)
+}
+
 /// Changes the headers of a response: first those that are overridden, then those that are added.
+/// Where there are none, this takes no memory.
 fn layer_headers(
     headers: &mut HeaderMap<HeaderValue>,
     overrides: &HeaderMap<HeaderValue>,
     appended: &HeaderMap<HeaderValue>,
 ) -> Result<(), Fail<HttpError>>
-    ensures { AllStepTo (layer_headers overrides.now appended.now headers.old) result headers.new }
+    ensures headers { AllStepTo (layer_headers overrides.now appended.now headers.old)
+        result headers.new }
+    ensures memory { overrides.now ≡ [] → appended.now ≡ [] → IsOk result }
 {
-    place_each(headers, Placing::Replace, overrides)?;
-    place_each(headers, Placing::Append, appended)
+    place_all(headers, Placing::Replace, overrides)?;
+    place_all(headers, Placing::Append, appended)
 }
 
 /// Sets the status of a response, if there is one to set.
@@ -300,9 +327,10 @@ impl Layers {
     /// Changes a response: its status, then the headers that are overridden, then those that are
     /// added.
     fn change<B>(&self, reply: &mut HttpResponse<B>) -> Result<(), Fail<HttpError>>
-        ensures { Changes self.now.status
+        ensures changes { Changes self.now.status
             (layer_headers self.now.overrides self.now.appended reply.old.head.headers)
             reply.old result reply.new }
+        ensures memory { self.now.overrides ≡ [] → self.now.appended ≡ [] → IsOk result }
     {
         set_status(reply, self.status);
         layer_headers(reply.headers_mut(), &self.overrides, &self.appended)
@@ -315,8 +343,9 @@ fn with_layers<B: Drop>(
     own: HttpResponse<B>,
     layers: &Layers,
 ) -> Result<HttpResponse<EitherBody<B, WholeBody>>, NoMemory>
-    ensures { IfOk result (λ reply. reply ≡ either_reply own layers.now.status
+    ensures value { IfOk result (λ reply. reply ≡ either_reply own layers.now.status
         (layer_headers layers.now.overrides layers.now.appended own.head.headers)) }
+    ensures memory { layers.now.overrides ≡ [] → layers.now.appended ≡ [] → IsOk result }
 {
     let mut reply = own;
     match layers.change(&mut reply) {
@@ -332,8 +361,10 @@ fn layered<A: App, R: Responder<A>>(
     req: &HttpRequest<A>,
     customized: CustomizeResponder<R>,
 ) -> Result<HttpResponse<EitherBody<R::Body, WholeBody>>, NoMemory>
-    ensures { IfOk result (λ reply. LayersOwn R.responds customized req.now.request
+    ensures value { IfOk result (λ reply. LayersOwn R.responds customized req.now.request
         (plain_reply (λ body. either_plain R.Body.plain whole_plain body) reply)) }
+    ensures memory { customized.overrides ≡ [] → customized.appended ≡ []
+        → R.needs_no_memory customized.inner → IsOk result }
 {
     let CustomizeResponder {
         responder,
@@ -352,13 +383,16 @@ fn refusal(alloc: Global, error: HttpError) -> Result<HttpResponse<WholeBody>, N
 }
 
 /// The response of the responder, with the status, then the overrides, then the added headers; the
-/// reply to the kept error, or to `MaxSize` where the headers have no room for one.
+/// reply to the kept error, or to `MaxSize` where the headers have no room for one. A status alone
+/// takes no memory beside that of the responder.
 impl<A: App, R: Responder<A>> Responder<A> for CustomizeResponder<R> {
-    ghost use Rattle.web_build.specs.Customized.{CustomizeResponds};
+    ghost use Rattle.web_build.specs.Customized.{CustomizeResponds, CustomizedNeedsNoMemory};
 
     type Body = EitherBody<R::Body, WholeBody>;
 
     ghost responds = { λ c q r. CustomizeResponds R.responds c.error c q r };
+
+    ghost needs_no_memory = { λ c. CustomizedNeedsNoMemory R.needs_no_memory c };
 
     fn respond_to(
         self,
