@@ -399,8 +399,8 @@ impl HttpResponseBuilder {
         }
     }
 
-    /// The response with this body, or the reply to the kept error. Where none is kept, this takes no
-    /// memory but what the common form of the body takes.
+    /// The response with this body, or the reply to the kept error. Where none is kept, this takes
+    /// no memory but what the common form of the body takes.
     pub fn body<S: Source, B: MessageBody<S>>(
         self,
         body: B,
@@ -416,8 +416,8 @@ impl HttpResponseBuilder {
         in_common_form(alloc, built)
     }
 
-    /// The response with an empty body, or the reply to the kept error. Where none is kept, this takes
-    /// no memory.
+    /// The response with an empty body, or the reply to the kept error. Where none is kept, this
+    /// takes no memory.
     pub fn finish<S: Source>(self) -> Result<HttpResponse<BoxBody<S>>, NoMemory>
         requires unspent { is_none self.response ≡ false }
         ensures value { IfOk result (λ reply. plain_reply (λ b. box_plain S.feed b) reply

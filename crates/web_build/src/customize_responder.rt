@@ -179,8 +179,8 @@ impl<R> CustomizeResponder<R> {
 }
 
 impl<R: Drop> CustomizeResponder<R> {
-    /// Overrides a header: it stands in place of all those of its name. Where an error is kept, this
-    /// takes no memory.
+    /// Overrides a header: it stands in place of all those of its name. Where an error is kept,
+    /// this takes no memory.
     pub fn insert_header(
         self,
         name: HeaderName,
