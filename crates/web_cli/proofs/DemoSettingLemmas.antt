@@ -18,14 +18,14 @@ use Rattle.web_worker.specs.ExchangeRules.{Rules, After, Replies, ComesBefore, R
 use Rattle.web_worker.specs.OutcomeFunctions.{AnswersOnce}
 use Rattle.web_worker.specs.PlanCalls.{ArgumentsOnce}
 use Rattle.web_worker.specs.Setting.{Setting}
-use Rattle.web_script.specs.ScriptedView.{ScriptedExchangeView}
-use Rattle.web_demo_layers.specs.declared.layer.DemoLayer.{DemoLayer}
-use Rattle.web_demo_layers.specs.declared.app.DemoLocal.{DemoLocal}
-use Rattle.web_demo_layers.specs.declared.app.DemoConn.{DemoConn}
-use Rattle.web_demo_layers.specs.DemoRequests.{DemoRequest, demo_request}
-use Rattle.web_demo.specs.ServiceFunctions.{ArgumentFunctions, ArgumentsMeet, ConvertsTo}
-use Rattle.web_demo.specs.ServiceFunctions.{HandlerFunctions, HandlerMeets}
-use Rattle.web_demo.specs.ServiceFunctions.{delay_from, delay_of, reply_from, reply_of}
+use Rattle.cli_script.specs.ScriptedView.{ScriptedExchangeView}
+use Rattle.demo_app.specs.declared.layer.DemoLayer.{DemoLayer}
+use Rattle.demo_app.specs.declared.app.DemoLocal.{DemoLocal}
+use Rattle.demo_app.specs.declared.app.DemoConn.{DemoConn}
+use Rattle.demo_app.specs.DemoRequests.{DemoRequest, demo_request}
+use Rattle.demo_handler.specs.ServiceFunctions.{ArgumentFunctions, ArgumentsMeet, ConvertsTo}
+use Rattle.demo_handler.specs.ServiceFunctions.{HandlerFunctions, HandlerMeets}
+use Rattle.demo_handler.specs.ServiceFunctions.{delay_from, delay_of, reply_from, reply_of}
 use Rattle.web_cli.specs.DemoExchanges.{demo_exchange, demo_pool}
 use Rattle.web_cli.specs.ScriptAnswers.{arguments_of}
 

@@ -22,16 +22,16 @@ use Rattle.web_worker.specs.PoolRun.{NotTaken, SerialState, return_held, run_ent
 use Rattle.web_worker.specs.RecordsMade.{is_waiting, waiting_count}
 use Rattle.web_worker.specs.Setting.{Setting}
 use Rattle.web_worker.proofs.CallsFunctionLemmas.{calls_of_map}
-use Rattle.web_print.specs.OutcomeText.{print}
-use Rattle.web_print.specs.SummaryText.{summary}
-use Rattle.web_script.specs.Script.{ScriptView}
-use Rattle.web_script.specs.ScriptedView.{ScriptedExchangeView}
-use Rattle.web_demo_layers.specs.declared.layer.DemoLayer.{DemoLayer}
-use Rattle.web_demo_layers.specs.declared.app.DemoLocal.{DemoLocal}
-use Rattle.web_demo_layers.specs.declared.app.DemoConn.{DemoConn}
+use Rattle.cli_print.specs.OutcomeText.{print}
+use Rattle.cli_print.specs.SummaryText.{summary}
+use Rattle.cli_script.specs.Script.{ScriptView}
+use Rattle.cli_script.specs.ScriptedView.{ScriptedExchangeView}
+use Rattle.demo_app.specs.declared.layer.DemoLayer.{DemoLayer}
+use Rattle.demo_app.specs.declared.app.DemoLocal.{DemoLocal}
+use Rattle.demo_app.specs.declared.app.DemoConn.{DemoConn}
 use Rattle.web_cli.specs.DemoExchanges.{demo_exchange, demo_pool}
-use Rattle.web_demo.specs.ServiceFunctions.{ArgumentFunctions, ArgumentsMeet}
-use Rattle.web_demo.specs.ServiceFunctions.{HandlerFunctions, HandlerMeets, delay_of, reply_of}
+use Rattle.demo_handler.specs.ServiceFunctions.{ArgumentFunctions, ArgumentsMeet}
+use Rattle.demo_handler.specs.ServiceFunctions.{HandlerFunctions, HandlerMeets, delay_of, reply_of}
 use Rattle.web_cli.specs.ScriptAnswers.{AppendsCallsTo, AreRepliesTo, IsServed, arguments_of, calls_to}
 use Rattle.web_cli.specs.ScriptAnswers.{delay_in, outcome_in, replies_to, script_outcomes, script_pool}
 use Rattle.web_cli.specs.LoadTexts.{IsSummaryOf, replay_capacity, summary_of}

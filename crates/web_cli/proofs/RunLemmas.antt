@@ -1,17 +1,17 @@
 -- What the parts of a run say of its status.
 use Rattle.std.proofs.Common.{◌≡◌, ℕ, true, List, inl, inr, ◌⊎◌, ◌∙◌}
 use Rattle.std.specs.Prelude.{Some}
-use Rattle.web_io.specs.IoState.{InputState, OutputState}
-use Rattle.web_io.specs.WholeReading.{IsAll}
-use Rattle.web_demo.specs.DemoFunctions.{demo_handler}
-use Rattle.web_demo.specs.DemoReplies.{HandlerAnswers, output_reply}
-use Rattle.web_demo.specs.ServiceFunctions.{HandlerMeets}
+use Rattle.cli_io.specs.IoState.{InputState, OutputState}
+use Rattle.cli_io.specs.WholeReading.{IsAll}
+use Rattle.demo_handler.specs.DemoFunctions.{demo_handler}
+use Rattle.demo_handler.specs.DemoReplies.{HandlerAnswers, output_reply}
+use Rattle.demo_handler.specs.ServiceFunctions.{HandlerMeets}
 use Rattle.web_cli.specs.ScriptAnswers.{is_valid_script}
 use Rattle.web_cli.specs.Run.{HasNoMemory, Headline, IsRefused, ServeResult, WritesAlone, WritesReplies}
 use Rattle.web_cli.specs.CommandWords.{usage}
 use Rattle.web_cli.specs.Run.{WritesText, WritesUsage}
 use Rattle.web_cli.specs.declared.words.Command.TheVariants.{Replay, Serve}
-use Rattle.web_generator.specs.declared.load.Load.{Load}
+use Rattle.cli_load.specs.declared.load.Load.{Load}
 use Rattle.web_cli.specs.WriteOrFault.{WritesOrFaults}
 use Rattle.web_cli.specs.declared.status.Status.{Status}
 use Rattle.web_cli.specs.declared.status.Status.TheVariants as status

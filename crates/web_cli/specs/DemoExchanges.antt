@@ -5,12 +5,12 @@ use Rattle.web_request.specs.Pool.{Pool, new_pool}
 use Rattle.web_body.specs.MemoryBodies.{marks_feed}
 use Rattle.web_body.specs.declared.payload.Payload.TheVariants as payload
 use Rattle.web_worker.specs.Exchanges.{ExchangeView}
-use Rattle.web_script.specs.ScriptedView.{ScriptedExchangeView}
-use Rattle.web_demo_layers.specs.declared.app.DemoLocal.{DemoLocal}
-use Rattle.web_demo_layers.specs.declared.app.DemoConn.{DemoConn}
-use Rattle.web_demo_layers.specs.declared.layer.DemoLayer.{DemoLayer}
-use Rattle.web_demo_layers.specs.DemoLayers.{no_layer}
-use Rattle.web_demo_layers.specs.DemoRequests.{demo_config, demo_parts}
+use Rattle.cli_script.specs.ScriptedView.{ScriptedExchangeView}
+use Rattle.demo_app.specs.declared.app.DemoLocal.{DemoLocal}
+use Rattle.demo_app.specs.declared.app.DemoConn.{DemoConn}
+use Rattle.demo_app.specs.declared.layer.DemoLayer.{DemoLayer}
+use Rattle.demo_app.specs.DemoLayers.{no_layer}
+use Rattle.demo_app.specs.DemoRequests.{demo_config, demo_parts}
 
 -- the pool of the program's worker, which keeps so many records
 abbrev pub demo_pool : ℕ → Pool DemoLayer

@@ -3,10 +3,10 @@ use Rattle.std.specs.Prelude.{◌≡◌, ◌++◌, ℕ, List, Option}
 use Rattle.std.specs.Option.{option_map}
 use Rattle.web_reply.specs.ResponseBodies.{Plain}
 use Rattle.web_reply.specs.Replies.{Reply}
-use Rattle.web_demo_picked.specs.declared.picked.Picked.{Picked}
-use Rattle.web_demo_layers.specs.DemoRequests.{DemoRequest}
-use Rattle.web_demo.specs.DemoFunctions.{demo_handler, picked_arguments}
-use Rattle.web_demo.specs.ServiceFunctions.{HandlerFunctions, HandlerMeets}
+use Rattle.demo_picked.specs.declared.picked.Picked.{Picked}
+use Rattle.demo_app.specs.DemoRequests.{DemoRequest}
+use Rattle.demo_handler.specs.DemoFunctions.{demo_handler, picked_arguments}
+use Rattle.demo_handler.specs.ServiceFunctions.{HandlerFunctions, HandlerMeets}
 use Rattle.web_cli.specs.LoadTexts.{summary_text}
 use Rattle.web_cli.specs.ScriptAnswers.{replies_text, script_calls}
 

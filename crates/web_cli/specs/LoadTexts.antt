@@ -1,16 +1,16 @@
 -- What `generate` and `replay` write of a load.
 use Rattle.std.specs.Prelude.{◌≡◌, ℕ, List, length}
-use Rattle.web_generator.specs.ScriptTexts.{script_text}
-use Rattle.web_generator.specs.declared.load.Load.{Load}
+use Rattle.cli_load.specs.ScriptTexts.{script_text}
+use Rattle.cli_load.specs.declared.load.Load.{Load}
 use Rattle.web_request.specs.Feed.{Feed}
 use Rattle.web_worker.specs.Setting.{Setting}
-use Rattle.web_script.specs.Script.{ScriptView, script_lines, script_view}
-use Rattle.web_print.specs.SummaryText.{summary}
-use Rattle.web_demo_layers.specs.declared.layer.DemoLayer.{DemoLayer}
-use Rattle.web_demo_layers.specs.declared.app.DemoLocal.{DemoLocal}
-use Rattle.web_demo_layers.specs.declared.app.DemoConn.{DemoConn}
-use Rattle.web_demo.specs.ServiceFunctions.{ArgumentFunctions, ArgumentsMeet}
-use Rattle.web_demo.specs.ServiceFunctions.{HandlerFunctions, HandlerMeets}
+use Rattle.cli_script.specs.Script.{ScriptView, script_lines, script_view}
+use Rattle.cli_print.specs.SummaryText.{summary}
+use Rattle.demo_app.specs.declared.layer.DemoLayer.{DemoLayer}
+use Rattle.demo_app.specs.declared.app.DemoLocal.{DemoLocal}
+use Rattle.demo_app.specs.declared.app.DemoConn.{DemoConn}
+use Rattle.demo_handler.specs.ServiceFunctions.{ArgumentFunctions, ArgumentsMeet}
+use Rattle.demo_handler.specs.ServiceFunctions.{HandlerFunctions, HandlerMeets}
 use Rattle.web_cli.specs.ScriptAnswers.{script_outcomes, script_pool}
 
 -- the script of a load

@@ -1,10 +1,10 @@
 -- What the command reads and writes, status by status.
 use Rattle.std.specs.Prelude.{◌≡◌, ◌<◌, ◌≤◌, ◌+◌, ◌⊎◌, ◌++◌, ℕ, List, [], length, codes, Some, true}
 use Rattle.web_texts.specs.Counts.{Rose}
-use Rattle.web_io.specs.IoState.{InputState, OutputState}
-use Rattle.web_io.specs.WholeReading.{limit, IsAll, IsTooLong, IsFault}
-use Rattle.web_io.specs.WholeWriting.{IsWritten, IsCutOff}
-use Rattle.web_print.specs.TextLines.{newline}
+use Rattle.cli_io.specs.IoState.{InputState, OutputState}
+use Rattle.cli_io.specs.WholeReading.{limit, IsAll, IsTooLong, IsFault}
+use Rattle.cli_io.specs.WholeWriting.{IsWritten, IsCutOff}
+use Rattle.cli_print.specs.TextLines.{newline}
 use Rattle.web_cli.specs.CommandWords.{usage}
 use Rattle.web_cli.specs.ScriptAnswers.{is_valid_script, IsFaultText}
 use Rattle.web_cli.specs.declared.status.Status.{Status}

@@ -13,19 +13,19 @@ use Rattle.web_worker.specs.PlanCalls.{calls_of}
 use Rattle.web_worker.specs.PlanOutcomes.{poll_count, outcome_of}
 use Rattle.web_worker.specs.PlanPools.{pool_after}
 use Rattle.web_worker.specs.Setting.{Setting}
-use Rattle.web_script.specs.ReasonTexts.{reason_text}
-use Rattle.web_script.specs.Script as script
-use Rattle.web_script.specs.Script.{ScriptView, script_lines, script_view}
-use Rattle.web_script.specs.ScriptedView.{ScriptedExchangeView}
-use Rattle.web_script.specs.declared.script.InvalidScript.{InvalidScript}
-use Rattle.web_print.specs.OutcomeText.{print}
-use Rattle.web_print.specs.TextLines.{newline}
-use Rattle.web_demo_layers.specs.declared.layer.DemoLayer.{DemoLayer}
-use Rattle.web_demo_layers.specs.declared.app.DemoLocal.{DemoLocal}
-use Rattle.web_demo_layers.specs.declared.app.DemoConn.{DemoConn}
-use Rattle.web_demo_layers.specs.DemoRequests.{demo_request}
-use Rattle.web_demo.specs.ServiceFunctions.{ArgumentFunctions, ArgumentsMeet}
-use Rattle.web_demo.specs.ServiceFunctions.{HandlerFunctions, HandlerMeets, delay_of, reply_of}
+use Rattle.cli_script.specs.ReasonTexts.{reason_text}
+use Rattle.cli_script.specs.Script as script
+use Rattle.cli_script.specs.Script.{ScriptView, script_lines, script_view}
+use Rattle.cli_script.specs.ScriptedView.{ScriptedExchangeView}
+use Rattle.cli_script.specs.declared.script.InvalidScript.{InvalidScript}
+use Rattle.cli_print.specs.OutcomeText.{print}
+use Rattle.cli_print.specs.TextLines.{newline}
+use Rattle.demo_app.specs.declared.layer.DemoLayer.{DemoLayer}
+use Rattle.demo_app.specs.declared.app.DemoLocal.{DemoLocal}
+use Rattle.demo_app.specs.declared.app.DemoConn.{DemoConn}
+use Rattle.demo_app.specs.DemoRequests.{demo_request}
+use Rattle.demo_handler.specs.ServiceFunctions.{ArgumentFunctions, ArgumentsMeet}
+use Rattle.demo_handler.specs.ServiceFunctions.{HandlerFunctions, HandlerMeets, delay_of, reply_of}
 use Rattle.web_cli.specs.DemoExchanges.{demo_exchange, demo_pool}
 use Rattle.web_cli.specs.declared.script_answer.ScriptAnswer.{ScriptAnswer}
 use Rattle.web_cli.specs.declared.script_answer.ScriptAnswer.TheVariants as answer

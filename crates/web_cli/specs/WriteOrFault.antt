@@ -1,7 +1,7 @@
 -- Writing the text that goes with a status.
 use Rattle.std.specs.Prelude.{◌≡◌, ◌⊎◌, ℕ, List}
-use Rattle.web_io.specs.IoState.{OutputState}
-use Rattle.web_io.specs.WholeWriting.{IsWritten, IsCutOff}
+use Rattle.cli_io.specs.IoState.{OutputState}
+use Rattle.cli_io.specs.WholeWriting.{IsWritten, IsCutOff}
 use Rattle.web_cli.specs.declared.status.Status.{Status}
 use Rattle.web_cli.specs.declared.status.Status.TheVariants as status
 

@@ -1,20 +1,20 @@
 //! The flights of a script's exchanges.
 ghost use Rattle.std.specs.Prelude.{◌≡◌, ◌<◌, ◌^◌, [], IfOk, true, length, map, option_map};
 ghost use Rattle.web_request.specs.Shared.{value_of, values};
-ghost use Rattle.web_demo_layers.specs.DemoLayers.{demo_layer};
+ghost use Rattle.demo_app.specs.DemoLayers.{demo_layer};
 ghost use Rattle.web_request.specs.Body.{is_body, piece_bytes};
 ghost use Rattle.web_body.specs.MemoryBodies.{marks_feed};
 ghost use Rattle.web_body.specs.declared.payload.Payload.TheVariants as payload;
-ghost use Rattle.web_demo_layers.specs.DemoRequests.{conn_of};
+ghost use Rattle.demo_app.specs.DemoRequests.{conn_of};
 
+use cli_script::{ExchangeSink, LayerSettings, ScriptedExchange};
+use demo_app::{Demo, DemoConn, DemoLayer, DemoLocal, demo_layers};
 use http::Version;
 use std::alloc::Global;
 use std::rc::Rc;
 use web_body::{Mark, Marks, Payload};
-use web_demo_layers::{Demo, DemoConn, DemoLayer, DemoLocal, demo_layers};
 use web_extract::FromRequest;
 use web_request::RequestHead;
-use web_script::{ExchangeSink, LayerSettings, ScriptedExchange};
 use web_texts::NoMemory;
 use web_worker::{Exchange, Flight, Handler};
 

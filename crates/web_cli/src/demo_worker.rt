@@ -2,9 +2,9 @@
 ghost use Rattle.std.specs.Prelude.{◌≡◌, IfOk};
 ghost use Rattle.web_cli.specs.DemoExchanges.{demo_pool};
 
+use demo_app::{Demo, DemoLayer};
 use std::alloc::Global;
 use std::rc::Rc;
-use web_demo_layers::{Demo, DemoLayer};
 use web_request::{AppConfig, IpAddr, SocketAddr};
 use web_texts::{NoMemory, Text};
 use web_worker::Worker;

@@ -13,21 +13,21 @@ mod status;
 mod words;
 mod writing;
 
+pub use cli_io::{
+    Input, MemInput, MemOutput, Output, PlainInput, PlainOutput, ReadAnswer, ReadWhole,
+    SCRIPT_LIMIT, StdInput, StdOutput, WriteAnswer, read_whole, write_whole,
+};
+pub use cli_load::{Load, script_text};
+pub use cli_script::{
+    ExchangeSink, InvalidScript, LayerSettings, Reason, Script, ScriptedExchange, first_fault_law,
+    read_script, read_script_into, target_law,
+};
 pub use demo_flights::DemoFlights;
-pub use serving::{run, run_program};
-pub use status::Status;
-pub use web_demo::{
+pub use demo_handler::{
     AllLines, Answer, Answering, CookieArguments, DataArguments, Delayed, Demo, DemoConn,
     DemoHandler, DemoLayer, DemoLocal, DemoOutput, Item, Late, LateFuture, Picked, PickedFuture,
     RawBody, Wait, demo_law, picked_law,
 };
-pub use web_generator::{Load, script_text};
-pub use web_io::{
-    Input, MemInput, MemOutput, Output, PlainInput, PlainOutput, ReadAnswer, ReadWhole,
-    SCRIPT_LIMIT, StdInput, StdOutput, WriteAnswer, read_whole, write_whole,
-};
-pub use web_script::{
-    ExchangeSink, InvalidScript, LayerSettings, Reason, Script, ScriptedExchange, first_fault_law,
-    read_script, read_script_into, target_law,
-};
+pub use serving::{run, run_program};
+pub use status::Status;
 pub use words::{Command, command_of};

@@ -13,12 +13,12 @@ ghost use Rattle.web_cli.specs.ScriptAnswers.{IsServed};
 use crate::demo_flights::DemoFlights;
 use crate::demo_worker::new_worker;
 use bytes::Bytes;
+use cli_print::printed;
+use cli_script::{InvalidScript, read_script_into};
+use demo_handler::Demo;
 use std::alloc::Global;
-use web_demo::Demo;
 use web_extract::FromRequest;
-use web_print::printed;
 use web_reply::Responder;
-use web_script::{InvalidScript, read_script_into};
 use web_texts::{Fail, NoMemory};
 use web_worker::{Flight, Handler, Outcome, Serves, Worker, serve_flights};
 

@@ -1,6 +1,6 @@
 //! The command: its words, its input and its output.
 ghost use Rattle.std.specs.Prelude.{◌≡◌, List, ℕ, None, map, string_bytes, ⊤};
-ghost use Rattle.web_generator.specs.declared.load.Load.{Load};
+ghost use Rattle.cli_load.specs.declared.load.Load.{Load};
 ghost use Rattle.web_worker.specs.HandlerPromises.{SamePromises};
 ghost use Rattle.web_cli.specs.DemoExchanges.{demo_pool};
 ghost use Rattle.web_cli.specs.CommandWords.{IfUncalled, IsGenerate, IsReplay, IsServe};
@@ -17,10 +17,10 @@ use crate::script_answer::{ScriptAnswer, answer_script};
 use crate::status::Status;
 use crate::words::{Command, USAGE, command_of};
 use crate::writing::write_or_fault;
+use cli_io::{Input, Output, ReadWhole, read_whole};
+use demo_handler::{Demo, DemoHandler, Picked};
 use std::alloc::Global;
-use web_demo::{Demo, DemoHandler, Picked};
 use web_extract::FromRequest;
-use web_io::{Input, Output, ReadWhole, read_whole};
 use web_reply::Responder;
 use web_worker::{Handler, Serves};
 
@@ -154,7 +154,7 @@ where
 /// pool of capacity N keeps and how many it made. The arguments of each exchange are those that the
 /// first segment of its path asks for.
 ///
-/// `generate SEED COUNT` writes the script of a load (see [`web_generator::script_text`]), of a
+/// `generate SEED COUNT` writes the script of a load (see [`cli_load::script_text`]), of a
 /// seed up to 2^64 - 1 and 1 to 50,000 exchanges. `replay SEED COUNT` serves that script by
 /// `handler` and writes a summary: its bytes, its exchanges, how many of them are unfinished, how
 /// many replies have each status, and how many records a pool of capacity 128 made. Both read

@@ -2,7 +2,7 @@
 ghost use Rattle.std.specs.Prelude.{◌≡◌, map, string_bytes};
 ghost use Rattle.web_cli.specs.CommandWords.{capacity_of, command_of, count_of, load_of};
 
-use web_generator::Load;
+use cli_load::Load;
 use web_texts::{cut_at, read_digits};
 
 /// The text that is written where the arguments are no command.

@@ -2,7 +2,7 @@
 ghost use Rattle.web_cli.specs.WriteOrFault.{WritesOrFaults};
 
 use crate::status::Status;
-use web_io::{Output, write_whole};
+use cli_io::{Output, write_whole};
 
 /// Writes the text and returns the status, or `WriteFault` where a write failed.
 pub(crate) fn write_or_fault<O: Output>(output: &mut O, text: &[u8], status: Status) -> Status

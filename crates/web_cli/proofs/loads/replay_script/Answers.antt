@@ -1,7 +1,7 @@
 use Rattle.std.proofs.Common.{◌≡◌, ◌∙◌, ap, arith, [], ℕ, List, length}
-use Rattle.web_script.specs.Script.{ScriptView, script_lines, script_view}
-use Rattle.web_script.specs.ScriptExchanges.{exchanges}
-use Rattle.web_script.specs.ScriptedView.{ScriptedExchangeView}
+use Rattle.cli_script.specs.Script.{ScriptView, script_lines, script_view}
+use Rattle.cli_script.specs.ScriptExchanges.{exchanges}
+use Rattle.cli_script.specs.ScriptedView.{ScriptedExchangeView}
 use Rattle.web_cli.proofs.DemoSettingLemmas.{demo_setting}
 use Rattle.web_cli.proofs.RepliesTextLemmas.{calls_same, summary_same}
 use Rattle.web_cli.proofs.loads.replay_script.Goals as goal

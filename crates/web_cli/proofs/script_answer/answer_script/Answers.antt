@@ -1,7 +1,7 @@
 use Rattle.std.proofs.Common.{◌∙◌, ◌++◌, ap, [], ℕ, List}
 use Rattle.std.specs.Option.{option_map}
-use Rattle.web_script.specs.Script.{script_lines, script_view}
-use Rattle.web_script.specs.ScriptExchanges.{exchanges}
+use Rattle.cli_script.specs.Script.{script_lines, script_view}
+use Rattle.cli_script.specs.ScriptExchanges.{exchanges}
 use Rattle.web_cli.specs.ScriptAnswers.{calls_to, replies_to}
 use Rattle.web_cli.proofs.script_answer.answer_script.Goals as goal
 

@@ -1,7 +1,7 @@
 use Rattle.std.proofs.Common.{◌≡◌}
-use Rattle.web_demo.specs.DemoFunctions.{picked_arguments}
-use Rattle.web_demo_picked.specs.PickedArguments.{MeansPicked}
-use Rattle.web_demo.proofs.DemoFunctionsLemmas.{picked_meets}
+use Rattle.demo_handler.specs.DemoFunctions.{picked_arguments}
+use Rattle.demo_picked.specs.PickedArguments.{MeansPicked}
+use Rattle.demo_handler.proofs.DemoFunctionsLemmas.{picked_meets}
 use Rattle.web_cli.specs.DemoScripts.{AppendsPickedCalls, ArePickedReplies, IsPickedSummary}
 use Rattle.web_cli.specs.LoadTexts.{IsSummary, load_script}
 use Rattle.web_cli.specs.ScriptAnswers.{AppendsScriptCalls, AreReplies}

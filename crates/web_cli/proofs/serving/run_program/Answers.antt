@@ -1,6 +1,6 @@
 use Rattle.std.specs.Prelude.{◌≡◌, None, ⊤}
-use Rattle.web_demo.specs.DemoFunctions.{demo_handler}
-use Rattle.web_demo.specs.DemoReplies.{HandlerAnswers, output_reply}
+use Rattle.demo_handler.specs.DemoFunctions.{demo_handler}
+use Rattle.demo_handler.specs.DemoReplies.{HandlerAnswers, output_reply}
 use Rattle.web_cli.specs.DemoScripts.{AppendsPickedCalls, ArePickedReplies, IsDemoSummary, IsDemoText}
 use Rattle.web_cli.specs.DemoScripts.{IsPickedSummary}
 use Rattle.web_cli.specs.LoadTexts.{load_script}

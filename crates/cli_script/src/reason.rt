@@ -1,0 +1,61 @@
+//! Why a line of a script is faulty.
+use std::fmt;
+
+/// Why a line of a script is faulty. The text of each is that of a refusal.
+#[derive(Clone, Copy, Debug, PartialEq, Eq)]
+pub enum Reason {
+    /// The word is none that a script has.
+    UnknownLine,
+    /// A line of another word than `plan` behind a `plan` line.
+    LineAfterPlan,
+    /// A line of an exchange before the first `exchange` line.
+    NoExchange,
+    /// A `text`, `piece`, `stall` or `fault` line behind a `fault` line of the same exchange.
+    MarkAfterFault,
+    /// A `header` line behind 1,024 of the same exchange.
+    TooManyHeaders,
+    /// The argument of an `exchange` line is not a method, one space and a target.
+    BadExchange,
+    /// The argument of a `header` line is not a field name and a field value.
+    BadHeader,
+    /// The argument of a `param` line is not a name and a value in UTF-8.
+    BadParam,
+    /// The argument of a `layer` line is not a list of settings.
+    BadLayer,
+    /// The argument of a `piece` line is not an even number of hexadecimal digits.
+    BadPiece,
+    /// The argument of a `peer` line is not an address of IPv4 with a port.
+    BadPeer,
+    /// The argument of a `local` or `conn` line is not a number up to 2^64 - 1.
+    BadNumber,
+    /// The argument of a `stall` or `fault` line is not empty.
+    BadMark,
+    /// The argument of a `plan` line is not a list of numbers up to 4,294,967,295.
+    BadPlan,
+}
+
+impl fmt::Display for Reason {
+    ghost use Rattle.std.specs.Prelude.{Some};
+    ghost use Rattle.cli_script.specs.ReasonTexts.{reason_text};
+
+    ghost output = { λ r. Some (reason_text r) };
+
+    fn fmt<W: fmt::Write>(&self, f: &mut fmt::Formatter<W>) -> fmt::Result {
+        f.write_str(match self {
+            Reason::UnknownLine => "unknown line",
+            Reason::LineAfterPlan => "line after plan",
+            Reason::NoExchange => "no exchange",
+            Reason::MarkAfterFault => "mark after fault",
+            Reason::TooManyHeaders => "too many headers",
+            Reason::BadExchange => "bad exchange",
+            Reason::BadHeader => "bad header",
+            Reason::BadParam => "bad param",
+            Reason::BadLayer => "bad layer",
+            Reason::BadPiece => "bad piece",
+            Reason::BadPeer => "bad peer",
+            Reason::BadNumber => "bad number",
+            Reason::BadMark => "bad mark",
+            Reason::BadPlan => "bad plan",
+        })
+    }
+}

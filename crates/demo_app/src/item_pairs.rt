@@ -1,0 +1,86 @@
+//! An item, as it is read from names with values and written.
+ghost use Rattle.std.specs.Prelude.{◌≡◌, IfOk};
+ghost use Rattle.web_values.specs.Answers.{AnswersBy};
+ghost use Rattle.web_values.specs.FormPairs.{values_of};
+ghost use Rattle.demo_app.specs.Items.{because, one_value};
+
+use crate::item::Item;
+use std::alloc::Global;
+use web_texts::{Fail, NoMemory, Pair, Text, read_digits};
+use web_values::{ReadFault, ReadPairs, WriteFault, WritePairs};
+
+/// The value of a name that comes once. The texts are those of the refusals where it comes not at
+/// all, and where it comes again.
+fn one_value<'a>(
+    alloc: Global,
+    pairs: &'a [Pair],
+    name: &str,
+    missing: &str,
+    twice: &str,
+) -> Result<&'a str, Fail<ReadFault>>
+    ensures { AnswersBy (λ value. value.now) (λ x. x
+        ≡ one_value (because missing.now) (because twice.now) (values_of name.now pairs.now)
+        ) result }
+{
+    let mut found: Option<&'a str> = None;
+    for pair in pairs {
+        if pair.name.as_str() == name {
+            if found.is_some() {
+                return Err(ReadFault::refusal(alloc, twice));
+            }
+            found = Some(pair.value.as_str());
+        }
+    }
+    match found {
+        Some(value) => Ok(value),
+        None => Err(ReadFault::refusal(alloc, missing)),
+    }
+}
+
+/// The name `name` and the name `n`, whose value is a number of 0 to 2^64 - 1 in digits, each once.
+/// Further names are ignored. The refusals, in the order of their tests: `missing name`,
+/// `duplicate name`, `missing n`, `duplicate n`, `n is no number`.
+impl ReadPairs for Item {
+    ghost use Rattle.std.specs.Prelude.{◌≡◌};
+    ghost use Rattle.demo_app.specs.Items.{item_of_pairs};
+
+    ghost reads_pairs = { λ pairs x. x ≡ item_of_pairs pairs };
+
+    fn read_pairs(alloc: Global, pairs: &[Pair]) -> Result<Item, Fail<ReadFault>> {
+        let name = one_value(alloc, pairs, "name", "missing name", "duplicate name")?;
+        let n = one_value(alloc, pairs, "n", "missing n", "duplicate n")?;
+        let Some(n) = read_digits(n, u64::MAX) else {
+            return Err(ReadFault::refusal(alloc, "n is no number"));
+        };
+        Ok(Item {
+            name: Text::of(alloc, name)?,
+            n,
+        })
+    }
+}
+
+/// The pair of these texts.
+fn pair_of(alloc: Global, name: &str, value: &str) -> Result<Pair, NoMemory>
+    ensures { IfOk result (λ pair. pair ≡ record { name = name.now; value = value.now }) }
+{
+    Ok(Pair {
+        name: Text::of(alloc, name)?,
+        value: Text::of(alloc, value)?,
+    })
+}
+
+/// The pairs `name` and `n`, in this order, the number in decimal. No item is refused.
+impl WritePairs for Item {
+    ghost use Rattle.std.specs.Prelude.{◌≡◌, Ok};
+    ghost use Rattle.demo_app.specs.Items.{pairs_of_item};
+
+    ghost writes_pairs = { λ item written. written ≡ Ok (pairs_of_item item) };
+
+    fn write_pairs(&self, alloc: Global) -> Result<Vec<Pair>, Fail<WriteFault>> {
+        let mut pairs = Vec::new(alloc);
+        pairs.push(pair_of(alloc, "name", self.name.as_str())?)?;
+        let n = self.n.to_string(alloc)?;
+        pairs.push(pair_of(alloc, "n", n.as_str())?)?;
+        Ok(pairs)
+    }
+}

@@ -1,0 +1,23 @@
+//! The demo application: its handler. The arguments of the handler stand in `demo_arguments`
+//! and `demo_picked`, and are re-exported here.
+#![tactic(auto)]
+
+mod answer;
+mod answering;
+mod handler;
+mod law;
+mod texts;
+
+pub use answer::{Answer, DemoOutput};
+pub use answering::Answering;
+pub use demo_app::{Demo, DemoConn, DemoLayer, DemoLocal, Item};
+pub use demo_arguments::{
+    AllLines, AllLinesFuture, CookieArguments, DataArguments, Delayed, Late, LateFuture, RawBody,
+    Wait,
+};
+pub use demo_picked::{
+    BoxedFuture, DataFuture, DecodedFuture, EitherItemFuture, FutureOf, IntoPicked, ItemFuture,
+    LinesFuture, OptionalFuture, Picked, PickedFuture, picked_law,
+};
+pub use handler::DemoHandler;
+pub use law::demo_law;

@@ -1,0 +1,226 @@
+//! Arguments that decode the body.
+ghost use Rattle.std.specs.Prelude.{◌≡◌, ◌⊎◌, IfOk, false};
+ghost use Rattle.web_body.specs.Payload.{payload_feed};
+ghost use Rattle.web_extract.specs.Extracts.{Extracts};
+ghost use Rattle.demo_picked.specs.BoxedFutures.{GivesOrAll, GivesWithin};
+ghost use Rattle.demo_picked.specs.PickedArguments.{MeansDecoded};
+
+use crate::boxed_future::BoxedFuture;
+use crate::picked::Picked;
+use crate::picked_future::{FutureOf, begin};
+use bytes::Bytes;
+use demo_app::{Demo, Item};
+use demo_arguments::DecodedChoice;
+use std::alloc::Global;
+use web_body::{Marks, Payload, Poll, Step};
+use web_extract::EitherFuture::{Left, Right};
+use web_extract::{Capped, CappedFut, EitherFuture, MapInto, from_request_into};
+use web_reply::Error;
+use web_request::{HttpRequest, NoMemory};
+use web_types::{Either, Form, Json, JsonExtractFut};
+
+// Not a `FutureOf`: other crates do not read an impl with a constant behind its bound.
+type CappedItemFuture = MapInto<CappedFut<JsonExtractFut<Item, Demo>, 16>, Picked, Error>;
+
+type CappedOrForm = EitherFuture<CappedItemFuture, FutureOf<Form<Item>>>;
+
+type JsonOrForm = EitherFuture<FutureOf<Json<Item>>, CappedOrForm>;
+
+/// The future of an item of the body, in memory of its own.
+#[derive(Drop)]
+pub struct ItemFuture {
+    future: BoxedFuture<JsonOrForm>,
+}
+
+impl ItemFuture {
+    fn new(alloc: Global, future: JsonOrForm) -> Result<ItemFuture, NoMemory>
+        requires unfinished { ⟦<JsonOrForm as Poll>⟧.is_finished future ≡ false }
+        ensures fresh { IfOk result (λ made. ⟦<ItemFuture as Poll>⟧.is_finished made ≡ false) }
+        ensures gives { IfOk result (λ made. GivesWithin
+            (λ n x. ⟦<ItemFuture as Poll>⟧.gives made n x)
+            (λ n x. ⟦<JsonOrForm as Poll>⟧.gives future n x)) }
+    {
+        Ok(ItemFuture {
+            future: BoxedFuture::new(alloc, future)?,
+        })
+    }
+}
+
+impl Poll for ItemFuture {
+    ghost use Rattle.std.specs.Prelude.{Ok};
+    ghost use Rattle.demo_picked.specs.BoxedFutures.{gives_or_all_some};
+    ghost use Rattle.demo_picked.specs.declared.picked.Picked.TheVariants as picked;
+
+    type Output = Result<Picked, Error>;
+
+    ghost is_finished = { λ f. ⟦<JsonOrForm as Poll>⟧.is_finished f.future.future.value };
+
+    ghost gives = { λ f n x. GivesOrAll
+        (λ k y. ⟦<JsonOrForm as Poll>⟧.gives f.future.future.value k y) n x };
+
+    ghost needs_no_memory = { λ f. ⟦<JsonOrForm as Poll>⟧.needs_no_memory f.future.future.value };
+
+    ghost some = { λ f h. gives_or_all_some
+        (λ k y. ⟦<JsonOrForm as Poll>⟧.gives f.future.future.value k y) (Ok picked.Other) };
+
+    fn finished(&self) -> bool {
+        self.future.finished()
+    }
+
+    fn poll(&mut self, alloc: Global) -> Step<Result<Picked, Error>> {
+        self.future.poll(alloc)
+    }
+}
+
+type JsonElseForm = FutureOf<Either<Json<Item>, Form<Item>>>;
+
+/// The future of an item of the body as JSON, and where that is refused as a form, in memory of its
+/// own.
+#[derive(Drop)]
+pub struct EitherItemFuture {
+    future: BoxedFuture<JsonElseForm>,
+}
+
+impl EitherItemFuture {
+    fn new(alloc: Global, future: JsonElseForm) -> Result<EitherItemFuture, NoMemory>
+        requires unfinished { ⟦<JsonElseForm as Poll>⟧.is_finished future ≡ false }
+        ensures fresh { IfOk result (λ made.
+            ⟦<EitherItemFuture as Poll>⟧.is_finished made ≡ false) }
+        ensures gives { IfOk result (λ made. GivesWithin
+            (λ n x. ⟦<EitherItemFuture as Poll>⟧.gives made n x)
+            (λ n x. ⟦<JsonElseForm as Poll>⟧.gives future n x)) }
+    {
+        Ok(EitherItemFuture {
+            future: BoxedFuture::new(alloc, future)?,
+        })
+    }
+}
+
+impl Poll for EitherItemFuture {
+    ghost use Rattle.std.specs.Prelude.{Ok};
+    ghost use Rattle.demo_picked.specs.BoxedFutures.{gives_or_all_some};
+    ghost use Rattle.demo_picked.specs.declared.picked.Picked.TheVariants as picked;
+
+    type Output = Result<Picked, Error>;
+
+    ghost is_finished = { λ f. ⟦<JsonElseForm as Poll>⟧.is_finished f.future.future.value };
+
+    ghost gives = { λ f n x. GivesOrAll
+        (λ k y. ⟦<JsonElseForm as Poll>⟧.gives f.future.future.value k y) n x };
+
+    ghost needs_no_memory = { λ f. ⟦<JsonElseForm as Poll>⟧.needs_no_memory f.future.future.value };
+
+    ghost some = { λ f h. gives_or_all_some
+        (λ k y. ⟦<JsonElseForm as Poll>⟧.gives f.future.future.value k y) (Ok picked.Other) };
+
+    fn finished(&self) -> bool {
+        self.future.finished()
+    }
+
+    fn poll(&mut self, alloc: Global) -> Step<Result<Picked, Error>> {
+        self.future.poll(alloc)
+    }
+}
+
+type OptionOrResult = EitherFuture<
+    FutureOf<(Option<Json<Item>>, Bytes)>,
+    FutureOf<Result<Json<Item>, Error>>,
+>;
+
+/// The future of an item that may be refused, in memory of its own.
+#[derive(Drop)]
+pub struct OptionalFuture {
+    future: BoxedFuture<OptionOrResult>,
+}
+
+impl OptionalFuture {
+    fn new(alloc: Global, future: OptionOrResult) -> Result<OptionalFuture, NoMemory>
+        requires unfinished { ⟦<OptionOrResult as Poll>⟧.is_finished future ≡ false }
+        ensures fresh { IfOk result (λ made. ⟦<OptionalFuture as Poll>⟧.is_finished made ≡ false) }
+        ensures gives { IfOk result (λ made. GivesWithin
+            (λ n x. ⟦<OptionalFuture as Poll>⟧.gives made n x)
+            (λ n x. ⟦<OptionOrResult as Poll>⟧.gives future n x)) }
+    {
+        Ok(OptionalFuture {
+            future: BoxedFuture::new(alloc, future)?,
+        })
+    }
+}
+
+impl Poll for OptionalFuture {
+    ghost use Rattle.std.specs.Prelude.{Ok};
+    ghost use Rattle.demo_picked.specs.BoxedFutures.{gives_or_all_some};
+    ghost use Rattle.demo_picked.specs.declared.picked.Picked.TheVariants as picked;
+
+    type Output = Result<Picked, Error>;
+
+    ghost is_finished = { λ f. ⟦<OptionOrResult as Poll>⟧.is_finished f.future.future.value };
+
+    ghost gives = { λ f n x. GivesOrAll
+        (λ k y. ⟦<OptionOrResult as Poll>⟧.gives f.future.future.value k y) n x };
+
+    ghost needs_no_memory = { λ f.
+        ⟦<OptionOrResult as Poll>⟧.needs_no_memory f.future.future.value };
+
+    ghost some = { λ f h. gives_or_all_some
+        (λ k y. ⟦<OptionOrResult as Poll>⟧.gives f.future.future.value k y) (Ok picked.Other) };
+
+    fn finished(&self) -> bool {
+        self.future.finished()
+    }
+
+    fn poll(&mut self, alloc: Global) -> Step<Result<Picked, Error>> {
+        self.future.poll(alloc)
+    }
+}
+
+/// The future of arguments that decode the body.
+pub type DecodedFuture = EitherFuture<ItemFuture, EitherFuture<EitherItemFuture, OptionalFuture>>;
+
+/// Begins with arguments that decode the body.
+///
+/// It stands apart, since the variables of every choice would be cleared for each request.
+#[inline(never)]
+pub(crate) fn decoded_future(
+    alloc: Global,
+    req: &HttpRequest<Demo>,
+    payload: &mut Payload<Marks>,
+    choice: DecodedChoice,
+) -> Result<DecodedFuture, NoMemory>
+    ensures fresh { IfOk result (λ f. ⟦<DecodedFuture as Poll>⟧.is_finished f ≡ false) }
+    ensures extracts { IfOk result (λ f. Extracts
+        (λ m rest n x. MeansDecoded choice req.now.request m rest n x)
+        (λ n x. ⟦<DecodedFuture as Poll>⟧.gives f n x)
+        (payload_feed (λ feed. feed) payload.old).marks
+        (payload_feed (λ feed. feed) payload.new).marks) }
+    ensures payload { (payload.new ≡ payload.old) ⊎ (payload.new ≡ Payload.None) }
+{
+    match choice {
+        DecodedChoice::Json => {
+            let future = begin::<Json<Item>>(alloc, req, payload)?;
+            Ok(Left(ItemFuture::new(alloc, Left(future))?))
+        }
+        DecodedChoice::CappedJson => {
+            let future = from_request_into::<Demo, Capped<Json<Item>, 16>, Picked, Error>(
+                alloc, req, payload,
+            )?;
+            Ok(Left(ItemFuture::new(alloc, Right(Left(future)))?))
+        }
+        DecodedChoice::Form => {
+            let future = begin::<Form<Item>>(alloc, req, payload)?;
+            Ok(Left(ItemFuture::new(alloc, Right(Right(future)))?))
+        }
+        DecodedChoice::Either => {
+            let future = begin::<Either<Json<Item>, Form<Item>>>(alloc, req, payload)?;
+            Ok(Right(Left(EitherItemFuture::new(alloc, future)?)))
+        }
+        DecodedChoice::Option => {
+            let future = begin::<(Option<Json<Item>>, Bytes)>(alloc, req, payload)?;
+            Ok(Right(Right(OptionalFuture::new(alloc, Left(future))?)))
+        }
+        DecodedChoice::Result => {
+            let future = begin::<Result<Json<Item>, Error>>(alloc, req, payload)?;
+            Ok(Right(Right(OptionalFuture::new(alloc, Right(future))?)))
+        }
+    }
+}

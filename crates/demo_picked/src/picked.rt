@@ -1,0 +1,139 @@
+//! The arguments that the first segment of a path asks for.
+ghost use Rattle.std.specs.Prelude.{◌≡◌, ℕ, List, Result};
+ghost use Rattle.web_request.specs.declared.source.Mark.{Mark};
+ghost use Rattle.web_reply.specs.Replies.{Fault};
+ghost use Rattle.demo_app.specs.DemoRequests.{DemoRequest};
+ghost use Rattle.demo_picked.specs.PickedArguments.{MeansPicked, picked_delay, picked_result};
+
+use crate::decoded::{DecodedFuture, decoded_future};
+use crate::lists::{DataFuture, LinesFuture, data_future, lines_future};
+use crate::picked_future::{FutureOf, begin};
+use crate::ready::{head_future, read_future};
+use bytes::Bytes;
+use demo_app::{Demo, Item};
+use demo_arguments::{
+    AllLines, Choice, CookieArguments, DataArguments, Late, RawBody, Wait, choice_of,
+};
+use std::alloc::Global;
+use web_arguments::{Header, Path, Query};
+use web_body::{Marks, Payload};
+use web_extract::EitherFuture::{Left, Right};
+use web_extract::{Capped, EitherFuture, FromRequest, Ready};
+use web_headers::Accept;
+use web_reply::Error;
+use web_request::{ConnectionInfo, HttpRequest, NoMemory};
+use web_texts::Text;
+use web_types::{Either, Form, Json};
+
+/// The arguments that the first segment of the path asks for.
+#[derive(Drop)]
+pub enum Picked {
+    /// Of `/bytes`: the body.
+    Bytes(Bytes),
+    /// Of `/text`: the body as a text.
+    Text(Text),
+    /// Of `/json`: the body as JSON.
+    Json(Json<Item>),
+    /// Of `/capped`: the body, of at most 4 bytes.
+    Capped(Capped<Bytes, 4>),
+    /// Of `/capped-json`: the body as JSON, of at most 16 bytes.
+    CappedJson(Capped<Json<Item>, 16>),
+    /// Of `/form`: the body as a form.
+    Form(Form<Item>),
+    /// Of `/either`: the body as JSON, and where that is refused as a form.
+    Either(Either<Json<Item>, Form<Item>>),
+    /// Of `/option`: the body as JSON, where it is not refused, and what is left of it.
+    Option(Option<Json<Item>>, Bytes),
+    /// Of `/result`: the body as JSON, or its refusal.
+    Result(Result<Json<Item>, Error>),
+    /// Of `/path`: the parameters.
+    Path(Path<Item>),
+    /// Of `/query`: the query.
+    Query(Query<Item>),
+    /// Of `/header`: the header Accept.
+    Header(Header<Accept>),
+    /// Of `/data`: the data of the layers and of the request, and the request.
+    Data(DataArguments),
+    /// Of `/raw`: the body, unread.
+    Raw(RawBody),
+    /// Of `/who`: where the request came from and was sent to.
+    Who(ConnectionInfo),
+    /// Of `/cookies`: the request, whose cookies are read.
+    Cookies(CookieArguments),
+    /// Of `/lines`: the lines of the body.
+    Lines(AllLines),
+    /// Of `/both`: the body as a text, and an argument that comes late.
+    Both(Text, Late),
+    /// Of `/wait`: how long the handler waits.
+    Wait(Wait),
+    /// Of any other path: no argument.
+    Other,
+}
+
+/// The future of the arguments that were chosen.
+pub type PickedFuture = EitherFuture<
+    EitherFuture<
+        EitherFuture<FutureOf<Bytes>, FutureOf<String>>,
+        EitherFuture<FutureOf<(String, Late)>, FutureOf<Capped<Bytes, 4>>>,
+    >,
+    EitherFuture<
+        EitherFuture<Ready<Result<Picked, Error>>, DecodedFuture>,
+        EitherFuture<DataFuture, LinesFuture>,
+    >,
+>;
+
+/// The arguments that the first segment of the path asks for, and no others.
+impl FromRequest<Demo> for Picked {
+    ghost use Rattle.web_extract.specs.SomeAnswer.{itself};
+    ghost use Rattle.demo_picked.specs.PickedArguments.{MeansPicked, PickedNeedsNoMemory};
+    ghost use Rattle.demo_picked.specs.PickedArguments.{picked_some};
+
+    type Error = Error;
+
+    type Future = PickedFuture;
+
+    ghost means = { λ q m rest n x. MeansPicked q m rest n x };
+
+    ghost needs_no_memory = { λ q. PickedNeedsNoMemory q };
+
+    ghost some = { λ q m. picked_some q m };
+
+    ghost converted = { itself };
+
+    fn from_request(
+        alloc: Global,
+        req: &HttpRequest<Demo>,
+        payload: &mut Payload<Marks>,
+    ) -> Result<PickedFuture, NoMemory> {
+        match choice_of(req.path()) {
+            Choice::Bytes => Ok(Left(Left(Left(begin::<Bytes>(alloc, req, payload)?)))),
+            Choice::Text => Ok(Left(Left(Right(begin::<String>(alloc, req, payload)?)))),
+            Choice::Both => Ok(Left(Right(Left(begin::<(String, Late)>(alloc, req, payload)?)))),
+            Choice::Capped => {
+                let future = begin::<Capped<Bytes, 4>>(alloc, req, payload)?;
+                Ok(Left(Right(Right(future))))
+            }
+            Choice::Data => Ok(Right(Right(Left(data_future(alloc, req, payload)?)))),
+            Choice::Lines => Ok(Right(Right(Right(lines_future(alloc, req, payload)?)))),
+            Choice::Decoded(choice) => {
+                let future = decoded_future(alloc, req, payload, choice)?;
+                Ok(Right(Left(Right(future))))
+            }
+            Choice::Read(choice) => {
+                let future = read_future(alloc, req, payload, choice)?;
+                Ok(Right(Left(Left(future))))
+            }
+            Choice::Head(choice) => {
+                let future = head_future(alloc, req, payload, choice)?;
+                Ok(Right(Left(Left(future))))
+            }
+        }
+    }
+}
+
+/// For a request and the marks of its payload, one delay and one result of the arguments are
+/// allowed.
+pub fn picked_law()
+    ensures { (q : DemoRequest) (m rest : List Mark) (n : ℕ) (x : Result Picked Fault)
+        → MeansPicked q m rest n x → (n ≡ picked_delay q m) × (x ≡ picked_result q m) }
+{}
