@@ -1,6 +1,6 @@
 -- Headers that are changed one by one.
 use Rattle.std.proofs.Common.{◌≡◌, ℕ, ◌⊎◌, List, [], ◌∷◌, IfOk, refl, ap, ◌∙◌, subst, inl, inr}
-use Rattle.std.specs.Prelude.{Option, Result, Ok, Err, IsOk, length, ◌==◌, true}
+use Rattle.std.specs.Prelude.{Option, Result, Ok, Err, IsOk}
 use Rattle.std.specs.List.{fold}
 use Rattle.std.specs.Option.{unwrap_or}
 use Rattle.std.proofs.lemmas.Bool.{cases_Bool}
@@ -10,7 +10,7 @@ use Rattle.web_reply.specs.ResponseBodies.{Plain, either_plain, whole_plain}
 use Rattle.web_reply.specs.Replies.{Reply, plain_reply}
 use Rattle.web_reply.specs.declared.cause.HttpError.{HttpError}
 use Rattle.web_reply.specs.declared.cause.HttpError.TheVariants.{MaxSize}
-use Rattle.web_reply.specs.HeaderSteps.{Headers, and_place_each, place, place_each, refuses_append, refuses_insert}
+use Rattle.web_reply.specs.HeaderSteps.{Headers, and_place_each, place, refuses_append, refuses_insert}
 use Rattle.web_build.specs.Customized.{Customized, Fits, LayersOwn, either_reply, insert_all, layer_headers, layered, stacked, with_layers}
 use Rattle.web_reply.specs.declared.body.EitherBody.{EitherBody}
 use Rattle.web_reply.specs.declared.body.WholeBody.{WholeBody}
@@ -46,11 +46,6 @@ module _ (placing : Placing) (change : Headers → Header → Headers) (changes 
 first_fits : (placing : Placing) (hs : List Header) (s : Result Headers HttpError) → IsOk (and_place_each placing s hs) → IsOk s
 first_fits placing hs (Ok m) ok = refl
 first_fits placing hs (Err e) ok = ok
-
--- where no header is set, the headers stay
-pub none_placed : (placing : Placing) (added m : Headers) → (length added == 0) ≡ true → place_each placing (pairs added) m ≡ Ok m
-none_placed placing [] m none = refl
-none_placed placing (header ∷ more) m none = absurd (cc)
 
 pub is_stacked : {R : Type 0} (c : Customized R) (own : Reply Plain) → Fits c own → layered c own ≡ stacked c own
 is_stacked c own fits =
