@@ -9,9 +9,9 @@ use Rattle.web_texts.specs.Cut.{IsCut}
 use Rattle.web_texts.proofs.SplitLemmas.{no_cut}
 use Rattle.web_body.specs.declared.lines_error.ReadlinesError.TheVariants.{LimitOverflow}
 use Rattle.web_lines.specs.declared.line_cut.LineCut.{LineCut}
-use Rattle.web_lines.specs.LineCuts.{Cuts, GivesError, IsUnfinished, TakesLine}
+use Rattle.web_lines.specs.LineCuts.{Cuts, GivesError, IsTooLong, IsUnfinished, TakesLine}
 use Rattle.web_lines.specs.Lines.{is_newline}
-use Rattle.web_lines.proofs.LineCutLemmas.{has_line, line_cuts, line_too_long, taken_front}
+use Rattle.web_lines.proofs.LineCutLemmas.{has_line, line_cuts, line_too_long, not_long, taken_front}
 
 none_at : (piece : List ℕ) (end : ℕ) → Nowhere (Passes (is_byte 10) piece) 0 end → (k : ℕ) → k < end → (get_or piece k 0 == 10) ≡ false
 none_at piece end none k small = false_from_ne_true (get_or piece k 0 == 10) (none k (omega arith) small)
@@ -47,6 +47,9 @@ module _ (limit : ℕ) (held piece searched : List ℕ) (on : IsUnfinished limit
 
   pub not_unfinished : IsUnfinished limit (held ++ piece) → ⊥
   not_unfinished all = has_line limit held piece (take place piece) (drop (place + 1) piece) on cut_there all
+
+  pub newline_within : length held + place + 1 ≤ limit → IsTooLong limit (held ++ piece) → ⊥
+  newline_within near long = let size = front_size in not_long limit held piece (take place piece) (drop (place + 1) piece) on cut_there (omega (arith, near, size)) long
 
   pub newline_cuts : length held + place + 1 ≤ limit → length piece < 18446744073709551616 → (result : LineCut) (end new rest : List ℕ) → end ≡ take (place + 1) piece → rest ≡ drop (place + 1) piece
       → TakesLine (held ++ end) result new → Cuts limit held piece result new rest

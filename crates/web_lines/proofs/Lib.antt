@@ -1,5 +1,6 @@
 pub mod LineLemmas
 pub mod ScheduleLemmas
+pub mod LineMemoryLemmas
 pub mod LineCutLemmas
 pub mod LineTurnLemmas
 pub mod NextLineLemmas

@@ -12,7 +12,7 @@ use Rattle.web_body.specs.declared.payload.Payload.{Payload}
 use Rattle.web_body.specs.declared.payload.Payload.TheVariants as kind
 use Rattle.web_body.specs.declared.poll.Step.{Step}
 use Rattle.web_body.specs.declared.poll.Step.TheVariants as step
-use Rattle.web_body.specs.PollSteps.{IsPending, OnPending}
+use Rattle.web_body.specs.PollSteps.{IsPending, NeverNoMemory, OnPending}
 use Rattle.web_body.specs.Collector.{StallsNext}
 use Rattle.web_body.specs.Payload.{KeepsPayload, bytes_between, payload_feed}
 use Rattle.web_lines.specs.declared.lines_collector.Progress.{Progress}
@@ -20,6 +20,7 @@ use Rattle.web_lines.specs.declared.lines_collector.Progress.TheVariants.{Over, 
 use Rattle.web_lines.specs.Lines.{Answer}
 use Rattle.web_lines.specs.LastPieces.{LastTaken}
 use Rattle.web_lines.specs.LineCuts.{IsUnfinished}
+use Rattle.web_lines.specs.LineMemory.{NeedsNoMemory}
 use Rattle.web_lines.specs.LineReader.{LineReader}
 use Rattle.web_lines.specs.LineSchedules.{Schedule, error_due, line_due, nothing_due, one_later}
 use Rattle.web_lines.specs.LineSchedules.{schedule}
@@ -64,6 +65,12 @@ abbrev pub IsReading : Progress → Type 0
 IsReading (Refused error) = ⊥
 IsReading Reading = ⊤
 IsReading Over = ⊥
+
+-- the message was refused for its content type
+abbrev pub OnRefused : Progress → (ContentTypeError → Type 0) → Type 0
+OnRefused (Refused error) P = P error
+OnRefused Reading P = ⊤
+OnRefused Over P = ⊤
 
 -- what came stays only while it reads
 abbrev pub HoldsNothing : Progress → List ℕ → Type 0
@@ -179,3 +186,5 @@ pub record ReadsLine {S : Type 0} (feed : S → Feed) (old : LineReader S) (s : 
       (payload_feed feed old.payload).marks old.last (payload_feed feed new.payload).marks new.last
   pub stalled : IsUnfinished old.limit old.came → StallsNext (payload_feed feed old.payload).marks
       → IsPending s
+  pub memory : NeedsNoMemory old.limit old.came (payload_feed feed old.payload).marks
+      → NeverNoMemory s

@@ -21,6 +21,11 @@ lines_of [] = []
 lines_of (b ∷ bytes) =
     if is_newline b then (b ∷ []) ∷ lines_of bytes else onto_line b (lines_of bytes)
 
+-- the first of these lines, and nothing where there is none
+abbrev pub first_of : List (List ℕ) → List ℕ
+first_of [] = []
+first_of (line ∷ lines) = line
+
 abbrev pub Answer : Type 0
 Answer = Result (List ℕ) ReadlinesError
 

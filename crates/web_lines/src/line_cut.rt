@@ -1,6 +1,7 @@
 //! The first line of the bytes that came.
-ghost use Rattle.std.specs.Prelude.{◌≡◌, ◌≤◌, ◌++◌, [], OnOk, length};
-ghost use Rattle.web_lines.specs.LineCuts.{Cuts, IsSearched, IsUnfinished, LeavesFront, TakesLine};
+ghost use Rattle.std.specs.Prelude.{◌≡◌, ◌<◌, ◌≤◌, ◌++◌, [], OnErr, OnOk, length};
+ghost use Rattle.web_lines.specs.LineCuts.{Cuts, IsSearched, IsUnfinished, LeavesFront, RefusesLong};
+ghost use Rattle.web_lines.specs.LineCuts.{TakesLine};
 
 use bytes::Bytes;
 use memchr::memchr;
@@ -29,6 +30,7 @@ pub fn cut_line(alloc: Global, held: &mut Vec<u8>, piece: &mut Bytes, limit: usi
     requires unfinished { IsUnfinished limit held.old.items }
     ensures cuts { Cuts limit held.old.items piece.old result held.new.items piece.new }
     ensures front { LeavesFront limit (held.old.items ++ piece.old) result }
+    ensures long { RefusesLong limit (held.old.items ++ piece.old) result }
     ensures left { length piece.new ≤ length piece.old }
 {
     let room = limit - held.len();
@@ -64,6 +66,7 @@ pub fn next_cut(
     requires searched { IsSearched limit is_searched.old (held.old.items ++ piece.old) }
     ensures cuts { Cuts limit held.old.items piece.old result held.new.items piece.new }
     ensures front { LeavesFront limit (held.old.items ++ piece.old) result }
+    ensures long { RefusesLong limit (held.old.items ++ piece.old) result }
     ensures left { length piece.new ≤ length piece.old }
     ensures searched { IsSearched limit is_searched.new (held.new.items ++ piece.new) }
 {
@@ -103,6 +106,7 @@ fn as_line(line: Vec<u8>) -> LineCut
 pub fn hold_piece(held: &mut Vec<u8>, piece: &mut Bytes, next: Bytes) -> Result<(), NoMemory>
     ensures held { OnOk result (held.new.items ≡ held.old.items ++ piece.old) }
     ensures piece { OnOk result (piece.new ≡ next) }
+    ensures memory { OnErr result (0 < length piece.old) }
 {
     held.extend_from_slice(piece.as_slice())?;
     *piece = next;

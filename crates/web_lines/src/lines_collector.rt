@@ -1,17 +1,20 @@
 //! The lines of a body, one by one.
 ghost use Rattle.std.specs.Prelude.{◌≡◌, ◌+◌, ◌<◌, ◌≤◌, ◌++◌, [], None, IfOk, OnErr, OnOk, length};
+ghost use Rattle.std.specs.Prelude.{Some, Err};
 ghost use Rattle.web_texts.specs.Counts.{Rose};
 ghost use Rattle.web_request.specs.MessageFields.{encoding_of};
 ghost use Rattle.web_body.specs.Collector.{StallsNext};
 ghost use Rattle.web_body.specs.Payload.{KeepsPayload, bytes_between, payload_feed};
-ghost use Rattle.web_body.specs.PollSteps.{IsPending, OnPending};
+ghost use Rattle.web_body.specs.PollSteps.{IsPending, NeverNoMemory, OnPending};
 ghost use Rattle.web_lines.specs.LineCuts.{IsSearched, IsUnfinished, TakesLine};
 ghost use Rattle.web_lines.specs.LineReading.{Buffers, IsReading, IsUnpolled, OnEnd, OnFault};
 ghost use Rattle.web_lines.specs.LastPieces.{LastTaken};
-ghost use Rattle.web_lines.specs.LineReading.{OnLine, OnTooLong, ReadsLine, StepGives};
+ghost use Rattle.web_lines.specs.LineMemory.{NeedsNoMemory};
+ghost use Rattle.web_lines.specs.LineReading.{OnLine, OnRefused, OnTooLong, ReadsLine, StepGives};
 ghost use Rattle.web_lines.specs.LineReading.{default_limit, new_reader, progress_after};
 ghost use Rattle.web_lines.specs.LineReading.{schedule_of, taken_from, work_left};
 ghost use Rattle.web_lines.specs.NextLines.{BuffersLine, LastLine, MayGoOn, NextLine};
+ghost use Rattle.web_body.specs.declared.lines_error.ReadlinesError.TheVariants as readlines;
 ghost use Rattle.web_body.specs.declared.poll.Step.TheVariants.{Ready};
 ghost use Rattle.web_lines.specs.declared.lines_collector.Progress.TheVariants.{Over, Reading};
 
@@ -238,15 +241,15 @@ impl<S: Source> Readlines<S> {
     /// The next line with its newline, the last one also without; `None` after the end, after an
     /// error, and where a poll before lacked memory. An error ends the lines, and what came of its
     /// line is dropped. Returns `Pending` where the payload stalls before the line is known, and
-    /// `NoMemory` where allocation failed. With each line less work is left, so that a loop over
-    /// lines ends.
+    /// `NoMemory` where allocation failed: it allocates where it returns a line or refuses one that
+    /// is not UTF-8, and where a piece comes behind the front of a line. With each line less work is
+    /// left, so that a loop over lines ends.
     pub fn poll_next(&mut self, alloc: Global) -> Step<Option<Result<Text, ReadlinesError>>>
         ensures gives { StepGives
             (schedule_of S.feed self.old) result (schedule_of S.feed self.new) }
         ensures progress { self.new.progress ≡ progress_after self.old.progress result }
         ensures limit { self.new.limit ≡ self.old.limit }
-        ensures payload { IsReading self.old.progress
-            → KeepsPayload S.feed self.old.payload self.new.payload }
+        ensures payload { KeepsPayload S.feed self.old.payload self.new.payload }
         ensures pending { OnPending result (Rose
             (payload_feed S.feed self.old.payload).stalls
             (payload_feed S.feed self.new.payload).stalls) }
@@ -262,7 +265,7 @@ impl<S: Source> Readlines<S> {
             ((payload_feed S.feed self.new.payload).answers ≡ 0) }
         ensures unfailed { OnEnd result ((payload_feed S.feed self.new.payload).faults
             ≡ (payload_feed S.feed self.old.payload).faults) }
-        ensures buffers { IsReading self.old.progress → Buffers result (length self.old.came)
+        ensures buffers { Buffers result (length self.old.came)
             (bytes_between S.feed self.old.payload self.new.payload) self.new.came }
         ensures dropped { (IsReading self.new.progress → ⊥) → self.new.came ≡ [] }
         ensures within { length self.new.came ≤ self.new.limit + self.new.last }
@@ -271,6 +274,11 @@ impl<S: Source> Readlines<S> {
             (payload_feed S.feed self.new.payload).marks self.new.last }
         ensures stalled { IsReading self.old.progress → IsUnfinished self.old.limit self.old.came
             → StallsNext (payload_feed S.feed self.old.payload).marks → IsPending result }
+        ensures memory { NeedsNoMemory self.old.limit self.old.came
+            (payload_feed S.feed self.old.payload).marks → NeverNoMemory result }
+        ensures refused { OnRefused self.old.progress (λ error.
+            (result ≡ Ready (Some (Err (readlines.ContentTypeError error))))
+            × (self.new ≡ record self.old { progress = Over })) }
         ensures over { self.old.progress ≡ Over
             → (result ≡ Ready None) × (self.new ≡ self.old) }
     {
