@@ -1,6 +1,7 @@
 //! The first line of the bytes that came.
 ghost use Rattle.std.specs.Prelude.{◌≡◌, ◌<◌, ◌≤◌, ◌++◌, [], OnErr, OnOk, length};
-ghost use Rattle.web_lines.specs.LineCuts.{Cuts, IsSearched, IsUnfinished, LeavesFront, RefusesLong};
+ghost use Rattle.web_lines.specs.LineCuts.{Cuts, IsSearched, IsUnfinished, LeavesFront};
+ghost use Rattle.web_lines.specs.LineCuts.{RefusesLong};
 ghost use Rattle.web_lines.specs.LineCuts.{TakesLine};
 
 use bytes::Bytes;

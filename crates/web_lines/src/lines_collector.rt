@@ -242,8 +242,8 @@ impl<S: Source> Readlines<S> {
     /// error, and where a poll before lacked memory. An error ends the lines, and what came of its
     /// line is dropped. Returns `Pending` where the payload stalls before the line is known, and
     /// `NoMemory` where allocation failed: it allocates where it returns a line or refuses one that
-    /// is not UTF-8, and where a piece comes behind the front of a line. With each line less work is
-    /// left, so that a loop over lines ends.
+    /// is not UTF-8, and where a piece comes behind the front of a line. With each line less work
+    /// is left, so that a loop over lines ends.
     pub fn poll_next(&mut self, alloc: Global) -> Step<Option<Result<Text, ReadlinesError>>>
         ensures gives { StepGives
             (schedule_of S.feed self.old) result (schedule_of S.feed self.new) }
