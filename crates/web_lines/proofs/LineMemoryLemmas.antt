@@ -1,5 +1,5 @@
 -- Polls of lines that take no memory.
-use Rattle.std.proofs.Common.{◌≡◌, ◌⊎◌, inl, inr, ◌<◌, ◌≤◌, ℕ, false, List, [], ◌∷◌, ◌++◌, Option, None, Some, refl, length, subst, arith}
+use Rattle.std.proofs.Common.{◌≡◌, inl, inr, ◌≤◌, ℕ, false, List, [], ◌∷◌, ◌++◌, Option, None, Some, refl, length, subst, arith}
 use Rattle.std.specs.List.{list_any}
 use Rattle.web_request.specs.declared.source.Mark.{Mark}
 use Rattle.web_request.specs.declared.source.Mark.TheVariants.{Piece, Stall, Fault}
