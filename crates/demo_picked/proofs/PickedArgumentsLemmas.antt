@@ -31,7 +31,8 @@ use Rattle.web_extract.specs.StringArgument.{decoded}
 use Rattle.web_extract.specs.declared.never.Never.{Never}
 use Rattle.web_extract.proofs.ConvertedFuturesLemmas.{GivesOnly, converted_only}
 use Rattle.web_extract.proofs.HeadArgumentsLemmas.{only_payload, only_request}
-use Rattle.web_arguments.specs.HeaderArgument.{SaysOnly, header_result, request_values}
+use Rattle.web_headers.specs.HeaderLaws.{SaysOnly}
+use Rattle.web_arguments.specs.HeaderArgument.{header_result, request_values}
 use Rattle.web_arguments.proofs.HeaderArgumentLemmas.{gives_only}
 use Rattle.demo_app.specs.declared.app.DemoConn.{DemoConn}
 use Rattle.demo_app.specs.declared.app.DemoLocal.{DemoLocal}
