@@ -1,0 +1,80 @@
+-- The second that a text shows, by the relation of dates.
+use Rattle.std.proofs.Common.{◌≡◌, ℕ, Bool, true, false, List, [], ◌∷◌, Option, None, Some, refl, sym, ap, ◌∙◌}
+use Rattle.std.proofs.lemmas.Bool.{cond-true, cond-false, false≢true}
+use Rattle.std.specs.Prelude.{nat_eq, slice_get}
+use Rattle.std.specs.Option.{option_and_then, option_eq}
+use Rattle.http_header.specs.FieldValue.{FieldValue}
+use Rattle.httpdate.specs.declared.parts.Parts.{Parts}
+use Rattle.httpdate.specs.declared.date.HttpDate.{HttpDate}
+use Rattle.httpdate.specs.Date.{IsDateText, parse_secs, unix_secs, valid_secs}
+use Rattle.httpdate.specs.Reader.{parse}
+use Rattle.httpdate.specs.Valid.{IsValid, is_valid}
+use Rattle.httpdate.proofs.FormatLemmas.{parse_complete, parse_sound}
+use Rattle.httpdate.proofs.ValidLemmas.{is_valid_complete, is_valid_sound}
+use Rattle.web_texts.specs.HeaderTexts.{first_text_of, value_bytes}
+use Rattle.web_headers.specs.DateHeaders.{HasNoDate, SaysDate}
+use Rattle.web_entities.specs.EntityTags.{Tag, strong_eq, tag_of}
+use Rattle.web_entities.specs.IfRanges.{FirstTextSays}
+use Rattle.web_entities.specs.declared.if_range.IfRange.TheVariants as if_range
+use Rattle.web_docs.specs.Conditions.{is_there, names_version, range_condition, text_names_version}
+use Rattle.web_docs.specs.declared.document.Document.{Document}
+
+valid : (d : HttpDate) → IsValid d.parts
+valid d = (d.civil, d.time, d.right_day)
+
+pub date_secs : (text : List ℕ) (d : HttpDate) → IsDateText text d → parse_secs text ≡ Some (unix_secs d)
+date_secs text d shown =
+    ap (option_and_then valid_secs) (parse_complete text d.parts (valid d) shown)
+    ∙ cond-true (is_valid d.parts) _ _ (is_valid_complete d.parts (valid d))
+
+unshown : (text : List ℕ) → HasNoDate text → (p : Parts) → parse text ≡ Some p → (b : Bool) → is_valid p ≡ b → valid_secs p ≡ None
+unshown text none p read true is =
+    let fits = is_valid_sound p is in
+    absurd (none (record { parts = p; civil = fits.0; time = fits.1; right_day = fits.2 }) (parse_sound text p read))
+unshown text none p read false is = cond-false (is_valid p) _ _ is
+
+no_secs_by : (text : List ℕ) → HasNoDate text → (r : Option Parts) → parse text ≡ r → option_and_then valid_secs r ≡ None
+no_secs_by text none None read = refl
+no_secs_by text none (Some p) read = unshown text none p read (is_valid p) refl
+
+pub no_secs : (text : List ℕ) → HasNoDate text → parse_secs text ≡ None
+no_secs text none = no_secs_by text none (parse text) refl
+
+-- ---- what a header of a date says
+
+pub secs_said : (t : Option (List ℕ)) (x : HttpDate) → SaysDate (λ d. d) t (Some x) → option_and_then parse_secs t ≡ Some (unix_secs x)
+secs_said None x says = elim says [ ]
+secs_said (Some text) x says = date_secs text x says
+
+pub secs_unsaid : (t : Option (List ℕ)) → SaysDate (λ d. d) t None → option_and_then parse_secs t ≡ None
+secs_unsaid None says = refl
+secs_unsaid (Some text) says = no_secs text says
+
+-- ---- If-Range
+
+module _ (d : Document) where
+  pub range_tag : (t : Option (List ℕ)) (n : Tag) → FirstTextSays t (Some (if_range.EntityTag n)) → text_names_version d t ≡ strong_eq n d.tag
+  range_tag None n says = absurd (cc)
+  range_tag (Some text) n says = ap (names_version d text) says
+
+  pub range_date : (t : Option (List ℕ)) (date : HttpDate) → FirstTextSays t (Some (if_range.Date date)) → text_names_version d t ≡ nat_eq (unix_secs date) (unix_secs d.modified)
+  range_date None date says = absurd (cc)
+  range_date (Some text) date says = ap (names_version d text) says.0 ∙ ap (λ s. option_eq nat_eq s (Some (unix_secs d.modified))) (date_secs text date says.1)
+
+  pub range_none : (t : Option (List ℕ)) → FirstTextSays t None → text_names_version d t ≡ false
+  range_none None says = refl
+  range_none (Some text) says = ap (names_version d text) says.0 ∙ ap (λ s. option_eq nat_eq s (Some (unix_secs d.modified))) (no_secs text says.1)
+
+  pub range_there : (vs : List FieldValue) → is_there vs ≡ true → range_condition d (value_bytes vs) ≡ text_names_version d (first_text_of (value_bytes vs))
+  range_there [] is = absurd (false≢true is)
+  range_there (v ∷ vs) is = refl
+
+-- ---- a header that is there
+
+pub there_some : (vs : List FieldValue) (x : FieldValue) → Some x ≡ slice_get vs 0 → is_there vs ≡ true
+there_some [] x is = absurd (cc)
+there_some (v ∷ vs) x is = refl
+
+pub there_none : (vs : List FieldValue) → None ≡ slice_get vs 0 → is_there vs ≡ false
+there_none [] is = refl
+there_none (v ∷ vs) is = absurd (cc)

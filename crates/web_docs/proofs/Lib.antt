@@ -1,0 +1,4 @@
+pub mod DateLemmas
+pub mod DateTextLemmas
+pub mod PartLemmas
+pub mod StoreLemmas

@@ -1,0 +1,9 @@
+pub mod Conditions
+pub mod DocumentReplies
+pub mod Documents
+pub mod PartLaws
+pub mod PrintedDocuments
+pub mod SentPositions
+pub mod Stores
+pub mod TextMaps
+pub mod Verdicts

@@ -1,0 +1,82 @@
+//! Documents with their values of headers, printed once.
+ghost use Rattle.std.specs.Prelude.{◌≡◌, IfOk, IfSome};
+ghost use Rattle.web_docs.specs.Documents.{StoresDocument, date_value, field_value_of};
+ghost use Rattle.httpdate.specs.declared.date.HttpDate.{HttpDate as Date};
+
+use crate::document::{Document, StoreFault};
+use http_header::HeaderValue;
+use httpdate::HttpDate;
+use std::alloc::Global;
+use std::fmt;
+use std::marker::Model;
+use web_headers::printed_value;
+use web_texts::{Fail, NoMemory};
+
+/// A document, and its values of headers as they are sent.
+#[derive(Drop)]
+pub struct StoredDocument {
+    pub document: Document,
+    pub media_type: HeaderValue,
+    pub tag: HeaderValue,
+    pub modified: HeaderValue,
+}
+
+impl Model for StoredDocument {
+    ghost use Rattle.web_docs.specs.declared.document.Document.{Document};
+
+    ghost Value = { Document };
+
+    ghost view = { λ s. s.document };
+
+    ghost use Rattle.web_docs.specs.PrintedDocuments.{IsPrinted};
+
+    ghost invariant = { IsPrinted };
+}
+
+/// The value of the text that an item prints, if it may stand in a header.
+fn field_value<T: fmt::Display>(alloc: Global, item: &T) -> Result<Option<HeaderValue>, NoMemory>
+    ensures { IfSome (T.output item.now) (λ text.
+        IfOk result (λ value. value ≡ field_value_of text)) }
+{
+    match printed_value(alloc, item) {
+        Ok(value) => {
+            // It says that a header may hold the value.
+            let _bytes = value.as_bytes();
+            Ok(Some(value))
+        }
+        Err(Fail::Of(_)) => Ok(None),
+        Err(Fail::NoMemory) => Err(NoMemory),
+    }
+}
+
+/// The value of Last-Modified.
+fn date_field_value(alloc: Global, date: HttpDate) -> Result<HeaderValue, NoMemory>
+    ensures { IfOk result (λ value. value ≡ date_value date) }
+{
+    match field_value(alloc, &date)? {
+        Some(value) => Ok(value),
+        None => unreachable!(),
+    }
+}
+
+impl StoredDocument {
+    /// Prints the values of a document. `StoreFault::Value` comes where the media type or the tag
+    /// may stand in no header.
+    pub fn of(alloc: Global, document: Document) -> Result<StoredDocument, Fail<StoreFault>>
+        ensures { StoresDocument document result }
+    {
+        let Some(media_type) = field_value(alloc, &document.media_type)? else {
+            return Err(Fail::Of(StoreFault::Value(document.path)));
+        };
+        let Some(tag) = field_value(alloc, &document.tag)? else {
+            return Err(Fail::Of(StoreFault::Value(document.path)));
+        };
+        let modified = date_field_value(alloc, document.modified)?;
+        Ok(StoredDocument {
+            document,
+            media_type,
+            tag,
+            modified,
+        })
+    }
+}

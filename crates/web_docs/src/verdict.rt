@@ -1,0 +1,91 @@
+//! What becomes of a request for a document.
+ghost use Rattle.std.specs.Prelude.{◌≡◌, ◌||◌, IfOk};
+ghost use Rattle.web_docs.specs.Verdicts.{is_get as is_get_lem, is_head as is_head_lem};
+ghost use Rattle.web_docs.specs.Verdicts.{part_or_all, verdict_of, wanted_range};
+
+use crate::conditions::{match_condition, none_match_condition, range_condition, read_range};
+use crate::document::Document;
+use http::Method;
+use http_header::{HeaderMap, HeaderValue};
+use std::alloc::Global;
+use web_entities::ByteRangeSpec;
+use web_texts::NoMemory;
+
+/// What becomes of a request for a document.
+#[derive(Clone, Copy, Debug, PartialEq, Eq)]
+pub enum Verdict {
+    /// The method is neither GET nor HEAD.
+    MethodNotAllowed,
+    /// The condition of If-Match or of If-Unmodified-Since does not hold.
+    PreconditionFailed,
+    /// The condition of If-None-Match or of If-Modified-Since does not hold: the client has this
+    /// version.
+    NotModified,
+    /// The bytes of this range are sent.
+    Part(ByteRangeSpec),
+    /// The whole document is sent.
+    All,
+}
+
+fn is_get(method: &Method) -> bool
+    ensures { result ≡ is_get_lem method.now }
+{
+    method.as_str() == "GET"
+}
+
+/// Whether the method is HEAD.
+pub fn is_head(method: &Method) -> bool
+    ensures { result ≡ is_head_lem method.now }
+{
+    method.as_str() == "HEAD"
+}
+
+fn is_get_or_head(method: &Method) -> bool
+    ensures { result ≡ (is_get_lem method.now || is_head_lem method.now) }
+{
+    is_get(method) || is_head(method)
+}
+
+/// The verdict on a request of this method and these headers for a document.
+pub fn read_verdict(
+    alloc: Global,
+    method: &Method,
+    headers: &HeaderMap<HeaderValue>,
+    document: &Document,
+) -> Result<Verdict, NoMemory>
+    ensures { IfOk result (λ verdict. verdict
+        ≡ verdict_of method.now headers.now document.now) }
+{
+    if !is_get_or_head(method) {
+        return Ok(Verdict::MethodNotAllowed);
+    }
+    if let Some(false) = match_condition(alloc, document, headers)? {
+        return Ok(Verdict::PreconditionFailed);
+    }
+    if let Some(false) = none_match_condition(alloc, document, headers)? {
+        return Ok(Verdict::NotModified);
+    }
+    read_part(alloc, method, headers, document)
+}
+
+/// A part, or all.
+fn read_part(
+    alloc: Global,
+    method: &Method,
+    headers: &HeaderMap<HeaderValue>,
+    document: &Document,
+) -> Result<Verdict, NoMemory>
+    ensures { IfOk result (λ verdict. verdict
+        ≡ part_or_all (wanted_range method.now headers.now document.now)) }
+{
+    if !is_get(method) {
+        return Ok(Verdict::All);
+    }
+    if !range_condition(alloc, document, headers)? {
+        return Ok(Verdict::All);
+    }
+    match read_range(alloc, headers)? {
+        Some(spec) => Ok(Verdict::Part(spec)),
+        None => Ok(Verdict::All),
+    }
+}
