@@ -1,6 +1,6 @@
 -- What a store has under a path, and how it is filled.
-use Rattle.std.proofs.Common.{◌≡◌, ◌⊎◌, ℕ, Bool, true, false, ◌||◌, List, [], ◌∷◌, ◌++◌, Option, None, Some, Result, Ok, Err, is_some, refl, sym, ap, subst, ◌∙◌, inl, inr}
-use Rattle.std.specs.Prelude.{map, cond, string_bytes, if◌then◌else◌, IfSome}
+use Rattle.std.proofs.Common.{◌≡◌, ◌⊎◌, ℕ, Bool, true, false, ◌||◌, List, [], ◌∷◌, ◌++◌, Option, None, Some, Err, is_some, refl, sym, ap, subst, ◌∙◌, inl, inr}
+use Rattle.std.specs.Prelude.{map, cond, string_bytes, if◌then◌else◌}
 use Rattle.std.specs.List.{list_any}
 use Rattle.std.specs.Ordering.{nat_cmp, is_eq, eq_by_cmp}
 use Rattle.std.specs.Str.{bytes_eq}
@@ -13,30 +13,14 @@ use Rattle.std.specs.FinMap.{FinMap, contains_key, find, from_entries, from_entr
 use Rattle.std.proofs.lemmas.Bool.{cases_Bool, false≢true}
 use Rattle.std.proofs.lemmas.Map.Text.{hash_map_updates_text, is_eq-slice_cmp}
 use Rattle.std.proofs.lemmas.List.{map-append}
-use Rattle.http_header.specs.FieldValue.{FieldValue, IsFieldValue, plain_value}
 use Rattle.web_texts.specs.declared.memory.Fail.{Fail}
 use Rattle.web_texts.specs.declared.memory.Fail.TheVariants as fail
-use Rattle.web_headers.specs.TypedHeaders.{GivesValue}
-use Rattle.web_reply.specs.HeaderSteps.{is_field_value}
-use Rattle.web_reply.proofs.HeaderStepLemmas.{is_true, is_false, value_decides}
-use Rattle.web_docs.specs.Documents.{field_value_of, has_field_values}
-use Rattle.web_docs.specs.Stores.{Documents, HasNoFault, IsFirstFault, fault_behind, fault_beside, store_of}
+use Rattle.web_docs.specs.Documents.{StoresDocument, has_field_values}
+use Rattle.web_docs.specs.Stores.{AddsDocument, Documents, HasNoFault, IsFirstFault, MakesStore, fault_behind, fault_beside, store_of}
 use Rattle.web_docs.specs.TextMaps.{by_text}
 use Rattle.web_docs.specs.declared.document.Document.{Document}
 use Rattle.web_docs.specs.declared.document.StoreFault.{StoreFault}
 use Rattle.web_docs.specs.declared.document.StoreFault.TheVariants as fault
-
--- ---- values of headers
-
-module _ {E : Type 0} where
-  pub given_value : (output : Option (List ℕ)) (v : FieldValue) → IsFieldValue v.bytes → IfSome output (λ text. GivesValue {E = E} (plain_value text) (Ok v)) → IfSome output (λ text. Some v ≡ field_value_of text)
-  given_value None v fits gives = gives
-  given_value (Some text) v fits gives =
-      ap Some gives ∙ sym (ap (λ b. if b then Some (plain_value text) else None) (is_true _ (value_decides text) (subst (λ (w : FieldValue). IsFieldValue w.bytes) gives fits)))
-
-  pub refused_value : (output : Option (List ℕ)) (e : E) → IfSome output (λ text. GivesValue (plain_value text) (Err (fail.Of e))) → IfSome output (λ text. None ≡ field_value_of text)
-  refused_value None e refused = refused
-  refused_value (Some text) e refused = sym (ap (λ b. if b then Some (plain_value text) else None) (is_false _ (value_decides text) refused))
 
 -- ---- the map of a store
 
@@ -143,6 +127,10 @@ module _ (store : Documents) (d : Document) where
       ap (λ b. if b then Some (fault.DuplicatePath d.path) else if has_field_values d then None else Some (fault.Value d.path)) h
       ∙ ap (λ b. if b then None else Some (fault.Value d.path)) k
 
+  pub beside_refused : (e : Fail StoreFault) (new : Documents) → contains_key store d.path ≡ false → StoresDocument d (Err e) → AddsDocument store d (Err e) new
+  beside_refused fail.NoMemory new h says = tt
+  beside_refused (fail.Of f) new h says = beside_value h says.1 ∙ ap Some (sym says.0)
+
 module _ (before : List Document) (d : Document) (store : Documents) (is : store ≡ store_of before) where
   pub fault_is : fault_beside store d ≡ fault_behind before d
   fault_is = ap (λ s. fault_beside s d) is ∙ same_fault before d
@@ -156,3 +144,8 @@ module _ (before : List Document) (d : Document) (store : Documents) (is : store
   pub first_fault : (documents rest : List Document) (f : StoreFault) → before ++ d ∷ rest ≡ documents → HasNoFault before → fault_beside store d ≡ Some f → IsFirstFault documents f
   first_fault documents rest f parts sound wrong =
       record { before = before; document = d; after = rest; parts = sym parts; sound = sound; wrong = sym fault_is ∙ wrong }
+
+  pub first_refused : (documents items rest : List Document) (e : Fail StoreFault) (new : Documents) → before ++ items ≡ documents → items ≡ d ∷ rest → HasNoFault before → AddsDocument store d (Err e) new → MakesStore documents (Err e)
+  first_refused documents items rest fail.NoMemory new parts next sound says = tt
+  first_refused documents items rest (fail.Of f) new parts next sound says =
+      first_fault documents rest f (sym (ap (λ xs. before ++ xs) next) ∙ parts) sound says

@@ -1,6 +1,7 @@
 -- The values of headers that are sent beside a document.
 use Rattle.std.specs.Prelude.{◌≡◌, ℕ, ◌&&◌, Bool, true, false, List}
 use Rattle.std.specs.Prelude.{Option, None, Some, Result, Ok, Err, if◌then◌else◌}
+use Rattle.std.specs.Option.{option_zip}
 use Rattle.http_header.specs.FieldValue.{FieldValue, plain_value}
 use Rattle.httpdate.specs.Date.{date_text}
 use Rattle.httpdate.specs.declared.date.HttpDate.{HttpDate}
@@ -25,6 +26,11 @@ date_value date = plain_value (date_text date)
 -- the value of a text that may stand in a header (RFC 9110, section 5.5)
 abbrev pub field_value_of : List ℕ → Option FieldValue
 field_value_of text = if is_field_value text then Some (plain_value text) else None
+
+-- the values of Content-Type and ETag, where both texts may stand in a header
+abbrev pub text_values : Document → Option (FieldValue × FieldValue)
+text_values d =
+    option_zip (field_value_of (media_type_text d.media_type)) (field_value_of (tag_text d.tag))
 
 -- Both of its texts may stand in a header. Its date always may.
 abbrev pub has_field_values : Document → Bool

@@ -42,13 +42,13 @@ pub fn answer_document<A: App>(
     ensures memory { map.get store.now (head_path req.now.request.head) ≡ None → IsOk result }
 {
     match store.stored(req.path()) {
-        Some(document) => answer(alloc, document, req.method(), req.headers()),
+        Some(document) => document_reply(alloc, document, req.method(), req.headers()),
         None => Ok(HttpResponse::new(alloc, StatusCode::NOT_FOUND)),
     }
 }
 
 /// The reply to a request of this method and these headers for a document.
-fn answer(
+fn document_reply(
     alloc: Global,
     document: &StoredDocument,
     method: &Method,
@@ -56,7 +56,7 @@ fn answer(
 ) -> Result<HttpResponse<WholeBody>, NoMemory>
     ensures { IfOk result (λ reply. Answers document.now method.now headers.now reply) }
 {
-    let verdict = read_verdict(alloc, method, headers, &document.document)?;
+    let verdict = read_verdict(alloc, method, headers, document.document())?;
     let reply = reply_to(alloc, document, verdict)?;
     Ok(for_method(method, reply))
 }

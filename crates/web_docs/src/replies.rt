@@ -74,8 +74,8 @@ fn validator_map(
     ensures { IfOk result (λ map. map ≡ validator_headers document.now) }
 {
     let mut map = HeaderMap::empty(alloc);
-    put(&mut map, ETAG, document.tag.clone()?)?;
-    put(&mut map, LAST_MODIFIED, document.modified.clone()?)?;
+    put(&mut map, ETAG, document.tag().clone()?)?;
+    put(&mut map, LAST_MODIFIED, document.modified().clone()?)?;
     Ok(map)
 }
 
@@ -84,9 +84,9 @@ fn whole_map(alloc: Global, document: &StoredDocument) -> Result<HeaderMap<Heade
 {
     let mut map = HeaderMap::empty(alloc);
     put(&mut map, ACCEPT_RANGES, HeaderValue::from_static("bytes"))?;
-    put(&mut map, CONTENT_TYPE, document.media_type.clone()?)?;
-    put(&mut map, ETAG, document.tag.clone()?)?;
-    put(&mut map, LAST_MODIFIED, document.modified.clone()?)?;
+    put(&mut map, CONTENT_TYPE, document.media_type().clone()?)?;
+    put(&mut map, ETAG, document.tag().clone()?)?;
+    put(&mut map, LAST_MODIFIED, document.modified().clone()?)?;
     Ok(map)
 }
 
@@ -130,8 +130,8 @@ fn partial_reply(
         ≡ partial_reply_lem document.now ends
         (drop ends.0 (take (ends.1 + 1) document.now.body))) }
 {
-    let size = document.document.body.len() as u64;
-    let body = bytes_between(&document.document.body, ends.0, ends.1)?;
+    let size = document.body().len() as u64;
+    let body = bytes_between(document.body(), ends.0, ends.1)?;
     let mut map = whole_map(alloc, document)?;
     let range = content_range(alloc, Some(ends), size)?;
     put(&mut map, CONTENT_RANGE, range)?;
@@ -149,7 +149,7 @@ fn unsatisfiable_reply(
 ) -> Result<HttpResponse<WholeBody>, NoMemory>
     ensures { IfOk result (λ reply. reply ≡ unsatisfiable_reply_lem document.now) }
 {
-    let size = document.document.body.len() as u64;
+    let size = document.body().len() as u64;
     let mut map = HeaderMap::empty(alloc);
     put(&mut map, CONTENT_RANGE, content_range(alloc, None, size)?)?;
     Ok(response(
@@ -168,7 +168,7 @@ fn part_reply(
     ensures { IfOk result (λ reply.
         IsPartReply document.now (Selects spec (length document.now.body)) reply) }
 {
-    match spec.to_satisfiable_range(document.document.body.len() as u64) {
+    match spec.to_satisfiable_range(document.body().len() as u64) {
         Some(ends) => partial_reply(alloc, document, ends),
         None => unsatisfiable_reply(alloc, document),
     }
@@ -181,7 +181,7 @@ fn whole_reply(
     ensures { IfOk result (λ reply. RepliesTo document.now Verdict.All reply) }
 {
     let map = whole_map(alloc, document)?;
-    let body = document.document.body.clone()?;
+    let body = document.body().clone()?;
     Ok(response(alloc, StatusCode::OK, map, WholeBody::Bytes(body)))
 }
 

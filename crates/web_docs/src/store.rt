@@ -68,7 +68,7 @@ impl Store {
         ensures { option_copied result ≡ map.get self.now path.now }
     {
         match self.stored(path) {
-            Some(stored) => Some(&stored.document),
+            Some(stored) => Some(stored.document()),
             None => None,
         }
     }

@@ -1,9 +1,11 @@
 //! Documents with their values of headers, printed once.
 ghost use Rattle.std.specs.Prelude.{◌≡◌, IfOk, IfSome};
 ghost use Rattle.web_docs.specs.Documents.{StoresDocument, date_value, field_value_of};
-ghost use Rattle.httpdate.specs.declared.date.HttpDate.{HttpDate as Date};
+ghost use Rattle.web_docs.specs.Documents.{media_type_value, tag_value};
+ghost use Rattle.web_docs.specs.Documents.{text_values as text_values_lem};
 
 use crate::document::{Document, StoreFault};
+use bytes::Bytes;
 use http_header::HeaderValue;
 use httpdate::HttpDate;
 use std::alloc::Global;
@@ -15,10 +17,10 @@ use web_texts::{Fail, NoMemory};
 /// A document, and its values of headers as they are sent.
 #[derive(Drop)]
 pub struct StoredDocument {
-    pub document: Document,
-    pub media_type: HeaderValue,
-    pub tag: HeaderValue,
-    pub modified: HeaderValue,
+    document: Document,
+    media_type: HeaderValue,
+    tag: HeaderValue,
+    modified: HeaderValue,
 }
 
 impl Model for StoredDocument {
@@ -59,24 +61,73 @@ fn date_field_value(alloc: Global, date: HttpDate) -> Result<HeaderValue, NoMemo
     }
 }
 
+/// The values of Content-Type and ETag, if both may stand in a header.
+fn text_values(
+    alloc: Global,
+    document: &Document,
+) -> Result<Option<(HeaderValue, HeaderValue)>, NoMemory>
+    ensures { IfOk result (λ values. values ≡ text_values_lem document.now) }
+{
+    let Some(media_type) = field_value(alloc, &document.media_type)? else {
+        return Ok(None);
+    };
+    let Some(tag) = field_value(alloc, &document.tag)? else {
+        return Ok(None);
+    };
+    Ok(Some((media_type, tag)))
+}
+
 impl StoredDocument {
     /// Prints the values of a document. `StoreFault::Value` comes where the media type or the tag
     /// may stand in no header.
     pub fn of(alloc: Global, document: Document) -> Result<StoredDocument, Fail<StoreFault>>
         ensures { StoresDocument document result }
     {
-        let Some(media_type) = field_value(alloc, &document.media_type)? else {
-            return Err(Fail::Of(StoreFault::Value(document.path)));
-        };
-        let Some(tag) = field_value(alloc, &document.tag)? else {
-            return Err(Fail::Of(StoreFault::Value(document.path)));
-        };
-        let modified = date_field_value(alloc, document.modified)?;
-        Ok(StoredDocument {
-            document,
-            media_type,
-            tag,
-            modified,
-        })
+        let values = text_values(alloc, &document)?;
+        match values {
+            Some(values) => {
+                let modified = date_field_value(alloc, document.modified)?;
+                Ok(StoredDocument {
+                    document,
+                    media_type: values.0,
+                    tag: values.1,
+                    modified,
+                })
+            }
+            None => Err(Fail::Of(StoreFault::Value(document.path))),
+        }
+    }
+
+    pub fn document(&self) -> &Document
+        ensures { result.now ≡ self.now }
+    {
+        &self.document
+    }
+
+    pub fn body(&self) -> &Bytes
+        ensures { result.now ≡ self.now.body }
+    {
+        &self.document.body
+    }
+
+    /// The value of Content-Type.
+    pub fn media_type(&self) -> &HeaderValue
+        ensures { result.now ≡ media_type_value self.now }
+    {
+        &self.media_type
+    }
+
+    /// The value of ETag.
+    pub fn tag(&self) -> &HeaderValue
+        ensures { result.now ≡ tag_value self.now }
+    {
+        &self.tag
+    }
+
+    /// The value of Last-Modified.
+    pub fn modified(&self) -> &HeaderValue
+        ensures { result.now ≡ date_value self.now.modified }
+    {
+        &self.modified
     }
 }

@@ -1,6 +1,7 @@
 //! What becomes of a request for a document.
 ghost use Rattle.std.specs.Prelude.{◌≡◌, ◌||◌, IfOk};
-ghost use Rattle.web_docs.specs.Verdicts.{is_get as is_get_lem, is_head as is_head_lem};
+ghost use Rattle.web_docs.specs.Verdicts.{fails as fails_lem, is_get as is_get_lem};
+ghost use Rattle.web_docs.specs.Verdicts.{is_head as is_head_lem};
 ghost use Rattle.web_docs.specs.Verdicts.{part_or_all, verdict_of, wanted_range};
 
 use crate::conditions::{match_condition, none_match_condition, range_condition, read_range};
@@ -46,6 +47,16 @@ fn is_get_or_head(method: &Method) -> bool
     is_get(method) || is_head(method)
 }
 
+/// Whether the request has the condition, and it does not hold.
+fn fails(condition: Option<bool>) -> bool
+    ensures { result ≡ fails_lem condition }
+{
+    match condition {
+        Some(holds) => !holds,
+        None => false,
+    }
+}
+
 /// The verdict on a request of this method and these headers for a document.
 pub fn read_verdict(
     alloc: Global,
@@ -59,10 +70,10 @@ pub fn read_verdict(
     if !is_get_or_head(method) {
         return Ok(Verdict::MethodNotAllowed);
     }
-    if let Some(false) = match_condition(alloc, document, headers)? {
+    if fails(match_condition(alloc, document, headers)?) {
         return Ok(Verdict::PreconditionFailed);
     }
-    if let Some(false) = none_match_condition(alloc, document, headers)? {
+    if fails(none_match_condition(alloc, document, headers)?) {
         return Ok(Verdict::NotModified);
     }
     read_part(alloc, method, headers, document)
