@@ -1,13 +1,11 @@
 -- Values of headers, and texts that may stand in one.
-use Rattle.std.proofs.Common.{◌≡◌, ◌&&◌, ℕ, Bool, true, false, List, Option, None, Some, Ok, Err, refl, sym, ap, subst, ◌∙◌}
+use Rattle.std.proofs.Common.{◌≡◌, ◌&&◌, ℕ, Bool, true, false, List, Option, None, Some, refl, sym, ap, subst, ◌∙◌}
 use Rattle.std.specs.Option.{option_zip}
 use Rattle.std.specs.Prelude.{if◌then◌else◌, IfSome}
 use Rattle.std.proofs.lemmas.Option.{none-some, same_Some}
 use Rattle.http_header.specs.FieldValue.{FieldValue, IsFieldValue, plain_value}
 use Rattle.httpdate.specs.Date.{date_text}
 use Rattle.httpdate.specs.declared.date.HttpDate.{HttpDate}
-use Rattle.web_texts.specs.declared.memory.Fail.TheVariants as fail
-use Rattle.web_headers.specs.TypedHeaders.{GivesValue}
 use Rattle.web_reply.specs.HeaderSteps.{is_field_value}
 use Rattle.web_reply.proofs.HeaderStepLemmas.{is_true, is_false, value_decides}
 use Rattle.web_texts.specs.MediaTypeTexts.{media_type_text}
@@ -16,15 +14,14 @@ use Rattle.web_docs.specs.Documents.{date_value, field_value_of, has_field_value
 use Rattle.web_docs.specs.declared.document.Document.{Document}
 use Rattle.web_docs.proofs.DateTextLemmas.{date_stands}
 
-module _ {E : Type 0} where
-  pub given_value : (output : Option (List ℕ)) (v : FieldValue) → IsFieldValue v.bytes → IfSome output (λ text. GivesValue {E = E} (plain_value text) (Ok v)) → IfSome output (λ text. Some v ≡ field_value_of text)
-  given_value None v fits gives = gives
-  given_value (Some text) v fits gives =
-      ap Some gives ∙ sym (ap (λ b. if b then Some (plain_value text) else None) (is_true _ (value_decides text) (subst (λ (w : FieldValue). IsFieldValue w.bytes) gives fits)))
+pub given_value : (output : Option (List ℕ)) (v : FieldValue) → IsFieldValue v.bytes → IfSome output (λ text. v ≡ plain_value text) → IfSome output (λ text. Some v ≡ field_value_of text)
+given_value None v fits gives = gives
+given_value (Some text) v fits gives =
+    ap Some gives ∙ sym (ap (λ b. if b then Some (plain_value text) else None) (is_true _ (value_decides text) (subst (λ (w : FieldValue). IsFieldValue w.bytes) gives fits)))
 
-  pub refused_value : (output : Option (List ℕ)) (e : E) → IfSome output (λ text. GivesValue (plain_value text) (Err (fail.Of e))) → IfSome output (λ text. None ≡ field_value_of text)
-  refused_value None e refused = refused
-  refused_value (Some text) e refused = sym (ap (λ b. if b then Some (plain_value text) else None) (is_false _ (value_decides text) refused))
+pub refused_value : (output : Option (List ℕ)) → IfSome output (λ text. IsFieldValue text → ⊥) → IfSome output (λ text. None ≡ field_value_of text)
+refused_value None refused = refused
+refused_value (Some text) refused = sym (ap (λ b. if b then Some (plain_value text) else None) (is_false _ (value_decides text) refused))
 
 -- ---- what a value that was given says
 

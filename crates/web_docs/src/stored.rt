@@ -55,7 +55,8 @@ fn field_value<T: fmt::Display>(alloc: Global, item: &T) -> Result<Option<Header
 fn date_field_value(alloc: Global, date: HttpDate) -> Result<HeaderValue, NoMemory>
     ensures { IfOk result (λ value. value ≡ date_value date) }
 {
-    match field_value(alloc, &date)? {
+    let printed = field_value(alloc, &date)?;
+    match printed {
         Some(value) => Ok(value),
         None => unreachable!(),
     }

@@ -1,4 +1,4 @@
-use Rattle.std.proofs.Common.{ap, sym, subst, ◌∙◌}
+use Rattle.std.proofs.Common.{ap, refl, sym, subst, ◌∙◌}
 use Rattle.std.specs.FinMap as map
 use Rattle.std.proofs.lemmas.Option.{none-some}
 use Rattle.web_docs.specs.DocumentReplies.{IsDocumentReply}
@@ -18,5 +18,5 @@ returns-in-None g c =
     let found = c.in-None.ensures ∙ ap (λ path. map.get c.args.store.now path) c.path.ensures in
     record {
       reply = subst (λ d. IsDocumentReply d c.args.req.now.request.head c.new.result) found c.new.ensures;
-      memory = λ none. tt;
+      memory = λ none. refl;
     }
