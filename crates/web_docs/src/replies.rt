@@ -60,7 +60,7 @@ fn response(
 }
 
 fn allow_map(alloc: Global) -> Result<HeaderMap<HeaderValue>, NoMemory>
-    ensures { IfOk result (λ map. map ≡ (codes "allow", plain_value (codes "GET, HEAD") ∷ []) ∷ []) }
+    ensures { IfOk result (λ m. m ≡ (codes "allow", plain_value (codes "GET, HEAD") ∷ []) ∷ []) }
 {
     let mut map = HeaderMap::empty(alloc);
     put(&mut map, ALLOW, HeaderValue::from_static("GET, HEAD"))?;
