@@ -1,0 +1,6 @@
+pub mod ReplyBytes
+pub mod MessageExchanges
+pub mod Answers
+pub mod Connections
+pub mod Polls
+pub mod Serving

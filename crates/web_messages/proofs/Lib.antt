@@ -1,0 +1,16 @@
+pub mod RunLemmas
+pub mod LineLemmas
+pub mod ChunkLemmas
+pub mod TrailerLemmas
+pub mod HeadLemmas
+pub mod FinalHeadLemmas
+pub mod HeadReadLemmas
+pub mod HeadEndLemmas
+pub mod NextLemmas
+pub mod StableLemmas
+pub mod MoreLemmas
+pub mod UniqueTargetLemmas
+pub mod OneLemmas
+pub mod SearchLemmas
+pub mod ProgressLemmas
+pub mod UseLemmas

@@ -1,0 +1,163 @@
+-- Reading on: what is known of the next message, and that it holds of more bytes too.
+use Rattle.std.proofs.Common.{◌≡◌, ℕ, ◌+◌, ◌-◌, ◌<◌, ◌≤◌, ◌==◌, Bool, true, false, List, [], ◌∷◌, ◌++◌, length, take, drop, refl, sym, ap, ◌∙◌, subst, arith, append-nil, length-append, length-drop, if◌then◌else◌, Vec, Global}
+use Rattle.std.specs.Borrow.{Bor}
+use Rattle.std.proofs.lemmas.List.{drop-append-le}
+use Rattle.std.proofs.lemmas.Bool.Decides.{eqb_tells}
+use Rattle.httparse.specs.Grammar.{HasNoRequest, print_request}
+use Rattle.web_messages.specs.declared.chunked.Chunked.{Chunked}
+use Rattle.web_messages.specs.declared.chunked.Chunked.TheVariants as chunked
+use Rattle.web_messages.specs.declared.chunked.Place.{Place}
+use Rattle.web_messages.specs.declared.framing.Framing.{Framing}
+use Rattle.web_messages.specs.declared.framing.Framing.TheVariants as framing
+use Rattle.web_messages.specs.declared.head.Head.{Head}
+use Rattle.web_messages.specs.declared.limits.Limits.{Limits}
+use Rattle.web_messages.specs.declared.limits.Wrong.{Wrong}
+use Rattle.web_messages.specs.declared.limits.Wrong.TheVariants as wrong
+use Rattle.web_messages.specs.declared.message.BodyRead.TheVariants as body
+use Rattle.web_messages.specs.declared.message.Message.{Message}
+use Rattle.web_messages.specs.declared.message.Next.{Next}
+use Rattle.web_messages.specs.declared.message.Next.TheVariants as next
+use Rattle.web_messages.specs.declared.progress.Progress.{Progress}
+use Rattle.web_messages.specs.declared.progress.Progress.TheVariants as progress
+use Rattle.web_messages.specs.declared.progress.Search.{Search}
+use Rattle.web_messages.specs.declared.progress.Step.TheVariants as step
+use Rattle.web_messages.specs.Chunking.{IsChunked, IsSoFar, IsSoFarAt}
+use Rattle.web_messages.specs.EmptyLines.{BlankFront, is_blank}
+use Rattle.web_messages.specs.HeadReadings.{NeverHasHead}
+use Rattle.web_messages.specs.Heads.{HasNoHead}
+use Rattle.web_messages.specs.NextMessage.{BodyIs, ChunkedBodyIs, IsFinal, IsNext, framing_in, message_of}
+use Rattle.web_messages.specs.Progress.{HeadFound, IsProgress, IsSearch, IsSettled, ReadsOn, next_at_end, stopped}
+use Rattle.web_messages.proofs.ChunkLemmas.{so_far_more, at_start}
+use Rattle.web_messages.proofs.HeadLemmas.{behind_head}
+use Rattle.web_messages.proofs.MoreLemmas.{begins_more, blank_more, message_stays, refused_stays}
+use Rattle.web_messages.proofs.NextLemmas.{left_fits, message_next, not_head, refused_next}
+use Rattle.web_messages.proofs.SearchLemmas.{all_blank, blank_no_head, search_longer, searched_all, some_behind}
+
+-- ---- more bytes
+
+found_more : (limits : Limits) (bytes more : List ℕ) (head : Head) → HeadFound limits bytes head → HeadFound limits (bytes ++ more) head
+found_more limits bytes more head h = record {
+  some = blank_more bytes more h.some;
+  rest = h.rest ++ more;
+  begins = begins_more limits bytes more head h.rest h.begins;
+}
+
+pub head_within : (limits : Limits) (bytes : List ℕ) (head : Head) → HeadFound limits bytes head → head.length ≤ length bytes
+head_within limits bytes head h = omega (
+  arith,
+  h.begins.is.length_is,
+  ap length h.begins.has.reads.1,
+  length-append (print_request h.begins.tree) h.rest,
+)
+
+so_far_longer : (limit : ℕ) (text more bytes : List ℕ) (at' left : ℕ) → IsSoFarAt limit text bytes at' left → IsSoFarAt limit (text ++ more) bytes at' left
+so_far_longer limit text more bytes at' left s = record {
+  inside = omega (arith, s.inside, length-append text more);
+  so_far = subst (λ (t : List ℕ). IsSoFar limit (text ++ more) t bytes left) (sym (drop-append-le at' text more s.inside))
+      (so_far_more limit text (drop at' text) bytes left more s.so_far);
+}
+
+pub progress_longer : (limits : Limits) (bytes more : List ℕ) (p : Progress) → IsProgress limits bytes p → IsProgress limits (bytes ++ more) p
+progress_longer limits bytes more (progress.Head s) h = search_longer bytes more s h
+progress_longer limits bytes more (progress.Sized head n) h = (found_more limits bytes more head h.0, h.1)
+progress_longer limits bytes more (progress.Chunked head place content) h = (
+  found_more limits bytes more head h.0,
+  h.1,
+  subst (λ (t : List ℕ). IsSoFarAt limits.body t content.items place.at place.left)
+      (sym (drop-append-le head.length bytes more (head_within limits bytes head h.0)))
+      (so_far_longer limits.body (drop head.length bytes) more content.items place.at place.left h.2),
+)
+
+-- chunks of which none was read
+pub chunks_start : (limit : ℕ) (text bytes : List ℕ) (at' left : ℕ) → bytes ≡ [] → at' ≡ 0 → left ≡ limit → IsSoFarAt limit text bytes at' left
+chunks_start limit text bytes at' left none first all =
+    subst (λ (b : List ℕ). IsSoFarAt limit text b at' left) (sym none)
+    (subst (λ (k : ℕ). IsSoFarAt limit text [] k left) (sym first)
+    (subst (λ (k : ℕ). IsSoFarAt limit text [] 0 k) (sym all)
+    (record { inside = omega arith; so_far = at_start limit text })))
+
+-- ---- what is known, whatever follows
+
+pub now : (limits : Limits) (bytes : List ℕ) (x : Next) → IsSettled limits bytes x → IsNext limits bytes x
+now limits bytes x h = subst (λ (t : List ℕ). IsNext limits t x) (append-nil bytes) (h [])
+
+pub head_refused : (limits : Limits) (bytes : List ℕ) → is_blank bytes ≡ false → NeverHasHead limits bytes
+    → ReadsOn limits bytes (step.Next (next.Refused wrong.Head))
+head_refused limits bytes some never = (tt, λ more. (blank_more bytes more some, never more))
+
+module _ (limits : Limits) (bytes : List ℕ) (head : Head) (h : HeadFound limits bytes head)
+    (f : Framing) (framing_is : f ≡ framing_in head) (text : List ℕ) (text_is : text ≡ drop head.length bytes) where
+  pub body_fits : (content : List ℕ) (left : ℕ) → BodyIs limits.body f text (body.Body content left) → left ≤ length bytes
+  body_fits = left_fits limits bytes head h.rest h.begins f framing_is text text_is
+
+  pub message_known : (content : List ℕ) (left used : ℕ) → BodyIs limits.body f text (body.Body content left) → used + left ≡ length bytes
+      → IsSettled limits bytes (next.Message (message_of head content used))
+  message_known content left used is size more =
+      message_stays limits bytes more (message_of head content used)
+      (message_next limits bytes head h.rest h.begins f framing_is text text_is content left used h.some is size)
+
+  pub refused_known : (w : Wrong) → IsFinal w → BodyIs limits.body f text (body.Refused w) → IsSettled limits bytes (next.Refused w)
+  refused_known w final is more =
+      refused_stays limits bytes more w final (refused_next limits bytes head h.rest h.begins f framing_is text text_is w h.some is)
+
+  pub cut_now : BodyIs limits.body f text (body.Refused wrong.Cut) → IsNext limits bytes (next.Refused wrong.Cut)
+  cut_now is = refused_next limits bytes head h.rest h.begins f framing_is text text_is wrong.Cut h.some is
+
+  pub stopped_known : (w : Wrong) (p : Progress) → BodyIs limits.body f text (body.Refused w) → IsProgress limits bytes p
+      → next_at_end p (length bytes) ≡ next.Refused wrong.Cut → ReadsOn limits bytes (stopped w p)
+  stopped_known wrong.Cut p is so_far ends = (so_far, subst (IsNext limits bytes) (sym ends) (cut_now is))
+  stopped_known wrong.Head p is so_far ends = absurd (not_head limits.body f text is)
+  stopped_known wrong.Length p is so_far ends = (tt, refused_known wrong.Length tt is)
+  stopped_known wrong.TooLarge p is so_far ends = (tt, refused_known wrong.TooLarge tt is)
+  stopped_known wrong.Chunk p is so_far ends = (tt, refused_known wrong.Chunk tt is)
+
+-- ---- a head that is looked for
+
+if_true : {A : Type 0} (t : Bool) (x y : A) → t ≡ true → (if t then x else y) ≡ x
+if_true true x y e = refl
+if_true false x y e = cc
+
+if_false : {A : Type 0} (t : Bool) (x y : A) → t ≡ false → (if t then x else y) ≡ y
+if_false false x y e = refl
+if_false true x y e = cc
+
+same_test : (n m : ℕ) → n ≡ m → (n == m) ≡ true
+same_test n m e = elim (eqb_tells n m) [ | inl x ↦ x.0 | inr x ↦ absurd (x.1 e) ]
+
+other_test : (n m : ℕ) → n < m → (n == m) ≡ false
+other_test n m e = elim (eqb_tells n m) [ | inl x ↦ absurd (omega (arith, x.1, e)) | inr x ↦ x.0 ]
+
+module _ (limits : Limits) (bytes : List ℕ) (n : ℕ) (f : BlankFront bytes n) where
+  -- there is nothing but CR and LF
+  pub blank_step : n ≡ length bytes → ReadsOn limits bytes (step.Unfinished (progress.Head (record { blank = n; searched = length bytes })))
+  blank_step all = (
+    searched_all bytes n f.begins (blank_no_head bytes n f.begins all),
+    subst (IsNext limits bytes) (sym (if_true (n == length bytes) next.Closed (next.Refused wrong.Head) (same_test n (length bytes) all))) (all_blank bytes n f all),
+  )
+
+  -- there is no head yet
+  pub open_step : n < length bytes → HasNoRequest bytes
+      → ReadsOn limits bytes (step.Unfinished (progress.Head (record { blank = n; searched = length bytes })))
+  open_step some none = (
+    searched_all bytes n f.begins none,
+    subst (IsNext limits bytes) (sym (if_false (n == length bytes) next.Closed (next.Refused wrong.Head) (other_test n (length bytes) some)))
+        (some_behind bytes n f some, λ tree rest has takes. none tree rest has.reads),
+  )
+
+-- ---- a body in chunks
+
+module _ (limit : ℕ) (text content : List ℕ) where
+  pub chunks_body : (rest : Bor (List ℕ)) → IsChunked limit text content (chunked.Body rest)
+      → ChunkedBodyIs limit text (body.Body content (length rest.now))
+  chunks_body rest is = (is.0, rest.now, is.1, refl)
+
+pub so_far_at : {limit : ℕ} {text other bytes : List ℕ} {at' left : ℕ} → text ≡ other → IsSoFarAt limit text bytes at' left → IsSoFarAt limit other bytes at' left
+so_far_at {limit} {text} {other} {bytes} {at'} {left} e s = subst (λ (t : List ℕ). IsSoFarAt limit t bytes at' left) e s
+
+-- the message that was made of these parts
+pub known_message : (limits : Limits) (bytes : List ℕ) (head : Head) (m : Message) (content content' : List ℕ) (used : ℕ) → content' ≡ content
+    → m ≡ message_of head content' used → IsSettled limits bytes (next.Message (message_of head content used)) → ReadsOn limits bytes (step.Next (next.Message m))
+known_message limits bytes head m content content' used same is known = (
+  tt,
+  subst (λ (x : Message). IsSettled limits bytes (next.Message x)) (sym (is ∙ ap (λ (c : List ℕ). message_of head c used) same)) known,
+)

@@ -1,0 +1,77 @@
+-- How far the next message was read, and what is known of it then.
+use Rattle.std.specs.Prelude.{◌≡◌, ℕ, ◌<◌, ◌≤◌, ◌==◌, true, false, List, ◌++◌, length, drop, if◌then◌else◌, ⊤}
+use Rattle.httparse.specs.Grammar.{RequestHead, print_request, ReadsRequest}
+use Rattle.web_messages.specs.declared.framing.Framing.TheVariants as framing
+use Rattle.web_messages.specs.declared.head.Head.{Head}
+use Rattle.web_messages.specs.declared.limits.Limits.{Limits}
+use Rattle.web_messages.specs.declared.limits.Wrong.{Wrong}
+use Rattle.web_messages.specs.declared.limits.Wrong.TheVariants as wrong
+use Rattle.web_messages.specs.declared.message.Next.{Next}
+use Rattle.web_messages.specs.declared.message.Next.TheVariants as next
+use Rattle.web_messages.specs.declared.progress.Progress.{Progress}
+use Rattle.web_messages.specs.declared.progress.Progress.TheVariants as progress
+use Rattle.web_messages.specs.declared.progress.Search.{Search}
+use Rattle.web_messages.specs.declared.progress.Step.{Step}
+use Rattle.web_messages.specs.declared.progress.Step.TheVariants as step
+use Rattle.web_messages.specs.Chunking.{IsSoFarAt}
+use Rattle.web_messages.specs.EmptyLines.{BeginsBlank, is_blank}
+use Rattle.web_messages.specs.Heads.{Begins}
+use Rattle.web_messages.specs.NextMessage.{IsNext, framing_in}
+
+-- the first bytes are CR or LF, and each head in the bytes ends behind those that were searched
+pub record IsSearch (bytes : List ℕ) (s : Search) : Type 0 where
+  pub blank : BeginsBlank bytes s.blank
+  pub inside : s.searched ≤ length bytes
+  pub behind : (tree : RequestHead) (rest : List ℕ) → ReadsRequest bytes tree rest
+      → s.searched < length (print_request tree)
+
+-- the bytes begin with this head
+pub record HeadFound (limits : Limits) (bytes : List ℕ) (head : Head) : Type 0 where
+  pub some : is_blank bytes ≡ false
+  pub rest : List ℕ
+  pub begins : Begins limits bytes head rest
+
+-- the progress is that of these bytes
+abbrev pub IsProgress : Limits → List ℕ → Progress → Type 0
+IsProgress limits bytes (progress.Head s) = IsSearch bytes s
+IsProgress limits bytes (progress.Sized head n) =
+    HeadFound limits bytes head × (framing_in head ≡ framing.Length n)
+IsProgress limits bytes (progress.Chunked head place body) =
+    HeadFound limits bytes head × (framing_in head ≡ framing.Chunked)
+    × IsSoFarAt limits.body (drop head.length bytes) body.items place.at place.left
+
+-- what is next where no byte follows
+abbrev pub next_at_end : Progress → ℕ → Next
+next_at_end (progress.Head s) n =
+    if s.blank == n then next.Closed else next.Refused wrong.Head
+next_at_end (progress.Sized head size) n = next.Refused wrong.Cut
+next_at_end (progress.Chunked head place body) n = next.Refused wrong.Cut
+
+-- that is next, whatever bytes follow
+abbrev pub IsSettled : Limits → List ℕ → Next → Type 0
+IsSettled limits bytes x = (more : List ℕ) → IsNext limits (bytes ++ more) x
+
+-- what may stand before the bytes end: not that they end, between messages or inside a body
+abbrev pub MayStand : Next → Type 0
+MayStand next.Closed = ⊥
+MayStand (next.Message m) = ⊤
+MayStand (next.Refused wrong.Head) = ⊤
+MayStand (next.Refused wrong.Length) = ⊤
+MayStand (next.Refused wrong.TooLarge) = ⊤
+MayStand (next.Refused wrong.Chunk) = ⊤
+MayStand (next.Refused wrong.Cut) = ⊥
+
+-- what is known: the next message whatever follows; or how far it was read, and what it is where
+-- nothing follows, which is no message and no refusal that stands
+abbrev pub ReadsOn : Limits → List ℕ → Step → Type 0
+ReadsOn limits bytes (step.Next x) = MayStand x × IsSettled limits bytes x
+ReadsOn limits bytes (step.Unfinished p) =
+    IsProgress limits bytes p × IsNext limits bytes (next_at_end p (length bytes))
+
+-- a refusal of a body: what ends inside may go on
+abbrev pub stopped : Wrong → Progress → Step
+stopped wrong.Cut p = step.Unfinished p
+stopped wrong.Head p = step.Next (next.Refused wrong.Head)
+stopped wrong.Length p = step.Next (next.Refused wrong.Length)
+stopped wrong.TooLarge p = step.Next (next.Refused wrong.TooLarge)
+stopped wrong.Chunk p = step.Next (next.Refused wrong.Chunk)

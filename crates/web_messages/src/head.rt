@@ -1,0 +1,207 @@
+//! The head of a message.
+ghost use Rattle.std.specs.Prelude.{◌≡◌, length, map, IfOk};
+ghost use Rattle.std.specs.List.{All};
+ghost use Rattle.httparse.specs.Spans.{IsHeaderWithin, IsWithin, header_bytes, span_bytes};
+ghost use Rattle.web_messages.specs.Heads.{HeadOf, TookField, TookFields, version_of};
+ghost use Rattle.web_messages.specs.HeadReadings.{IsHeadRead, ParsesHead, head_read};
+
+use crate::limits::Limits;
+use http::method::MethodError;
+use http::{Method, Version};
+use http_header::{
+    HeaderMap, HeaderMapError, HeaderName, HeaderNameError, HeaderValue, HeaderValueError,
+};
+use http_uri::{Uri, UriError};
+use httparse::Status;
+use httparse::spans::{EMPTY_HEADER_SPAN, HeaderSpan, RequestSpans, parse_request};
+use std::alloc::Global;
+use web_texts::NoMemory;
+
+/// The head of a message: its request line and its header fields (RFC 7230, sections 3.1.1
+/// and 3.2).
+#[derive(Drop)]
+pub struct Head {
+    /// The method.
+    pub method: Method,
+    /// The request target.
+    pub uri: Uri,
+    /// HTTP/1.0 or HTTP/1.1.
+    pub version: Version,
+    /// The header fields, in the order in which they came.
+    pub headers: HeaderMap<HeaderValue>,
+    /// The number of bytes of the head, with the empty lines before it.
+    pub length: usize,
+}
+
+/// What bytes begin with where a head should stand.
+#[derive(Drop)]
+pub enum HeadRead {
+    /// A head within the limits.
+    Head(Head),
+    /// No head within the limits whose parts are taken, whatever bytes follow.
+    Refused,
+    /// No head yet, and there is room for more of it.
+    Unfinished,
+}
+
+/// What the parser says of the bytes.
+#[derive(Clone, Copy)]
+enum Parsed {
+    /// Where the parts of the head are, and how many fields it has.
+    Head(RequestSpans),
+    /// No head with so few fields, whatever bytes follow.
+    Never,
+    /// No head yet.
+    Unfinished,
+}
+
+/// Adds the field of a span, and returns whether `http_header` takes it.
+fn add_field(
+    alloc: Global,
+    bytes: &[u8],
+    span: HeaderSpan,
+    headers: &mut HeaderMap<HeaderValue>,
+) -> Result<bool, NoMemory>
+    requires { IsHeaderWithin (length bytes.now) span }
+    ensures { IfOk result (TookField headers.old (header_bytes bytes.now span) headers.new) }
+{
+    let name = match HeaderName::from_bytes(alloc, span.name.of(bytes)) {
+        Ok(name) => name,
+        Err(HeaderNameError::Invalid) => return Ok(false),
+        Err(HeaderNameError::OutOfMemory) => return Err(NoMemory),
+    };
+    let value = match HeaderValue::from_bytes(alloc, span.value.of(bytes)) {
+        Ok(value) => value,
+        Err(HeaderValueError::Invalid) => return Ok(false),
+        Err(HeaderValueError::OutOfMemory) => return Err(NoMemory),
+    };
+    match headers.append(name, value) {
+        Ok(_) => Ok(true),
+        Err(HeaderMapError::MaxSizeReached) => Ok(false),
+        Err(HeaderMapError::OutOfMemory) => Err(NoMemory),
+    }
+}
+
+/// Adds the fields of the spans, and returns whether `http_header` takes all of them.
+fn add_fields(
+    alloc: Global,
+    bytes: &[u8],
+    spans: &[HeaderSpan],
+    headers: &mut HeaderMap<HeaderValue>,
+) -> Result<bool, NoMemory>
+    requires { All (IsHeaderWithin (length bytes.now)) spans.now }
+    ensures { IfOk result (TookFields headers.old (map (header_bytes bytes.now) spans.now) headers.new) }
+{
+    let mut rest = spans;
+    'fields: while let [span, after @ ..] = rest {
+        if !add_field(alloc, bytes, *span, headers)? {
+            return Ok(false);
+        }
+        rest = after;
+    }
+    Ok(true)
+}
+
+fn version_of(minor: u8) -> Version
+    ensures { result ≡ version_of minor }
+{
+    if minor == 0 {
+        Version::HTTP_10
+    } else {
+        Version::HTTP_11
+    }
+}
+
+/// The head whose parts lie there, if `http`, `http_uri` and `http_header` take them.
+fn head_of(
+    alloc: Global,
+    bytes: &[u8],
+    found: RequestSpans,
+    spans: &[HeaderSpan],
+) -> Result<Option<Head>, NoMemory>
+    requires method { IsWithin (length bytes.now) found.method }
+    requires path { IsWithin (length bytes.now) found.path }
+    requires spans { All (IsHeaderWithin (length bytes.now)) spans.now }
+    ensures { IfOk result (HeadOf (span_bytes bytes.now found.method)
+        (span_bytes bytes.now found.path) found.version
+        (map (header_bytes bytes.now) spans.now) found.len) }
+{
+    let method = match Method::from_bytes(alloc, found.method.of(bytes)) {
+        Ok(method) => method,
+        Err(MethodError::Invalid) => return Ok(None),
+        Err(MethodError::OutOfMemory) => return Err(NoMemory),
+    };
+    let uri = match Uri::from_bytes(alloc, found.path.of(bytes)) {
+        Ok(uri) => uri,
+        Err(UriError::Invalid(_)) => return Ok(None),
+        Err(UriError::OutOfMemory) => return Err(NoMemory),
+    };
+    let mut headers = HeaderMap::empty(alloc);
+    let taken = add_fields(alloc, bytes, spans, &mut headers)?;
+    if taken {
+        Ok(Some(Head {
+            method,
+            uri,
+            version: version_of(found.version),
+            headers,
+            length: found.len,
+        }))
+    } else {
+        Ok(None)
+    }
+}
+
+/// Parses the head at the front of the bytes, with room for so many fields as there are spans.
+fn parse_head(bytes: &[u8], spans: &mut [HeaderSpan]) -> Parsed
+    ensures { ParsesHead bytes.now (length spans.old) spans.new result }
+{
+    match parse_request(bytes, spans) {
+        Ok(Status::Complete(found)) => Parsed::Head(found),
+        Ok(Status::Partial) => Parsed::Unfinished,
+        Err(_) => Parsed::Never,
+    }
+}
+
+/// A head that was parsed, if its parts are taken.
+fn head_read(found: Option<Head>) -> HeadRead
+    ensures { result ≡ head_read found }
+{
+    match found {
+        Some(head) => HeadRead::Head(head),
+        None => HeadRead::Refused,
+    }
+}
+
+/// As `read_head`, with as many spans as fields are allowed.
+fn find_head(
+    alloc: Global,
+    limits: &Limits,
+    bytes: &[u8],
+    spans: &mut [HeaderSpan],
+) -> Result<HeadRead, NoMemory>
+    requires { length spans.old ≡ limits.now.headers }
+    ensures { IfOk result (IsHeadRead limits.now bytes.now) }
+{
+    let (front, _) = bytes.split_at(bytes.len().min(limits.head));
+    match parse_head(front, spans) {
+        Parsed::Head(found) => {
+            let head = head_of(alloc, front, found, &spans[..found.headers])?;
+            Ok(head_read(head))
+        }
+        Parsed::Never => Ok(HeadRead::Refused),
+        Parsed::Unfinished => {
+            if bytes.len() < limits.head {
+                return Ok(HeadRead::Unfinished);
+            }
+            Ok(HeadRead::Refused)
+        }
+    }
+}
+
+/// The head at the front of the bytes, behind empty lines. `NoMemory` where an allocation failed.
+pub fn read_head(alloc: Global, limits: &Limits, bytes: &[u8]) -> Result<HeadRead, NoMemory>
+    ensures { IfOk result (IsHeadRead limits.now bytes.now) }
+{
+    let mut spans = vec![in alloc; EMPTY_HEADER_SPAN; limits.headers]?;
+    find_head(alloc, limits, bytes, spans.as_mut_slice())
+}

@@ -1,0 +1,26 @@
+//! Messages of HTTP/1.1 at the front of the bytes of a connection.
+#![tactic(auto)]
+
+mod chunked;
+mod crlf;
+mod data;
+mod empty_line;
+mod framing;
+mod head;
+mod laws;
+mod limits;
+mod message;
+mod progress;
+mod reading;
+mod runs;
+mod size_line;
+mod text_line;
+mod trailers;
+
+pub use chunked::Place;
+pub use framing::{Framing, framing_of};
+pub use head::{Head, HeadRead, read_head};
+pub use laws::{more_bytes_law, one_body_law, one_next_law, progress_law};
+pub use limits::{Limits, Wrong};
+pub use message::{Message, Next};
+pub use progress::{Progress, Search, Step, next_message, read_last, read_on};

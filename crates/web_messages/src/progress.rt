@@ -1,0 +1,248 @@
+//! The next message of bytes that come in pieces.
+ghost use Rattle.std.specs.Prelude.{◌≡◌, IfOk, List, ℕ, length, true};
+ghost use Rattle.httparse.specs.Grammar.{HasNoRequest};
+ghost use Rattle.web_messages.specs.EmptyLines.{BlankFront};
+ghost use Rattle.web_messages.specs.NextMessage.{IsNext};
+ghost use Rattle.web_messages.specs.Progress.{HeadFound, IsProgress, IsSearch, ReadsOn};
+ghost use Rattle.web_messages.specs.Progress.{next_at_end, stopped};
+ghost use Rattle.web_messages.specs.declared.limits.Limits.{Limits as LimitsOf};
+ghost use Rattle.web_messages.specs.declared.progress.Progress.TheVariants as progress;
+
+use crate::chunked::{Chunked, Place, read_chunked};
+use crate::empty_line::{blank_front, has_empty_line};
+use crate::framing::{Framing, framing_of};
+use crate::head::{Head, HeadRead, read_head};
+use crate::limits::{Limits, Wrong};
+use crate::message::{BodyRead, Next, message_of, read_sized};
+use bytes::Bytes;
+use std::alloc::Global;
+use web_texts::NoMemory;
+
+/// How far a head was looked for.
+#[derive(Clone, Copy, Debug, PartialEq, Eq)]
+pub struct Search {
+    /// So many bytes at the front are CR or LF.
+    pub blank: usize,
+    /// No head ends within so many bytes.
+    pub searched: usize,
+}
+
+/// How far the next message was read.
+#[derive(Drop)]
+pub enum Progress {
+    /// Its head was looked for.
+    Head(Search),
+    /// Its head was read; its body has so many bytes.
+    Sized(Head, u64),
+    /// Its head was read, and the chunks of its body up to a place, which have these bytes.
+    Chunked(Head, Place, Vec<u8>),
+}
+
+/// What is known of the next message.
+#[derive(Drop)]
+pub enum Step {
+    /// It is known, whatever bytes follow.
+    Next(Next),
+    /// More bytes decide.
+    Unfinished(Progress),
+}
+
+impl Progress {
+    /// Nothing was read.
+    pub fn start() -> Progress
+        ensures { (limits : LimitsOf) (bytes : List ℕ) → IsProgress limits bytes result }
+    {
+        Progress::Head(Search {
+            blank: 0,
+            searched: 0,
+        })
+    }
+
+    /// The next message where no byte follows the `length` bytes of which this was read.
+    fn at_end(self, length: usize) -> Next
+        ensures { result ≡ next_at_end self length }
+    {
+        match self {
+            Progress::Head(search) => {
+                if search.blank == length {
+                    return Next::Closed;
+                }
+                Next::Refused(Wrong::Head)
+            }
+            Progress::Sized(_, _) => Next::Refused(Wrong::Cut),
+            Progress::Chunked(_, _, _) => Next::Refused(Wrong::Cut),
+        }
+    }
+}
+
+/// The step where a body was refused: what ends inside may go on.
+fn stopped(wrong: Wrong, progress: Progress) -> Step
+    ensures { result ≡ stopped wrong progress }
+{
+    match wrong {
+        Wrong::Cut => Step::Unfinished(progress),
+        _ => Step::Next(Next::Refused(wrong)),
+    }
+}
+
+/// Reads on in a body of so many bytes.
+fn read_sized_on(
+    alloc: Global,
+    limits: &Limits,
+    bytes: &[u8],
+    head: Head,
+    length: u64,
+) -> Result<Step, NoMemory>
+    requires { IsProgress limits.now bytes.now (progress.Sized head length) }
+    ensures { IfOk result (ReadsOn limits.now bytes.now) }
+{
+    match read_sized(alloc, limits.body, length, &bytes[head.length..])? {
+        BodyRead::Body(body, left) => Ok(Step::Next(Next::Message(message_of(
+            head,
+            body,
+            bytes.len() - left,
+        )))),
+        BodyRead::Refused(wrong) => Ok(stopped(wrong, Progress::Sized(head, length))),
+    }
+}
+
+/// Reads on in a body in chunks.
+fn read_chunked_on(
+    limits: &Limits,
+    bytes: &[u8],
+    head: Head,
+    place: Place,
+    body: Vec<u8>,
+) -> Result<Step, NoMemory>
+    requires { IsProgress limits.now bytes.now (progress.Chunked head place body) }
+    ensures { IfOk result (ReadsOn limits.now bytes.now) }
+{
+    let mut place = place;
+    let mut body = body;
+    match read_chunked(
+        &bytes[head.length..],
+        limits.body,
+        &mut place,
+        &mut body,
+    )? {
+        Chunked::Body(rest) => {
+            let used = bytes.len() - rest.len();
+            let body = Bytes::from_vec(body)?;
+            Ok(Step::Next(Next::Message(message_of(head, body, used))))
+        }
+        Chunked::TooLarge => Ok(Step::Next(Next::Refused(Wrong::TooLarge))),
+        Chunked::Unfinished => Ok(Step::Unfinished(Progress::Chunked(head, place, body))),
+        Chunked::Wrong => Ok(Step::Next(Next::Refused(Wrong::Chunk))),
+    }
+}
+
+/// Begins the body behind a head.
+fn read_body(
+    alloc: Global,
+    limits: &Limits,
+    bytes: &[u8],
+    head: Head,
+) -> Result<Step, NoMemory>
+    requires { HeadFound limits.now bytes.now head }
+    ensures { IfOk result (ReadsOn limits.now bytes.now) }
+{
+    match framing_of(&head.headers) {
+        Framing::Length(length) => read_sized_on(alloc, limits, bytes, head, length),
+        Framing::Chunked => {
+            let place = Place {
+                at: 0,
+                left: limits.body as u64,
+            };
+            read_chunked_on(limits, bytes, head, place, Vec::new(alloc))
+        }
+        Framing::Refused => Ok(Step::Next(Next::Refused(Wrong::Length))),
+    }
+}
+
+/// Whether there is surely no head in the bytes, of which so many at the front are CR or LF.
+fn has_no_head(limits: &Limits, bytes: &[u8], blank: usize, searched: usize) -> bool
+    requires blank { BlankFront bytes.now blank }
+    requires searched { IsSearch bytes.now (record { blank = blank; searched = searched; }) }
+    ensures { result ≡ true → HasNoRequest bytes.now }
+{
+    if searched == 0 {
+        return false;
+    }
+    if bytes.len() >= limits.head {
+        return false;
+    }
+    !has_empty_line(bytes, searched.max(blank))
+}
+
+/// Looks on for a head, and begins the body behind it.
+fn read_head_on(
+    alloc: Global,
+    limits: &Limits,
+    bytes: &[u8],
+    search: Search,
+) -> Result<Step, NoMemory>
+    requires { IsSearch bytes.now search }
+    ensures { IfOk result (ReadsOn limits.now bytes.now) }
+{
+    let blank = blank_front(bytes, search.blank);
+    let progress = Progress::Head(Search {
+        blank,
+        searched: bytes.len(),
+    });
+    if blank == bytes.len() {
+        return Ok(Step::Unfinished(progress));
+    }
+    if has_no_head(limits, bytes, blank, search.searched) {
+        return Ok(Step::Unfinished(progress));
+    }
+    match read_head(alloc, limits, bytes)? {
+        HeadRead::Head(head) => read_body(alloc, limits, bytes, head),
+        HeadRead::Refused => Ok(Step::Next(Next::Refused(Wrong::Head))),
+        HeadRead::Unfinished => Ok(Step::Unfinished(progress)),
+    }
+}
+
+/// Reads on in the next message, of which so much was read, when more bytes came behind those at
+/// hand then. `bytes` are all from the first of the message on. A head is parsed once it has an
+/// empty line behind it, or as many bytes as it may have; the bytes of a body are read once, but
+/// for a size line, a chunk that is not whole, and trailers. `NoMemory` where an allocation failed.
+pub fn read_on(
+    alloc: Global,
+    limits: &Limits,
+    bytes: &[u8],
+    progress: Progress,
+) -> Result<Step, NoMemory>
+    requires { IsProgress limits.now bytes.now progress }
+    ensures { IfOk result (ReadsOn limits.now bytes.now) }
+{
+    match progress {
+        Progress::Head(search) => read_head_on(alloc, limits, bytes, search),
+        Progress::Sized(head, length) => read_sized_on(alloc, limits, bytes, head, length),
+        Progress::Chunked(head, place, body) => read_chunked_on(limits, bytes, head, place, body),
+    }
+}
+
+/// The next message, of which so much was read, where the bytes are all that come. `NoMemory` where
+/// an allocation failed.
+pub fn read_last(
+    alloc: Global,
+    limits: &Limits,
+    bytes: &[u8],
+    progress: Progress,
+) -> Result<Next, NoMemory>
+    requires { IsProgress limits.now bytes.now progress }
+    ensures { IfOk result (IsNext limits.now bytes.now) }
+{
+    match read_on(alloc, limits, bytes, progress)? {
+        Step::Next(next) => Ok(next),
+        Step::Unfinished(progress) => Ok(progress.at_end(bytes.len())),
+    }
+}
+
+/// The next message of the bytes, which are all that are left. `NoMemory` where an allocation
+/// failed.
+pub fn next_message(alloc: Global, limits: &Limits, bytes: &[u8]) -> Result<Next, NoMemory>
+    ensures { IfOk result (IsNext limits.now bytes.now) }
+{
+    read_last(alloc, limits, bytes, Progress::start())
+}
