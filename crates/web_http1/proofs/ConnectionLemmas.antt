@@ -3,7 +3,9 @@ use Rattle.std.proofs.Common.{◌≡◌, ℕ, ◌+◌, ◌<◌, ◌≤◌, ◌�
 use Rattle.std.proofs.lemmas.List.{drop-append-le}
 use Rattle.web_texts.specs.declared.memory.NoMemory.{NoMemory}
 use Rattle.web_worker.specs.Exchanges.{ExchangeView}
+use Rattle.web_worker.specs.HandlerPromises.{SamePromises}
 use Rattle.web_worker.specs.Setting.{Setting}
+use Rattle.web_worker.proofs.SamePromiseLemmas.{setting_with}
 use Rattle.web_messages.specs.NextMessage.{IsNext}
 use Rattle.web_messages.specs.Progress.{IsSettled}
 use Rattle.web_messages.specs.Progress as reading
@@ -16,11 +18,14 @@ use Rattle.web_messages.specs.declared.message.Next.{Next}
 use Rattle.web_messages.specs.declared.message.Next.TheVariants as next
 use Rattle.web_messages.proofs.OneLemmas.{one_next}
 use Rattle.web_messages.proofs.UseLemmas.{uses_some, uses_within}
+use Rattle.web_http1.specs.declared.answering.Turned.{Turned}
+use Rattle.web_http1.specs.declared.answering.Turned.TheVariants as turned
 use Rattle.web_http1.specs.declared.ended.Ended.{Ended}
 use Rattle.web_http1.specs.declared.ended.Ended.TheVariants as ended
 use Rattle.web_http1.specs.Answers.{Answer, Behind, IsAnswerTo, MayStand, Served, answer_bytes, asks_end, is_head, refusal_bytes, replies, sent_answer}
-use Rattle.web_http1.specs.Connections.{ConnectionView, Goes, GoesOn, IsReplied, Refuses, StepsTo, failed}
+use Rattle.web_http1.specs.Connections.{ConnectionView, Goes, GoesOn, IsReplied, IsServed, IsTurned, RefusedWith, StepsTo, ended_at, open_at}
 use Rattle.web_http1.specs.MessageExchanges.{exchange_of}
+use Rattle.web_http1.proofs.SettingLemmas.{same_back, served_as}
 
 behind_true : (c : Bool) (A B : Type 0) → c ≡ true → Behind c A B → A
 behind_true true A B e x = x
@@ -53,7 +58,7 @@ module _ {S L D C V E Y U W : Type 0} (s : Setting S L D C V E Y U W) where
     pub others : List Answer
     pub all : xs ≡ first ∷ others
     pub same : SameMessage m first.message
-    pub to : IsAnswerTo s first
+    pub replied : IsAnswerTo s first
     pub behind : Behind (sent_answer first).closes ((others ≡ []) × (rest ≡ drop first.message.used (left ++ more)) × (closed ≡ true))
         (Served s limits (drop first.message.used (left ++ more)) others rest closed)
 
@@ -65,7 +70,7 @@ module _ {S L D C V E Y U W : Type 0} (s : Setting S L D C V E Y U W) where
     others = xs;
     all = refl;
     same = one_next limits (left ++ more) (next.Message m) (next.Message x.message) (is more) v.0;
-    to = v.1;
+    replied = v.1;
     behind = v.2;
   }
 
@@ -103,7 +108,7 @@ module _ {S L D C V E Y U W : Type 0} (s : Setting S L D C V E Y U W) where
       h.1,
       λ more xs rest closed v.
           let b = begins old.limits old.left m is more xs rest closed v in
-          let written = h.2 b.first b.same b.to in
+          let written = h.2 b.first b.same b.replied in
           let last = behind_true (sent_answer b.first).closes _ _ (sym written.0 ∙ true_is) b.behind in
           ended_as new (Some ended.Closed) new.ended more xs h.0 rest closed end (
             last.2,
@@ -120,7 +125,7 @@ module _ {S L D C V E Y U W : Type 0} (s : Setting S L D C V E Y U W) where
       h.1,
       λ more xs rest closed v.
           let b = begins old.limits old.left m is more xs rest closed v in
-          let written = h.2 b.first b.same b.to in
+          let written = h.2 b.first b.same b.replied in
           let others = behind_false (sent_answer b.first).closes _ _ (sym written.0 ∙ false_is) b.behind in
           let bytes : drop b.first.message.used (old.left ++ more) ≡ new.left ++ more =
           ap (λ (n : ℕ). drop n (old.left ++ more)) (sym b.same.used) ∙ drop-append-le m.used old.left more message_fits
@@ -141,58 +146,97 @@ module _ {S L D C V E Y U W : Type 0} (s : Setting S L D C V E Y U W) where
   may_stand wrong.Chunk h = tt
   may_stand wrong.Cut h = h
 
-  pub refused_steps : (old new : ConnectionView) (w : Wrong) (before behind : List ℕ) → reading.MayStand (next.Refused w)
-      → IsSettled old.limits old.left (next.Refused w) → Refuses w old new before behind → StepsTo s old new before behind
-  refused_steps old new w before behind stands is (inr h) = failed_steps old new before behind (ap (λ (c : ConnectionView). c.ended) h.0) h.1
-  refused_steps old new w before behind stands is (inl h) = (
+  pub refused_steps : (limits : Limits) (left : List ℕ) (w : Wrong) (end : Ended) (before behind : List ℕ) → reading.MayStand (next.Refused w)
+      → IsSettled limits left (next.Refused w) → RefusedWith w end before behind → StepsTo s (open_at limits left) (ended_at limits left end) before behind
+  refused_steps limits left w ended.Closed before behind stands is h = absurd h
+  refused_steps limits left w ended.SourceFault before behind stands is h = absurd h
+  refused_steps limits left w ended.NoMemory before behind stands is h =
+      failed_steps (open_at limits left) (ended_at limits left ended.NoMemory) before behind refl h
+  refused_steps limits left w (ended.Refused v) before behind stands is h = (
     refusal_bytes w,
     h.1,
-    λ more xs rest closed v.
-        let none = none_before old.limits old.left w is more xs rest closed v in
-        ended_as new (Some (ended.Refused w)) new.ended more xs (refusal_bytes w) rest closed (ap (λ (c : ConnectionView). c.ended) h.0) (
+    λ more xs rest closed served.
+        let none = none_before limits left w is more xs rest closed served in (
           none.2,
-          may_stand w stands,
-          subst (λ (l : Limits). IsNext l rest (next.Refused w)) (sym (ap (λ (c : ConnectionView). c.limits) h.0))
-              (subst (λ (t : List ℕ). IsNext old.limits t (next.Refused w)) (sym none.1) (is more)),
-          ap (λ (ys : List Answer). replies ys ++ refusal_bytes w) (sym none.0),
+          subst MayStand (sym h.0) (may_stand w stands),
+          subst (λ (u : Wrong). IsNext limits rest (next.Refused u)) (sym h.0)
+              (subst (λ (t : List ℕ). IsNext limits t (next.Refused w)) (sym none.1) (is more)),
+          ap (λ (ys : List Answer). replies ys ++ refusal_bytes w) (sym none.0)
+              ∙ ap (λ (u : Wrong). replies xs ++ refusal_bytes u) (sym h.0),
         ),
   )
 
+  -- a message that was answered
+  pub served_turns : (limits : Limits) (rest : List ℕ) (m : Message) (before behind : List ℕ) (t : Turned) → IsSettled limits rest (next.Message m)
+      → IsServed s m before behind t → IsTurned s limits rest before behind t
+  served_turns limits rest m before behind (turned.Goes used) is h = (
+    subst (λ (n : ℕ). 0 < n) (sym h.0) (message_some (open_at limits rest) (open_at limits (drop used rest)) m is),
+    subst (λ (n : ℕ). n ≤ length rest) (sym h.0) (message_fits (open_at limits rest) (open_at limits (drop used rest)) m is),
+    open_steps (open_at limits rest) (open_at limits (drop used rest)) m is before behind false refl refl refl (ap (λ (n : ℕ). drop n rest) h.0) h.1,
+  )
+  served_turns limits rest m before behind (turned.Waits p) is h = absurd h
+  served_turns limits rest m before behind (turned.Ended ended.Closed) is h =
+      closed_steps (open_at limits rest) (ended_at limits rest ended.Closed) m is before behind true refl refl h
+  served_turns limits rest m before behind (turned.Ended (ended.Refused w)) is h = absurd h
+  served_turns limits rest m before behind (turned.Ended ended.SourceFault) is h = absurd h
+  served_turns limits rest m before behind (turned.Ended ended.NoMemory) is h =
+      failed_steps (open_at limits rest) (ended_at limits rest ended.NoMemory) before behind refl h
+
   -- nothing was known
   pub waits_steps : (old new : ConnectionView) (before behind : List ℕ) → new ≡ old → old.ended ≡ None → behind ≡ before → StepsTo s old new before behind
-  waits_steps old new before behind same open written = (
+  waits_steps old new before behind same unended written = (
     [],
     written ∙ sym (append-nil before),
-    λ more xs rest closed v. ended_as new None new.ended more xs [] rest closed (ap (λ (c : ConnectionView). c.ended) same ∙ open) (
+    λ more xs rest closed v. ended_as new None new.ended more xs [] rest closed (ap (λ (c : ConnectionView). c.ended) same ∙ unended) (
       xs,
       subst (λ (c : ConnectionView). Served s c.limits (c.left ++ more) xs rest closed) (sym same) v,
       refl,
     ),
   )
 
+  -- what goes on behind what was given
+  pub goes_then : (c : ConnectionView) (e : Option Ended) (more : List ℕ) (xs ys : List Answer) (given next' rest : List ℕ) (closed : Bool) → replies xs ≡ given ++ replies ys
+      → GoesOn s c e more ys next' rest closed → GoesOn s c e more xs (given ++ next') rest closed
+  goes_then c None more xs ys given next' rest closed split g =
+      (g.0, g.1, split ∙ ap (λ (t : List ℕ). given ++ t) g.2 ∙ sym (append_assoc given next' (replies g.0)))
+  goes_then c (Some ended.Closed) more xs ys given next' rest closed split g =
+      (g.0, ap (λ (t : List ℕ). given ++ t) g.1 ∙ sym split)
+  goes_then c (Some (ended.Refused w)) more xs ys given next' rest closed split g = (
+    g.0,
+    g.1,
+    g.2,
+    ap (λ (t : List ℕ). given ++ t) g.3 ∙ sym (append_assoc given (replies ys) (refusal_bytes w))
+        ∙ ap (λ (t : List ℕ). t ++ refusal_bytes w) (sym split),
+  )
+  goes_then c (Some ended.SourceFault) more xs ys given next' rest closed split g = g
+  goes_then c (Some ended.NoMemory) more xs ys given next' rest closed split g =
+      (g.0, split ∙ ap (λ (t : List ℕ). given ++ t) g.1 ∙ sym (append_assoc given next' g.0))
+
   -- two steps
   pub then_steps : (old middle new : ConnectionView) (a b c : List ℕ) → middle.ended ≡ None → StepsTo s old middle a b → StepsTo s middle new b c → StepsTo s old new a c
-  then_steps old middle new a b c open h k = (
+  then_steps old middle new a b c unended h k = (
     h.0 ++ k.0,
     k.1 ∙ ap (λ (t : List ℕ). t ++ k.0) h.1 ∙ append_assoc a h.0 k.0,
     λ more xs rest closed v.
-        let first = subst (λ (o : Option Ended). GoesOn s middle o more xs h.0 rest closed) open (h.2 more xs rest closed v) in
-        both new new.ended more xs first.0 h.0 k.0 rest closed first.2 (k.2 more first.0 rest closed first.1),
+        let first = subst (λ (o : Option Ended). GoesOn s middle o more xs h.0 rest closed) unended (h.2 more xs rest closed v) in
+        goes_then new new.ended more xs first.0 h.0 k.0 rest closed first.2 (k.2 more first.0 rest closed first.1),
   )
-    where
-      both : (c : ConnectionView) (e : Option Ended) (more : List ℕ) (xs ys : List Answer) (given next' rest : List ℕ) (closed : Bool) → replies xs ≡ given ++ replies ys
-          → GoesOn s c e more ys next' rest closed → GoesOn s c e more xs (given ++ next') rest closed
-      both c None more xs ys given next' rest closed split g =
-          (g.0, g.1, split ∙ ap (λ (t : List ℕ). given ++ t) g.2 ∙ sym (append_assoc given next' (replies g.0)))
-      both c (Some ended.Closed) more xs ys given next' rest closed split g =
-          (g.0, ap (λ (t : List ℕ). given ++ t) g.1 ∙ sym split)
-      both c (Some (ended.Refused w)) more xs ys given next' rest closed split g = (
-        g.0,
-        g.1,
-        g.2,
-        ap (λ (t : List ℕ). given ++ t) g.3 ∙ sym (append_assoc given (replies ys) (refusal_bytes w))
-            ∙ ap (λ (t : List ℕ). t ++ refusal_bytes w) (sym split),
-      )
-      both c (Some ended.SourceFault) more xs ys given next' rest closed split g = g
-      both c (Some ended.NoMemory) more xs ys given next' rest closed split g =
-          (g.0, split ∙ ap (λ (t : List ℕ). given ++ t) g.1 ∙ sym (append_assoc given next' g.0))
+
+-- a step, where the handler promises the same
+module _ {S L D C V E Y U W : Type 0} (s : Setting S L D C V E Y U W) (a b : V → ℕ → Y → Type 0) (h : SamePromises a b) where
+  goes_as : (c : ConnectionView) (e : Option Ended) (more : List ℕ) (xs : List Answer) (given rest : List ℕ) (closed : Bool) → GoesOn (setting_with s b) c e more xs given rest closed
+      → GoesOn (setting_with s a) c e more xs given rest closed
+  goes_as c None more xs given rest closed g =
+      (g.0, served_as s b a (same_back a b h) c.limits (c.left ++ more) g.0 rest closed g.1, g.2)
+  goes_as c (Some ended.Closed) more xs given rest closed g = g
+  goes_as c (Some (ended.Refused w)) more xs given rest closed g = g
+  goes_as c (Some ended.SourceFault) more xs given rest closed g = g
+  goes_as c (Some ended.NoMemory) more xs given rest closed g = g
+
+  pub steps_as : (old new : ConnectionView) (before behind : List ℕ) → StepsTo (setting_with s b) old new before behind → StepsTo (setting_with s a) old new before behind
+  steps_as old new before behind t = (
+    t.0,
+    t.1,
+    λ more xs rest closed v.
+        goes_as new new.ended more xs t.0 rest closed (t.2 more xs rest closed (served_as s a b h old.limits (old.left ++ more) xs rest closed v)),
+  )

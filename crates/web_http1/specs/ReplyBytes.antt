@@ -1,5 +1,7 @@
 -- The bytes of a reply (RFC 7230, sections 3.1.2, 3.2 and 3.3).
-use Rattle.std.specs.Prelude.{ℕ, ◌==◌, ◌||◌, Bool, true, false, not, List, [], ◌∷◌, ◌++◌, length, codes, decimal, flat_map, nat_lt, Option, None, Some, if◌then◌else◌, unwrap_or}
+use Rattle.std.specs.Prelude.{ℕ, ◌==◌, ◌||◌, Bool, true, false, not, List, [], ◌∷◌, ◌++◌, length}
+use Rattle.std.specs.Prelude.{codes, decimal, flat_map, nat_lt, Option, None, Some, if◌then◌else◌}
+use Rattle.std.specs.Prelude.{unwrap_or}
 use Rattle.std.specs.List.{filter, list_all}
 use Rattle.std.specs.Str.{bytes_eq}
 use Rattle.http.specs.StatusCode.{reason_phrase}
@@ -14,7 +16,7 @@ use Rattle.web_reply.specs.Replies.{Reply}
 use Rattle.web_reply.specs.declared.head.ConnectionType.{ConnectionType}
 use Rattle.web_reply.specs.declared.head.ConnectionType.TheVariants.{KeepAlive, Close, Upgrade}
 use Rattle.web_reply.specs.declared.head.ResponseHead.{ResponseHead}
-use Rattle.web_print.specs.HeaderLines.{sorted_names}
+use Rattle.web_describe.specs.SortedNames.{sorted_names}
 
 abbrev pub crlf : List ℕ
 crlf = 13 ∷ 10 ∷ []

@@ -1,6 +1,7 @@
 //! A connection of HTTP/1.1 over any source of bytes.
 #![tactic(auto)]
 
+mod answering;
 mod closing;
 mod connection;
 mod content;

@@ -50,11 +50,13 @@ where
         → AnswersOnce (⟦<H as Serves<A, Args>>⟧.setting handler.old worker.old) x d r
         → d < 18446744073709551615 → AnsweredBy r flights.new }
 {
-    for _poll in 0..u64::MAX {
+    let mut polls = 0u64;
+    'polls: while polls < u64::MAX {
         poll_one(alloc, worker, handler, flights, 0);
         if is_answered(flights) {
             return;
         }
+        polls += 1;
     }
 }
 

@@ -1,9 +1,7 @@
 //! The bytes of a reply.
-ghost use Rattle.std.specs.Prelude.{◌≡◌, ◌++◌, IfOk, OnOk, flat_map, length, map};
+ghost use Rattle.std.specs.Prelude.{◌≡◌, ◌++◌, [], IfOk, None, OnOk, flat_map, if◌then◌else◌, map};
 ghost use Rattle.std.specs.List.{list_all};
-ghost use Rattle.http_header.specs.HeaderMap.{keys};
 ghost use Rattle.http_header.specs.Token.{is_visible_or_blank};
-ghost use Rattle.web_print.specs.HeaderLines.{sorted_names};
 ghost use Rattle.web_reply.specs.ResponseBodies.{box_plain};
 ghost use Rattle.web_reply.specs.ResponseHeads.{new_head};
 ghost use Rattle.web_reply.specs.Replies.{plain_reply};
@@ -22,6 +20,7 @@ use http_header::{
 };
 use std::alloc::Global;
 use std::marker::Model;
+use web_describe::sorted_names;
 use web_messages::Wrong;
 use web_reply::{BoxBody, ConnectionType, HttpResponse, Reason, ResponseHead};
 use web_request::Source;
@@ -97,22 +96,6 @@ fn put_status_line(out: &mut Vec<u8>, head: &ResponseHead) -> Result<(), NoMemor
     put(out, b" ")?;
     put_phrase(out, &head.reason, head.status)?;
     put(out, b"\r\n")
-}
-
-/// The names of a map, sorted by their bytes. A map has each name once.
-fn sorted_names(
-    alloc: Global,
-    headers: &HeaderMap<HeaderValue>,
-) -> Result<Vec<&HeaderName>, NoMemory>
-    ensures { IfOk result (λ names.
-        map (λ n. n.now) names.items ≡ sorted_names (keys headers.now)) }
-{
-    let mut names = Vec::with_capacity(alloc, headers.keys_len())?;
-    for name in headers.keys() {
-        names.push(name)?;
-    }
-    names.sort_unstable_by(|a, b| a.as_str().cmp(b.as_str()));
-    Ok(names)
 }
 
 fn put_field(out: &mut Vec<u8>, name: &HeaderName, value: &HeaderValue) -> Result<(), NoMemory>
@@ -252,7 +235,7 @@ fn head_closes(connection: Option<ConnectionType>) -> bool
 
 /// An empty reply of this status that closes.
 fn empty_reply(alloc: Global, status: StatusCode) -> Sent
-    ensures { result ≡ record { head = new_head status; content = []; closes = true; } }
+    ensures { result ≡ record { head = new_head status; content = []; closes = true } }
 {
     Sent {
         response: HttpResponse::with_body(alloc, status, ()),

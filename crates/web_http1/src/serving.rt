@@ -1,10 +1,11 @@
 //! A connection over a source.
-ghost use Rattle.std.specs.Prelude.{◌≡◌, ◌+◌, ◌-◌, ◌<◌, ◌≤◌, ◌^◌, ℕ, Bool, List, Some, false, true};
-ghost use Rattle.web_texts.specs.Counts.{Rose};
+ghost use Rattle.std.specs.Prelude.{◌≡◌, ◌+◌, ◌-◌, ◌<◌, ◌≤◌, ◌^◌, List, None, Some, false};
+ghost use Rattle.std.specs.Prelude.{length, true};
 ghost use Rattle.web_request.specs.Body.{ends_in_fault, piece_bytes};
 ghost use Rattle.web_request.specs.declared.source.Mark.{Mark as MarkOf};
 ghost use Rattle.web_worker.specs.HandlerPromises.{SamePromises};
 ghost use Rattle.web_worker.specs.PlanPools.{with_records};
+ghost use Rattle.web_http1.specs.Connections.{TakesPiece, open_bytes};
 ghost use Rattle.web_http1.specs.Serving.{AnswersAll, AnswersUpToFault, StopsAtFault};
 
 use crate::connection::Connection;
@@ -29,6 +30,16 @@ fn take_piece<A: App, Args: FromRequest<A>, H: Handler<Args>>(
 ) -> Option<Ended>
 where
     H::Output: Responder<A>,
+    requires unended { connection.old.ended ≡ None }
+    requires ready { H.ready handler.old }
+    requires room { worker.old.made + (length connection.old.left + length piece.now) < 2 ^ 64 }
+    ensures ready { H.ready handler.new }
+    ensures same_promises { SamePromises (H.answers handler.old) (H.answers handler.new) }
+    ensures made { worker.new.made + open_bytes result (length connection.new.left)
+        ≤ worker.old.made + (length connection.old.left + length piece.now) }
+    ensures kept { worker.new ≡ with_records worker.new.serials worker.new.made worker.old }
+    ensures takes { TakesPiece (⟦<H as Serves<A, Args>>⟧.setting handler.old worker.old)
+        connection.old connection.new piece.now out.old.items out.new.items result }
 {
     if connection.feed(alloc, piece.as_slice()).is_err() {
         return Some(Ended::NoMemory);

@@ -1,5 +1,5 @@
 -- Reading on: what is known of the next message, and that it holds of more bytes too.
-use Rattle.std.proofs.Common.{◌≡◌, ℕ, ◌+◌, ◌-◌, ◌<◌, ◌≤◌, ◌==◌, Bool, true, false, List, [], ◌∷◌, ◌++◌, length, take, drop, refl, sym, ap, ◌∙◌, subst, arith, append-nil, length-append, length-drop, if◌then◌else◌, Vec, Global}
+use Rattle.std.proofs.Common.{◌≡◌, ℕ, inl, inr, ◌+◌, ◌-◌, ◌<◌, ◌≤◌, ◌==◌, Bool, true, false, List, [], ◌∷◌, ◌++◌, length, take, drop, refl, sym, ap, ◌∙◌, subst, arith, append-nil, length-append, length-drop, if◌then◌else◌, Vec, Global}
 use Rattle.std.specs.Borrow.{Bor}
 use Rattle.std.proofs.lemmas.List.{drop-append-le}
 use Rattle.std.proofs.lemmas.Bool.Decides.{eqb_tells}
@@ -122,10 +122,10 @@ if_false false x y e = refl
 if_false true x y e = cc
 
 same_test : (n m : ℕ) → n ≡ m → (n == m) ≡ true
-same_test n m e = elim (eqb_tells n m) [ | inl x ↦ x.0 | inr x ↦ absurd (x.1 e) ]
+same_test n m e = elim (eqb_tells n m) [ inl x ↦ x.0 | inr x ↦ absurd (x.1 e) ]
 
 other_test : (n m : ℕ) → n < m → (n == m) ≡ false
-other_test n m e = elim (eqb_tells n m) [ | inl x ↦ absurd (omega (arith, x.1, e)) | inr x ↦ x.0 ]
+other_test n m e = elim (eqb_tells n m) [ inl x ↦ absurd (omega (arith, x.1, e)) | inr x ↦ x.0 ]
 
 module _ (limits : Limits) (bytes : List ℕ) (n : ℕ) (f : BlankFront bytes n) where
   -- there is nothing but CR and LF

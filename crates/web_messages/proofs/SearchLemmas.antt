@@ -1,5 +1,5 @@
 -- Where a head begins and ends: behind empty lines, and in one.
-use Rattle.std.proofs.Common.{◌≡◌, ℕ, ◌+◌, ◌-◌, ◌<◌, ◌≤◌, ◌⊎◌, inl, inr, Bool, true, false, List, [], ◌∷◌, ◌++◌, length, take, get_or, refl, sym, ap, ◌∙◌, subst, arith, append-nil, length-append}
+use Rattle.std.proofs.Common.{◌≡◌, ℕ, suc, not, ◌+◌, ◌-◌, ◌<◌, ◌≤◌, ◌⊎◌, inl, inr, Bool, true, false, List, [], ◌∷◌, ◌++◌, length, take, get_or, refl, sym, ap, ◌∙◌, subst, arith, append-nil, length-append}
 use Rattle.std.specs.List.{All}
 use Rattle.std.proofs.Math.Seq.{get_or-append_seam}
 use Rattle.std.proofs.lemmas.Bool.{cases_lt, false≢true}
@@ -118,7 +118,7 @@ last_bytes text e = of e.last (e.text_is)
 head_end : (tree : RequestHead) (bytes rest : List ℕ) → ReadsRequest bytes tree rest → EndsInEmptyLine (print_request tree)
 head_end tree bytes rest reads =
     let h = head_ends (print_request tree) tree [] (reads.0, sym (append-nil (print_request tree))) in
-    record { front = h.front; last = h.last; text_is = h.text_is ∙ ap (λ (t : List ℕ). h.front ++ (10 ∷ t)) (append-nil (print_end h.last)) }
+    record { front = h.0; last = h.1; text_is = h.2 ∙ ap (λ (t : List ℕ). h.0 ++ (10 ∷ t)) (append-nil (print_end h.1)) }
 
 -- no head where no empty line ends behind the bytes that were searched
 pub not_there : (bytes : List ℕ) (s : Search) (blank from : ℕ) → IsSearch bytes s → BeginsBlank bytes blank
@@ -168,3 +168,7 @@ searched_all bytes blank begins none = record {
 pub blank_no_head : (bytes : List ℕ) (n : ℕ) → BeginsBlank bytes n → n ≡ length bytes → HasNoRequest bytes
 blank_no_head bytes n begins all tree rest reads =
     omega (arith, all, behind_blank bytes n tree rest begins reads, ap length reads.1, length-append (print_request tree) rest)
+
+pub not_true : (b : Bool) → not b ≡ true → b ≡ false
+not_true true e = sym e
+not_true false e = refl

@@ -1,5 +1,6 @@
--- The head at the front of the bytes of a connection: rule 2.
-use Rattle.std.specs.Prelude.{◌≡◌, ℕ, ◌≤◌, Bool, true, false, List, [], ◌∷◌, length, map, Option, None, Some, if◌then◌else◌, ◌==◌}
+-- The head at the front of the bytes of a connection (RFC 7230, sections 3.1.1 and 3.2).
+use Rattle.std.specs.Prelude.{◌≡◌, ℕ, ◌≤◌, Bool, true, false, List, [], ◌∷◌, length, map, Option}
+use Rattle.std.specs.Prelude.{None, Some, if◌then◌else◌, ◌==◌}
 use Rattle.http.specs.declared.version.Version.{Version}
 use Rattle.http.specs.declared.version.TheConstants.Version.{HTTP_10, HTTP_11}
 use Rattle.http_header.specs.Token.{IsToken, lowercase}
@@ -44,7 +45,9 @@ abbrev pub version_of : ℕ → Version
 version_of minor = if minor == 0 then HTTP_10 else HTTP_11
 
 -- the head of these parts, as `http`, `http_uri` and `http_header` take them
-pub record IsHeadOf (name target : List ℕ) (minor : ℕ) (fields : List FieldPair) (size : ℕ) (head : Head) : Type 0 where
+pub record IsHeadOf
+    (name target : List ℕ) (minor : ℕ) (fields : List FieldPair) (size : ℕ)
+    (head : Head) : Type 0 where
   pub token : IsToken name
   pub method_is : head.method ≡ name
   pub spells : Spells target head.uri
@@ -65,7 +68,8 @@ HeadOf name target minor fields size (Some head) = IsHeadOf name target minor fi
 HeadOf name target minor fields size None = ¬ (Takes name target fields)
 
 -- the bytes are that head of httparse's grammar, within the limits, and then rest
-pub record HasHead (limits : Limits) (bytes : List ℕ) (tree : RequestHead) (rest : List ℕ) : Type 0 where
+pub record HasHead
+    (limits : Limits) (bytes : List ℕ) (tree : RequestHead) (rest : List ℕ) : Type 0 where
   pub reads : ReadsRequest bytes tree rest
   pub short : length (print_request tree) ≤ limits.head
   pub few : length tree.fields ≤ limits.headers
@@ -75,11 +79,13 @@ TakesTree tree = Takes tree.method tree.target (map name_and_value tree.fields)
 
 abbrev pub IsHeadOfTree : RequestHead → Head → Type 0
 IsHeadOfTree tree head =
-    IsHeadOf tree.method tree.target tree.minor (map name_and_value tree.fields) (length (print_request tree)) head
+    IsHeadOf tree.method tree.target tree.minor (map name_and_value tree.fields)
+    (length (print_request tree)) head
 
 -- there is no head within the limits, or a part of it is refused
 abbrev pub HasNoHead : Limits → List ℕ → Type 0
-HasNoHead limits bytes = (tree : RequestHead) (rest : List ℕ) → HasHead limits bytes tree rest → ¬ (TakesTree tree)
+HasNoHead limits bytes =
+    (tree : RequestHead) (rest : List ℕ) → HasHead limits bytes tree rest → ¬ (TakesTree tree)
 
 -- the bytes begin with this head
 pub record Begins (limits : Limits) (bytes : List ℕ) (head : Head) (rest : List ℕ) : Type 0 where

@@ -90,7 +90,8 @@ fn add_fields(
     headers: &mut HeaderMap<HeaderValue>,
 ) -> Result<bool, NoMemory>
     requires { All (IsHeaderWithin (length bytes.now)) spans.now }
-    ensures { IfOk result (TookFields headers.old (map (header_bytes bytes.now) spans.now) headers.new) }
+    ensures { IfOk result
+        (TookFields headers.old (map (header_bytes bytes.now) spans.now) headers.new) }
 {
     let mut rest = spans;
     'fields: while let [span, after @ ..] = rest {

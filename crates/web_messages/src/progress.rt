@@ -119,12 +119,7 @@ fn read_chunked_on(
 {
     let mut place = place;
     let mut body = body;
-    match read_chunked(
-        &bytes[head.length..],
-        limits.body,
-        &mut place,
-        &mut body,
-    )? {
+    match read_chunked(&bytes[head.length..], limits.body, &mut place, &mut body)? {
         Chunked::Body(rest) => {
             let used = bytes.len() - rest.len();
             let body = Bytes::from_vec(body)?;
@@ -137,12 +132,7 @@ fn read_chunked_on(
 }
 
 /// Begins the body behind a head.
-fn read_body(
-    alloc: Global,
-    limits: &Limits,
-    bytes: &[u8],
-    head: Head,
-) -> Result<Step, NoMemory>
+fn read_body(alloc: Global, limits: &Limits, bytes: &[u8], head: Head) -> Result<Step, NoMemory>
     requires { HeadFound limits.now bytes.now head }
     ensures { IfOk result (ReadsOn limits.now bytes.now) }
 {
@@ -162,7 +152,7 @@ fn read_body(
 /// Whether there is surely no head in the bytes, of which so many at the front are CR or LF.
 fn has_no_head(limits: &Limits, bytes: &[u8], blank: usize, searched: usize) -> bool
     requires blank { BlankFront bytes.now blank }
-    requires searched { IsSearch bytes.now (record { blank = blank; searched = searched; }) }
+    requires searched { IsSearch bytes.now (record { blank = blank; searched = searched }) }
     ensures { result ≡ true → HasNoRequest bytes.now }
 {
     if searched == 0 {

@@ -10,9 +10,9 @@ returns-in_ok-head-in-Head c =
     record { within = omega arith; inside = omega arith; all = λ k a b. omega arith } in
     let room : length c.parse_head.new.spans ≡ c.args.limits.now.headers = omega arith in
     subst (IsHeadRead c.args.limits.now c.args.bytes.now) (sym c.head_read.ensures)
-    (found_head_in c.args.limits.now c.args.bytes.now c.min.result c.parse_head.new.spans c.in-Head.found front room c.in_ok-head.head
+    (found_head_in c.args.limits.now c.args.bytes.now c.min.result c.parse_head.new.spans c.in-Head.found front room c.in_ok-head-in-Head.head
     c.split_at.result.0.now (take c.in-Head.found.headers c.parse_head.new.spans) c.split_at.ensures.front refl c.in-Head.ensures.1
-    c.in_ok-head.ensures)
+    c.in_ok-head-in-Head.ensures)
 
 pub returns-else-bytes-limits : goal.returns-else-bytes-limits
 returns-else-bytes-limits c =

@@ -10,14 +10,18 @@ use Rattle.web_messages.proofs.ProgressLemmas.{body_fits, chunks_body, cut_now, 
 use Rattle.web_messages.proofs.progress.read_chunked_on.Goals as goal
 
 pub returns-in-TooLarge : goal.returns-in-TooLarge
-returns-in-TooLarge c =
-    (tt, refused_known c.args.limits.now c.args.bytes.now c.args.head c.requires.0 framing.Chunked (sym c.requires.1) _
-    (take_rest c.args.bytes.now c.args.head.length) wrong.TooLarge tt (rw c.in-TooLarge.is at c.in_ok-rest.ensures.body))
+returns-in-TooLarge c = (
+  tt,
+  refused_known c.args.limits.now c.args.bytes.now c.args.head c.requires.0 framing.Chunked (sym c.requires.1) _
+      (take_rest c.args.bytes.now c.args.head.length) wrong.TooLarge tt (rw c.in-TooLarge.is at c.in_ok-rest.ensures.body),
+)
 
 pub returns-in-Wrong : goal.returns-in-Wrong
-returns-in-Wrong c =
-    (tt, refused_known c.args.limits.now c.args.bytes.now c.args.head c.requires.0 framing.Chunked (sym c.requires.1) _
-    (take_rest c.args.bytes.now c.args.head.length) wrong.Chunk tt (rw c.in-Wrong.is at c.in_ok-rest.ensures.body))
+returns-in-Wrong c = (
+  tt,
+  refused_known c.args.limits.now c.args.bytes.now c.args.head c.requires.0 framing.Chunked (sym c.requires.1) _
+      (take_rest c.args.bytes.now c.args.head.length) wrong.Chunk tt (rw c.in-Wrong.is at c.in_ok-rest.ensures.body),
+)
 
 pub returns-in-Unfinished : goal.returns-in-Unfinished
 returns-in-Unfinished c = (
@@ -32,8 +36,8 @@ returns-in_ok-body-in-Body c =
     let read = chunks_body c.args.limits.now.body _ c.read_chunked.new.out.items c.in-Body.rest e in
     let fits = body_fits c.args.limits.now c.args.bytes.now c.args.head c.requires.0 framing.Chunked (sym c.requires.1) _
     (take_rest c.args.bytes.now c.args.head.length) c.read_chunked.new.out.items (length c.in-Body.rest.now) read in
-    known_message c.args.limits.now c.args.bytes.now c.args.head c.message_of.result c.read_chunked.new.out.items c.in_ok-body.body
-    (length c.args.bytes.now - length c.in-Body.rest.now) c.in_ok-body.ensures c.message_of.ensures
+    known_message c.args.limits.now c.args.bytes.now c.args.head c.message_of.result c.read_chunked.new.out.items c.in_ok-body-in-Body.body
+    (length c.args.bytes.now - length c.in-Body.rest.now) c.in_ok-body-in-Body.ensures c.message_of.ensures
     (message_known c.args.limits.now c.args.bytes.now c.args.head c.requires.0 framing.Chunked (sym c.requires.1) _
     (take_rest c.args.bytes.now c.args.head.length) c.read_chunked.new.out.items (length c.in-Body.rest.now)
     (length c.args.bytes.now - length c.in-Body.rest.now) read (omega (arith, fits)))

@@ -14,10 +14,12 @@ returns-in-Body c =
     let read = rw c.in-Body.is at c.in_ok-body.ensures in
     let fits = body_fits c.args.limits.now c.args.bytes.now c.args.head c.requires.0 (framing.Length c.args.length) (sym c.requires.1) _
     (take_rest c.args.bytes.now c.args.head.length) c.in-Body.body c.in-Body.left read in
-    subst (λ (m : Message). ReadsOn c.args.limits.now c.args.bytes.now (step.Next (next.Message m))) (sym c.message_of.ensures)
-    (tt, message_known c.args.limits.now c.args.bytes.now c.args.head c.requires.0 (framing.Length c.args.length) (sym c.requires.1) _
-    (take_rest c.args.bytes.now c.args.head.length) c.in-Body.body c.in-Body.left (length c.args.bytes.now - c.in-Body.left) read
-    (omega (arith, fits)))
+    subst (λ (m : Message). ReadsOn c.args.limits.now c.args.bytes.now (step.Next (next.Message m))) (sym c.message_of.ensures) (
+      tt,
+      message_known c.args.limits.now c.args.bytes.now c.args.head c.requires.0 (framing.Length c.args.length) (sym c.requires.1) _
+          (take_rest c.args.bytes.now c.args.head.length) c.in-Body.body c.in-Body.left (length c.args.bytes.now - c.in-Body.left) read
+          (omega (arith, fits)),
+    )
 
 pub returns-in-Refused : goal.returns-in-Refused
 returns-in-Refused c =
