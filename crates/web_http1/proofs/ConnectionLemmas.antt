@@ -1,7 +1,9 @@
 -- The steps of a connection, whatever bytes follow.
 use Rattle.std.proofs.Common.{◌≡◌, ℕ, ◌+◌, ◌<◌, ◌≤◌, ◌⊎◌, inl, inr, Bool, true, false, List, [], ◌∷◌, ◌++◌, length, drop, Option, None, Some, Result, Ok, Err, refl, sym, ap, ◌∙◌, subst, arith, append_assoc, append-nil, length-drop}
-use Rattle.std.proofs.lemmas.List.{drop-append-le}
+use Rattle.std.proofs.lemmas.List.{drop-append-le, drop-drop}
 use Rattle.web_texts.specs.declared.memory.NoMemory.{NoMemory}
+use Rattle.web_reply.specs.ResponseBodies.{Plain}
+use Rattle.web_reply.specs.Replies.{Reply}
 use Rattle.web_worker.specs.Exchanges.{ExchangeView}
 use Rattle.web_worker.specs.HandlerPromises.{SamePromises}
 use Rattle.web_worker.specs.Setting.{Setting}
@@ -23,8 +25,10 @@ use Rattle.web_http1.specs.declared.answering.Turned.TheVariants as turned
 use Rattle.web_http1.specs.declared.ended.Ended.{Ended}
 use Rattle.web_http1.specs.declared.ended.Ended.TheVariants as ended
 use Rattle.web_http1.specs.Answers.{Answer, Behind, IsAnswerTo, MayStand, Served, answer_bytes, asks_end, is_head, refusal_bytes, replies, sent_answer}
-use Rattle.web_http1.specs.Connections.{ConnectionView, Goes, GoesOn, IsReplied, IsServed, IsTurned, RefusedWith, StepsTo, ended_at, open_at}
+use Rattle.web_http1.specs.Connections.{ConnectionView, Goes, GoesOn, StepsTo, ended_at, open_at}
+use Rattle.web_http1.specs.ConnectionSteps.{IsReplied, IsServed, IsTurned, RefusedWith}
 use Rattle.web_http1.specs.MessageExchanges.{exchange_of}
+use Rattle.web_http1.specs.ReplyBytes.{Sent, sent_bytes, sent_reply}
 use Rattle.web_http1.proofs.SettingLemmas.{same_back, served_as}
 
 behind_true : (c : Bool) (A B : Type 0) → c ≡ true → Behind c A B → A
@@ -46,6 +50,18 @@ module _ (m n : Message) (same : SameMessage m n) where
 
   pub same_exchange : {S L D C : Type 0} → ◌≡◌ {A = ExchangeView S L D C} (exchange_of m) (exchange_of n)
   same_exchange = cc (same.method, same.scheme, same.authority, same.path_and_query, same.version, same.headers, same.body)
+
+-- the reply that was written is that of the answer
+pub replied_so : (m : Message) (x : Answer) → SameMessage m x.message → (asked head closes : Bool) (sent : Sent) (r : Reply Plain) → asked ≡ asks_end m
+    → head ≡ is_head m → sent ≡ sent_reply asked r → r ≡ x.reply → closes ≡ sent.closes
+    → (closes ≡ (sent_answer x).closes) × (sent_bytes head sent ≡ answer_bytes x)
+replied_so m x same asked head closes sent r asked_is head_is sent_is reply_is closes_is =
+    let whole : sent ≡ sent_answer x =
+    sent_is ∙ ap (λ (b : Bool). sent_reply b r) (asked_is ∙ same_end m x.message same)
+    ∙ ap (λ (q : Reply Plain). sent_reply (asks_end x.message) q) reply_is in (
+      closes_is ∙ ap (λ (t : Sent). t.closes) whole,
+      ap (λ (b : Bool). sent_bytes b sent) (head_is ∙ same_head m x.message same) ∙ ap (sent_bytes (is_head x.message)) whole,
+    )
 
 -- a settled message leaves those behind it
 pub left_behind : (limits : Limits) (left : List ℕ) (m : Message) → IsSettled limits left (next.Message m) → IsNext limits left (next.Message m)
@@ -147,12 +163,13 @@ module _ {S L D C V E Y U W : Type 0} (s : Setting S L D C V E Y U W) where
   may_stand wrong.Cut h = h
 
   pub refused_steps : (limits : Limits) (left : List ℕ) (w : Wrong) (end : Ended) (before behind : List ℕ) → reading.MayStand (next.Refused w)
-      → IsSettled limits left (next.Refused w) → RefusedWith w end before behind → StepsTo s (open_at limits left) (ended_at limits left end) before behind
+      → IsSettled limits left (next.Refused w) → RefusedWith w end before behind → IsTurned s limits left before behind (turned.Ended end)
   refused_steps limits left w ended.Closed before behind stands is h = absurd h
   refused_steps limits left w ended.SourceFault before behind stands is h = absurd h
   refused_steps limits left w ended.NoMemory before behind stands is h =
-      failed_steps (open_at limits left) (ended_at limits left ended.NoMemory) before behind refl h
+      (tt, failed_steps (open_at limits left) (ended_at limits left ended.NoMemory) before behind refl h)
   refused_steps limits left w (ended.Refused v) before behind stands is h = (
+    tt,
     refusal_bytes w,
     h.1,
     λ more xs rest closed served.
@@ -176,11 +193,11 @@ module _ {S L D C V E Y U W : Type 0} (s : Setting S L D C V E Y U W) where
   )
   served_turns limits rest m before behind (turned.Waits p) is h = absurd h
   served_turns limits rest m before behind (turned.Ended ended.Closed) is h =
-      closed_steps (open_at limits rest) (ended_at limits rest ended.Closed) m is before behind true refl refl h
+      (tt, closed_steps (open_at limits rest) (ended_at limits rest ended.Closed) m is before behind true refl refl h)
   served_turns limits rest m before behind (turned.Ended (ended.Refused w)) is h = absurd h
   served_turns limits rest m before behind (turned.Ended ended.SourceFault) is h = absurd h
   served_turns limits rest m before behind (turned.Ended ended.NoMemory) is h =
-      failed_steps (open_at limits rest) (ended_at limits rest ended.NoMemory) before behind refl h
+      (tt, failed_steps (open_at limits rest) (ended_at limits rest ended.NoMemory) before behind refl h)
 
   -- nothing was known
   pub waits_steps : (old new : ConnectionView) (before behind : List ℕ) → new ≡ old → old.ended ≡ None → behind ≡ before → StepsTo s old new before behind
@@ -221,6 +238,16 @@ module _ {S L D C V E Y U W : Type 0} (s : Setting S L D C V E Y U W) where
         let first = subst (λ (o : Option Ended). GoesOn s middle o more xs h.0 rest closed) unended (h.2 more xs rest closed v) in
         goes_then new new.ended more xs first.0 h.0 k.0 rest closed first.2 (k.2 more first.0 rest closed first.1),
   )
+
+-- one more step, over the bytes of a buffer
+pub rest_steps : {S L D C V E Y U W : Type 0} (s : Setting S L D C V E Y U W) (limits : Limits) (buffer old : List ℕ) (place used : ℕ) (rest : List ℕ) (end : Option Ended)
+    (a b c : List ℕ) → rest ≡ drop place buffer → StepsTo s (open_at limits old) (open_at limits (drop place buffer)) a b
+    → StepsTo s (open_at limits rest) (record { limits = limits; left = drop used rest; ended = end }) b c
+    → StepsTo s (open_at limits old) (record { limits = limits; left = drop (place + used) buffer; ended = end }) a c
+rest_steps s limits buffer old place used rest end a b c e h k =
+    let there = subst (λ (t : List ℕ). StepsTo s (open_at limits t) (record { limits = limits; left = drop used t; ended = end }) b c) e k in
+    let joined = subst (λ (t : List ℕ). StepsTo s (open_at limits (drop place buffer)) (record { limits = limits; left = t; ended = end }) b c) (drop-drop used place buffer) there in
+    then_steps s (open_at limits old) (open_at limits (drop place buffer)) (record { limits = limits; left = drop (place + used) buffer; ended = end }) a b c refl h joined
 
 -- a step, where the handler promises the same
 module _ {S L D C V E Y U W : Type 0} (s : Setting S L D C V E Y U W) (a b : V → ℕ → Y → Type 0) (h : SamePromises a b) where

@@ -15,7 +15,8 @@ use Rattle.web_messages.proofs.OneLemmas.{one_next}
 use Rattle.web_http1.specs.declared.ended.Ended.{Ended}
 use Rattle.web_http1.specs.declared.ended.Ended.TheVariants as ended
 use Rattle.web_http1.specs.Answers.{Answer, Answers, AnswersAtFault, Behind, Closes, EndsAtEnd, EndsAtFault, MayGoOn, MayStand, Served, refusal_bytes, replies}
-use Rattle.web_http1.specs.Connections.{AllOpen, ConnectionView, FinishesWith, GoesOn, IsOpen, StepsTo, TakesPiece, WaitsForMore, ended_at, open_at, with_piece}
+use Rattle.web_http1.specs.Connections.{AllOpen, ConnectionView, FinishesWith, GoesOn, IsOpen, StepsTo, WaitsForMore, ended_at, open_at}
+use Rattle.web_http1.specs.ConnectionSteps.{TakesPiece, with_piece}
 use Rattle.web_http1.specs.Serving.{AnswersAll, AnswersUpToFault}
 use Rattle.web_http1.proofs.ConnectionLemmas.{goes_then}
 

@@ -1,5 +1,5 @@
 -- The answers of a connection: what is written for the bytes that came, and how it ends.
-use Rattle.std.specs.Prelude.{◌≡◌, ℕ, ◌<◌, ◌^◌, ◌||◌, ◌⊎◌, Bool, true, false, List, [], ◌∷◌}
+use Rattle.std.specs.Prelude.{◌≡◌, ℕ, ◌<◌, ◌||◌, ◌⊎◌, Bool, true, false, List, [], ◌∷◌}
 use Rattle.std.specs.Prelude.{◌++◌, codes, drop, flat_map, IsSome, ⊤}
 use Rattle.std.specs.Str.{bytes_eq}
 use Rattle.http.specs.declared.version.Http.{Http}

@@ -2,5 +2,6 @@ pub mod ReplyBytes
 pub mod MessageExchanges
 pub mod Answers
 pub mod Connections
+pub mod ConnectionSteps
 pub mod Polls
 pub mod Serving

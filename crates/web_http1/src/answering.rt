@@ -3,9 +3,10 @@ ghost use Rattle.std.specs.Prelude.{◌≡◌, ◌+◌, ◌++◌, ◌-◌, ◌<�
 ghost use Rattle.web_worker.specs.HandlerPromises.{SamePromises};
 ghost use Rattle.web_worker.specs.PlanPools.{with_records};
 ghost use Rattle.web_messages.specs.Progress.{IsProgress};
-ghost use Rattle.web_http1.specs.Connections.{AllOpen, FinishesWith, IsAnsweredRest};
-ghost use Rattle.web_http1.specs.Connections.{IsReplied, IsServed, IsTurned, RefusedWith};
-ghost use Rattle.web_http1.specs.Connections.{open_left, turned_left};
+ghost use Rattle.web_http1.specs.Connections.{AllOpen, FinishesWith};
+ghost use Rattle.web_http1.specs.ConnectionSteps.{IsAnsweredRest};
+ghost use Rattle.web_http1.specs.ConnectionSteps.{IsReplied, IsServed, IsTurned, RefusedWith};
+ghost use Rattle.web_http1.specs.ConnectionSteps.{open_left, turned_left};
 ghost use Rattle.web_http1.specs.ReplyBytes.{sent_bytes};
 
 use crate::closing::{asks_end, is_head};
@@ -45,7 +46,7 @@ pub(crate) enum Left {
 #[derive(Drop)]
 pub(crate) struct AnsweredRest {
     /// The bytes before this place were answered.
-    pub(crate) at: usize,
+    pub(crate) place: usize,
     pub(crate) left: Left,
 }
 
@@ -187,15 +188,15 @@ where
     requires room { worker.old.made + (length buffer.now - start) < 2 ^ 64 }
     ensures ready { H.ready handler.new }
     ensures same_promises { SamePromises (H.answers handler.old) (H.answers handler.new) }
-    ensures at { (start ≤ result.at) × (result.at ≤ length buffer.now) }
-    ensures made { worker.new.made + open_left result.left (length buffer.now - result.at)
+    ensures place { (start ≤ result.place) × (result.place ≤ length buffer.now) }
+    ensures made { worker.new.made + open_left result.left (length buffer.now - result.place)
         ≤ worker.old.made + (length buffer.now - start) }
     ensures kept { worker.new ≡ with_records worker.new.serials worker.new.made worker.old }
     ensures left { IsAnsweredRest (⟦<H as Serves<A, Args>>⟧.setting handler.old worker.old)
-        limits.now (drop start buffer.now) (drop result.at buffer.now)
+        limits.now (drop start buffer.now) (drop result.place buffer.now)
         out.old.items out.new.items result.left }
 {
-    let mut at = start;
+    let mut place = start;
     let mut progress = progress;
     'messages: loop {
         match serve_next(
@@ -203,24 +204,24 @@ where
             worker,
             handler,
             limits,
-            &buffer[at..],
+            &buffer[place..],
             progress,
             room,
             out,
         ) {
             Turned::Goes(used) => {
-                at += used;
+                place += used;
                 progress = Progress::start();
             }
             Turned::Waits(progress) => {
                 return AnsweredRest {
-                    at,
+                    place,
                     left: Left::Open(progress),
                 };
             }
             Turned::Ended(ended) => {
                 return AnsweredRest {
-                    at,
+                    place,
                     left: Left::Ended(ended),
                 };
             }

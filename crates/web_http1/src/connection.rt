@@ -2,7 +2,8 @@
 ghost use Rattle.std.specs.Prelude.{◌≡◌, ◌+◌, ◌++◌, ◌<◌, ◌≤◌, ◌^◌, OnErr, OnOk, Some, length};
 ghost use Rattle.web_worker.specs.HandlerPromises.{SamePromises};
 ghost use Rattle.web_worker.specs.PlanPools.{with_records};
-ghost use Rattle.web_http1.specs.Connections.{Finishes, StepsTo, WaitsForMore, bytes_open};
+ghost use Rattle.web_http1.specs.Connections.{Finishes, IsOwnEnd, StepsFrom, WaitsForMore};
+ghost use Rattle.web_http1.specs.Connections.{bytes_open};
 
 use crate::answering::{Left, answer_rest, finish_rest};
 use crate::ended::Ended;
@@ -52,7 +53,7 @@ impl Model for Connection {
 
 impl Connection {
     ghost use Rattle.std.specs.Prelude.{◌≡◌, ◌+◌, ◌++◌, ◌<◌, ◌≤◌, ◌^◌, [], None, OnErr, OnOk};
-    ghost use Rattle.std.specs.Prelude.{Some, false, length, true};
+    ghost use Rattle.std.specs.Prelude.{Some, length};
 
     /// A connection of which no byte came.
     pub fn new(alloc: Global, limits: Limits) -> Connection
@@ -130,7 +131,8 @@ impl Connection {
         ensures kept { worker.new ≡ with_records worker.new.serials worker.new.made worker.old }
         ensures limits { self.new.limits ≡ self.old.limits }
         ensures waits { WaitsForMore self.new }
-        ensures steps { StepsTo (⟦<H as Serves<A, Args>>⟧.setting handler.old worker.old)
+        ensures own { self.old.ended ≡ None → IsOwnEnd self.new.ended }
+        ensures steps { StepsFrom (⟦<H as Serves<A, Args>>⟧.setting handler.old worker.old)
             self.old self.new out.old.items out.new.items }
     {
         if self.ended.is_some() {
@@ -148,7 +150,7 @@ impl Connection {
             &mut self.reply,
             out,
         );
-        self.start = answered.at;
+        self.start = answered.place;
         match answered.left {
             Left::Open(progress) => self.progress = progress,
             Left::Ended(ended) => self.ended = Some(ended),

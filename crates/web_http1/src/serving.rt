@@ -5,7 +5,8 @@ ghost use Rattle.web_request.specs.Body.{ends_in_fault, piece_bytes};
 ghost use Rattle.web_request.specs.declared.source.Mark.{Mark as MarkOf};
 ghost use Rattle.web_worker.specs.HandlerPromises.{SamePromises};
 ghost use Rattle.web_worker.specs.PlanPools.{with_records};
-ghost use Rattle.web_http1.specs.Connections.{TakesPiece, open_bytes};
+ghost use Rattle.web_http1.specs.Connections.{open_bytes};
+ghost use Rattle.web_http1.specs.ConnectionSteps.{TakesPiece};
 ghost use Rattle.web_http1.specs.Serving.{AnswersAll, AnswersUpToFault, StopsAtFault};
 
 use crate::connection::Connection;

@@ -1,5 +1,5 @@
 -- How far the next message was read, and what is known of it then.
-use Rattle.std.specs.Prelude.{◌≡◌, ℕ, ◌<◌, ◌≤◌, ◌==◌, true, false, List, ◌++◌, length, drop}
+use Rattle.std.specs.Prelude.{◌≡◌, ℕ, ◌<◌, ◌≤◌, ◌==◌, false, List, ◌++◌, length, drop}
 use Rattle.std.specs.Prelude.{if◌then◌else◌, ⊤}
 use Rattle.httparse.specs.Grammar.{RequestHead, print_request, ReadsRequest}
 use Rattle.web_messages.specs.declared.framing.Framing.TheVariants as framing
