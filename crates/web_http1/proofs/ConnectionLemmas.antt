@@ -239,6 +239,17 @@ module _ {S L D C V E Y U W : Type 0} (s : Setting S L D C V E Y U W) where
         goes_then new new.ended more xs first.0 h.0 k.0 rest closed first.2 (k.2 more first.0 rest closed first.1),
   )
 
+-- what may stand uses some bytes
+pub some_rest : (limits : Limits) (rest : List ℕ) (x : Next) → reading.MayStand x → IsSettled limits rest x → 0 < length rest
+some_rest limits [] (next.Message m) stands is = let blank = (is []).0 in absurd (cc)
+some_rest limits [] (next.Refused wrong.Head) stands is = let blank = (is []).0 in absurd (cc)
+some_rest limits [] (next.Refused wrong.Length) stands is = let blank = (is []).0 in absurd (cc)
+some_rest limits [] (next.Refused wrong.TooLarge) stands is = let blank = (is []).0 in absurd (cc)
+some_rest limits [] (next.Refused wrong.Chunk) stands is = let blank = (is []).0 in absurd (cc)
+some_rest limits [] (next.Refused wrong.Cut) stands is = absurd stands
+some_rest limits [] next.Closed stands is = absurd stands
+some_rest limits (b ∷ rest) x stands is = omega arith
+
 -- one more step, over the bytes of a buffer
 pub rest_steps : {S L D C V E Y U W : Type 0} (s : Setting S L D C V E Y U W) (limits : Limits) (buffer old : List ℕ) (place used : ℕ) (rest : List ℕ) (end : Option Ended)
     (a b c : List ℕ) → rest ≡ drop place buffer → StepsTo s (open_at limits old) (open_at limits (drop place buffer)) a b

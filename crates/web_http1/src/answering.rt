@@ -1,8 +1,10 @@
 //! The replies to the messages of bytes that came.
 ghost use Rattle.std.specs.Prelude.{◌≡◌, ◌+◌, ◌++◌, ◌-◌, ◌<◌, ◌≤◌, ◌^◌, OnErr, OnOk, drop, length};
+ghost use Rattle.std.specs.Prelude.{List, ℕ};
 ghost use Rattle.web_worker.specs.HandlerPromises.{SamePromises};
 ghost use Rattle.web_worker.specs.PlanPools.{with_records};
-ghost use Rattle.web_messages.specs.Progress.{IsProgress};
+ghost use Rattle.web_messages.specs.Progress.{IsProgress, IsSettled, MayStand};
+ghost use Rattle.web_messages.specs.declared.limits.Limits.{Limits as LimitsOf};
 ghost use Rattle.web_http1.specs.Connections.{AllOpen, FinishesWith};
 ghost use Rattle.web_http1.specs.ConnectionSteps.{IsAnsweredRest};
 ghost use Rattle.web_http1.specs.ConnectionSteps.{IsReplied, IsServed, IsTurned, RefusedWith};
@@ -133,6 +135,34 @@ where
     }
 }
 
+/// Writes what is next, which no byte that follows changes.
+fn serve_known<A: App, Args: FromRequest<A>, H: Handler<Args>>(
+    alloc: Global,
+    worker: &mut Worker<A>,
+    handler: &mut H,
+    next: Next,
+    room: &mut Vec<u8>,
+    out: &mut Vec<u8>,
+) -> Turned
+where
+    H::Output: Responder<A>,
+    requires ready { H.ready handler.old }
+    requires room { worker.old.made + 1 < 2 ^ 64 }
+    ensures ready { H.ready handler.new }
+    ensures same_promises { SamePromises (H.answers handler.old) (H.answers handler.new) }
+    ensures made { worker.new.made ≤ worker.old.made + 1 }
+    ensures kept { worker.new ≡ with_records worker.new.serials worker.new.made worker.old }
+    ensures turned { (limits : LimitsOf) (rest : List ℕ) → MayStand next → IsSettled limits rest next
+        → IsTurned (⟦<H as Serves<A, Args>>⟧.setting handler.old worker.old)
+        limits rest out.old.items out.new.items result }
+{
+    match next {
+        Next::Message(message) => serve_message(alloc, worker, handler, room, message, out),
+        Next::Refused(wrong) => Turned::Ended(refuse(alloc, room, wrong, out)),
+        Next::Closed => Turned::Ended(Ended::Closed),
+    }
+}
+
 /// Writes what is next at the front of the bytes, where it is known.
 fn serve_next<A: App, Args: FromRequest<A>, H: Handler<Args>>(
     alloc: Global,
@@ -158,13 +188,11 @@ where
         limits.now rest.now out.old.items out.new.items result }
 {
     match read_on(alloc, limits, rest, progress) {
-        Ok(Step::Next(Next::Message(message))) => {
-            serve_message(alloc, worker, handler, room, message, out)
-        }
-        Ok(Step::Next(Next::Refused(wrong))) => Turned::Ended(refuse(alloc, room, wrong, out)),
-        Ok(Step::Next(Next::Closed)) => unreachable!(),
-        Ok(Step::Unfinished(progress)) => Turned::Waits(progress),
-        Err(NoMemory) => Turned::Ended(Ended::NoMemory),
+        Ok(step) => match step {
+            Step::Next(next) => serve_known(alloc, worker, handler, next, room, out),
+            Step::Unfinished(progress) => Turned::Waits(progress),
+        },
+        Err(_) => Turned::Ended(Ended::NoMemory),
     }
 }
 
@@ -243,9 +271,11 @@ pub(crate) fn finish_rest(
     ensures { FinishesWith limits.now rest.now result out.old.items out.new.items }
 {
     match read_last(alloc, limits, rest, progress) {
-        Ok(Next::Closed) => Ended::Closed,
-        Ok(Next::Refused(wrong)) => refuse(alloc, room, wrong, out),
-        Ok(Next::Message(_)) => unreachable!(),
-        Err(NoMemory) => Ended::NoMemory,
+        Ok(next) => match next {
+            Next::Closed => Ended::Closed,
+            Next::Refused(wrong) => refuse(alloc, room, wrong, out),
+            Next::Message(_) => unreachable!(),
+        },
+        Err(_) => Ended::NoMemory,
     }
 }

@@ -17,6 +17,6 @@ returns-clause-reply g c =
           let once = subst (λ e. AnswersOnce s e x.delay x.reply) (sym (c.exchange_of.ensures ∙ same_exchange c.args.message x.message same)) to.once in
           let plain = c.in_ok-response.ensures.reply x.delay x.reply once to.soon in
           let states = subst (λ (r : Reply Plain). StatesMarks r.body) (sym plain) to.states in
-          replied_so c.args.message x same c.asks_end.result c.is_head-is_head.result c.closes.result c.in_ok-reply.reply _ c.asks_end.ensures
+          replied_so c.args.message x same c.asks_end-asked.result c.is_head-is_head.result c.closes.result c.in_ok-reply.reply _ c.asks_end-asked.ensures
           c.is_head-is_head.ensures (c.in_ok-reply.ensures states) plain c.closes.ensures,
     )
