@@ -1,5 +1,6 @@
 -- The steps of a connection, whatever bytes follow.
 use Rattle.std.proofs.Common.{◌≡◌, ℕ, ◌+◌, ◌<◌, ◌≤◌, ◌⊎◌, inl, inr, Bool, true, false, List, [], ◌∷◌, ◌++◌, length, drop, Option, None, Some, Result, Ok, Err, refl, sym, ap, ◌∙◌, subst, arith, append_assoc, append-nil, length-drop}
+use Rattle.std.specs.Prelude.{MatchOption}
 use Rattle.std.proofs.lemmas.List.{drop-append-le, drop-drop}
 use Rattle.web_texts.specs.declared.memory.NoMemory.{NoMemory}
 use Rattle.web_reply.specs.ResponseBodies.{Plain}
@@ -25,8 +26,8 @@ use Rattle.web_http1.specs.declared.answering.Turned.TheVariants as turned
 use Rattle.web_http1.specs.declared.ended.Ended.{Ended}
 use Rattle.web_http1.specs.declared.ended.Ended.TheVariants as ended
 use Rattle.web_http1.specs.Answers.{Answer, Behind, IsAnswerTo, MayStand, Served, answer_bytes, asks_end, is_head, refusal_bytes, replies, sent_answer}
-use Rattle.web_http1.specs.Connections.{ConnectionView, Goes, GoesOn, StepsTo, ended_at, open_at}
-use Rattle.web_http1.specs.ConnectionSteps.{IsReplied, IsServed, IsTurned, RefusedWith}
+use Rattle.web_http1.specs.Connections.{ConnectionView, GoesOn, IsOwnEnd, StepsFrom, StepsTo, WaitsForMore, ended_at, open_at}
+use Rattle.web_http1.specs.ConnectionSteps.{IsReplied, IsServed, IsTurned, RefusedWith, TakesPiece, with_piece}
 use Rattle.web_http1.specs.MessageExchanges.{exchange_of}
 use Rattle.web_http1.specs.ReplyBytes.{Sent, sent_bytes, sent_reply}
 use Rattle.web_http1.proofs.SettingLemmas.{same_back, served_as}
@@ -259,6 +260,59 @@ rest_steps s limits buffer old place used rest end a b c e h k =
     let there = subst (λ (t : List ℕ). StepsTo s (open_at limits t) (record { limits = limits; left = drop used t; ended = end }) b c) e k in
     let joined = subst (λ (t : List ℕ). StepsTo s (open_at limits (drop place buffer)) (record { limits = limits; left = t; ended = end }) b c) (drop-drop used place buffer) there in
     then_steps s (open_at limits old) (open_at limits (drop place buffer)) (record { limits = limits; left = drop (place + used) buffer; ended = end }) a b c refl h joined
+
+-- the last step, over the bytes of a buffer
+pub end_steps : {S L D C V E Y U W : Type 0} (s : Setting S L D C V E Y U W) (limits : Limits) (buffer old : List ℕ) (place : ℕ) (rest : List ℕ) (end : Ended)
+    (a b c : List ℕ) → rest ≡ drop place buffer → StepsTo s (open_at limits old) (open_at limits (drop place buffer)) a b
+    → StepsTo s (open_at limits rest) (ended_at limits rest end) b c → StepsTo s (open_at limits old) (ended_at limits (drop place buffer) end) a c
+end_steps s limits buffer old place rest end a b c e h k =
+    let there = subst (λ (t : List ℕ). StepsTo s (open_at limits t) (ended_at limits t end) b c) e k in
+    then_steps s (open_at limits old) (open_at limits (drop place buffer)) (ended_at limits (drop place buffer) end) a b c refl h there
+
+-- a piece that was taken and answered
+module _ {S L D C V E Y U W : Type 0} (s : Setting S L D C V E Y U W) where
+  ended_only : (c d : ConnectionView) (e : Ended) (more : List ℕ) (xs : List Answer) (given rest : List ℕ) (closed : Bool) → c.limits ≡ d.limits
+      → GoesOn s c (Some e) more xs given rest closed → GoesOn s d (Some e) more xs given rest closed
+  ended_only c d ended.Closed more xs given rest closed same g = g
+  ended_only c d (ended.Refused w) more xs given rest closed same g =
+      (g.0, g.1, subst (λ (l : Limits). IsNext l rest (next.Refused w)) same g.2, g.3)
+  ended_only c d ended.SourceFault more xs given rest closed same g = g
+  ended_only c d ended.NoMemory more xs given rest closed same g = g
+
+  not_ended : (c d : ConnectionView) (o : Option Ended) (before behind : List ℕ) → o ≡ None → MatchOption o (StepsTo s c d before behind) (λ e. (d ≡ c) × (behind ≡ before))
+      → StepsTo s c d before behind
+  not_ended c d None before behind e h = h
+  not_ended c d (Some x) before behind e h = absurd (cc)
+
+  pub taken : (old middle new : ConnectionView) (piece before behind : List ℕ) (result : Option Ended) → middle ≡ with_piece old piece → old.ended ≡ None
+      → StepsFrom s middle new before behind → new.limits ≡ middle.limits → WaitsForMore new → (middle.ended ≡ None → IsOwnEnd new.ended) → result ≡ new.ended
+      → TakesPiece s old new piece before behind result
+  taken old middle new piece before behind result is unended h same waits own result_is = of result result_is
+    where
+      middle_open : middle.ended ≡ None
+      middle_open = ap (λ (c : ConnectionView). c.ended) is ∙ unended
+
+      limits_are : new.limits ≡ old.limits
+      limits_are = same ∙ ap (λ (c : ConnectionView). c.limits) is
+
+      steps : StepsTo s (with_piece old piece) new before behind
+      steps = subst (λ (c : ConnectionView). StepsTo s c new before behind) is (not_ended middle new middle.ended before behind middle_open h)
+
+      of : (r : Option Ended) → r ≡ new.ended → TakesPiece s old new piece before behind r
+      of None e = (sym e, limits_are, waits, steps)
+      of (Some end) e = (
+        subst IsOwnEnd (sym e) (own middle_open),
+        steps.0,
+        steps.1,
+        λ more xs rest closed v.
+            ended_only new (ended_at old.limits [] end) end more xs steps.0 rest closed limits_are
+            (subst (λ (o : Option Ended). GoesOn s new o more xs steps.0 rest closed) (sym e) (steps.2 more xs rest closed v)),
+      )
+
+  -- nothing was taken
+  pub not_taken : (old new : ConnectionView) (piece before behind : List ℕ) → behind ≡ before → TakesPiece s old new piece before behind (Some ended.NoMemory)
+  not_taken old new piece before behind same =
+      (tt, failed_steps s (with_piece old piece) (ended_at old.limits [] ended.NoMemory) before behind refl same)
 
 -- a step, where the handler promises the same
 module _ {S L D C V E Y U W : Type 0} (s : Setting S L D C V E Y U W) (a b : V → ℕ → Y → Type 0) (h : SamePromises a b) where

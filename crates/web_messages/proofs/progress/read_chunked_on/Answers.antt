@@ -37,7 +37,7 @@ returns-in_ok-body-in-Body c =
     let fits = body_fits c.args.limits.now c.args.bytes.now c.args.head c.requires.0 framing.Chunked (sym c.requires.1) _
     (take_rest c.args.bytes.now c.args.head.length) c.read_chunked.new.out.items (length c.in-Body.rest.now) read in
     known_message c.args.limits.now c.args.bytes.now c.args.head c.message_of.result c.read_chunked.new.out.items c.in_ok-body-in-Body.body
-    (length c.args.bytes.now - length c.in-Body.rest.now) c.in_ok-body-in-Body.ensures c.message_of.ensures
+    (length c.args.bytes.now - length c.in-Body.rest.now) c.in_ok-body-in-Body.ensures.ok c.message_of.ensures
     (message_known c.args.limits.now c.args.bytes.now c.args.head c.requires.0 framing.Chunked (sym c.requires.1) _
     (take_rest c.args.bytes.now c.args.head.length) c.read_chunked.new.out.items (length c.in-Body.rest.now)
     (length c.args.bytes.now - length c.in-Body.rest.now) read (omega (arith, fits)))
