@@ -13,11 +13,10 @@ use crate::connection::Connection;
 use crate::ended::Ended;
 use bytes::Bytes;
 use std::alloc::Global;
-use web_body::Turn;
 use web_extract::FromRequest;
 use web_messages::Limits;
 use web_reply::Responder;
-use web_request::{App, Source};
+use web_request::{App, Source, Turn};
 use web_worker::{Handler, Serves, Worker};
 
 /// Takes a piece, and answers what is whole then. Returns how the connection ended, if it did.
