@@ -77,19 +77,20 @@ Behind false A B = B
 abbrev pub NoMessage : Limits → List ℕ → Type 0
 NoMessage limits bytes = (m : Message) → ¬ (IsNext limits bytes (next.Message m))
 
-module _ {S L D C V E Y U W : Type 0} (s : Setting S L D C V E Y U W) (limits : Limits) where
+module _ {S L D C V E Y U W : Type 0} (s : Setting S L D C V E Y U W) where
   -- this is the one reply to the message, and the marks of its body are stated
   pub record IsAnswerTo (x : Answer) : Type 0 where
     pub once : AnswersOnce s (exchange_of x.message) x.delay x.reply
     pub soon : x.delay < 18446744073709551615
     pub states : StatesMarks x.reply.body
 
+module _ {S L D C V E Y U W : Type 0} (s : Setting S L D C V E Y U W) (limits : Limits) where
   -- The messages of the bytes, each the next one of what is left, with their replies: until one
   -- closes, or no message is next. `rest` is left then.
   abbrev pub Served : List ℕ → List Answer → List ℕ → Bool → Type 0
   Served bytes [] rest closed = NoMessage limits bytes × (rest ≡ bytes) × (closed ≡ false)
   Served bytes (x ∷ xs) rest closed =
-      IsNext limits bytes (next.Message x.message) × IsAnswerTo x
+      IsNext limits bytes (next.Message x.message) × IsAnswerTo s x
       × Behind (sent_answer x).closes
       ((xs ≡ []) × (rest ≡ drop x.message.used bytes) × (closed ≡ true))
       (Served (drop x.message.used bytes) xs rest closed)
