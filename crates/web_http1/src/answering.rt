@@ -152,7 +152,8 @@ where
     ensures same_promises { SamePromises (H.answers handler.old) (H.answers handler.new) }
     ensures made { worker.new.made ≤ worker.old.made + 1 }
     ensures kept { worker.new ≡ with_records worker.new.serials worker.new.made worker.old }
-    ensures turned { (limits : LimitsOf) (rest : List ℕ) → MayStand next → IsSettled limits rest next
+    ensures turned { (limits : LimitsOf) (rest : List ℕ) → MayStand next
+        → IsSettled limits rest next
         → IsTurned (⟦<H as Serves<A, Args>>⟧.setting handler.old worker.old)
         limits rest out.old.items out.new.items result }
 {

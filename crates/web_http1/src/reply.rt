@@ -1,5 +1,6 @@
 //! The bytes of a reply.
-ghost use Rattle.std.specs.Prelude.{◌≡◌, ◌++◌, [], IfOk, None, OnOk, flat_map, if◌then◌else◌, map, true};
+ghost use Rattle.std.specs.Prelude.{◌≡◌, ◌++◌, [], IfOk, None, OnOk, flat_map};
+ghost use Rattle.std.specs.Prelude.{if◌then◌else◌, map, true};
 ghost use Rattle.std.specs.List.{list_all};
 ghost use Rattle.http_header.specs.Token.{is_visible_or_blank};
 ghost use Rattle.web_reply.specs.ResponseBodies.{box_plain};
