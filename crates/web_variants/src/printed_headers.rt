@@ -1,0 +1,130 @@
+//! The headers that a variant is sent with.
+ghost use Rattle.std.specs.Prelude.{◌≡◌, IfOk, IfSome, OnOk, Some, codes};
+ghost use Rattle.http_header.specs.FieldValue.{plain_value};
+ghost use Rattle.http_header.specs.HeaderMap.{insert};
+ghost use Rattle.web_headers.specs.Codings.{encoding_text};
+ghost use Rattle.web_reply.specs.HeaderSteps.{is_field_value};
+ghost use Rattle.web_texts.specs.Returns.{Returns};
+ghost use Rattle.web_variants.specs.PrintedHeaders.{PutsOrRefuses, insert_some};
+ghost use Rattle.web_variants.specs.PrintedHeaders.{printed_value as printed};
+ghost use Rattle.web_variants.specs.StoredVariants.{content_encoding, is_language_value};
+ghost use Rattle.web_variants.specs.StoredVariants.{printed_headers as printed_headers_of};
+ghost use Rattle.web_variants.specs.StoredVariants.{vary as vary_headers};
+
+use crate::coding_quality::is_identity;
+use crate::stored_variants::Variant;
+use http_header::{
+    CONTENT_ENCODING, CONTENT_LANGUAGE, CONTENT_TYPE, HeaderMap, HeaderName, HeaderValue, VARY,
+};
+use std::alloc::Global;
+use std::fmt;
+use web_headers::{Encoding, printed_value};
+use web_texts::{Fail, InvalidHeaderValue, LanguageTag, NoMemory};
+
+/// Sets a header. A map without room returns the same as one without memory.
+fn put(
+    headers: &mut HeaderMap<HeaderValue>,
+    name: HeaderName,
+    value: HeaderValue,
+) -> Result<(), NoMemory>
+    ensures { OnOk result (headers.new ≡ insert headers.old name value) }
+{
+    match headers.insert(name, value) {
+        Ok(_) => Ok(()),
+        Err(_) => Err(NoMemory),
+    }
+}
+
+/// The value that an item prints.
+fn value_of<T: fmt::Display>(
+    alloc: Global,
+    item: &T,
+) -> Result<HeaderValue, Fail<InvalidHeaderValue>>
+    ensures { IfSome (T.output item.now) (λ text. Returns result (printed text)) }
+{
+    let value = printed_value(alloc, item)?;
+    // It says that a header may hold the value.
+    let _bytes = value.as_bytes();
+    Ok(value)
+}
+
+/// Sets a header to the text that an item prints.
+fn put_printed<T: fmt::Display>(
+    alloc: Global,
+    headers: &mut HeaderMap<HeaderValue>,
+    name: HeaderName,
+    item: &T,
+) -> Result<(), Fail<InvalidHeaderValue>>
+    ensures { IfSome (T.output item.now) (λ text. PutsOrRefuses (is_field_value text)
+        (insert_some headers.old name (Some text)) result headers.new) }
+{
+    let value = value_of(alloc, item)?;
+    put(headers, name, value)?;
+    Ok(())
+}
+
+/// Says the coding, but not identity.
+fn put_coding(
+    alloc: Global,
+    headers: &mut HeaderMap<HeaderValue>,
+    coding: &Encoding,
+) -> Result<(), Fail<InvalidHeaderValue>>
+    ensures { PutsOrRefuses (is_field_value (encoding_text coding.now))
+        (insert_some headers.old (codes "content-encoding") (content_encoding coding.now))
+        result headers.new }
+{
+    if is_identity(coding) {
+        Ok(())
+    } else {
+        put_printed(alloc, headers, CONTENT_ENCODING, coding)
+    }
+}
+
+fn put_language(
+    alloc: Global,
+    headers: &mut HeaderMap<HeaderValue>,
+    language: &Option<LanguageTag>,
+) -> Result<(), Fail<InvalidHeaderValue>>
+    ensures { PutsOrRefuses (is_language_value language.now)
+        (insert_some headers.old (codes "content-language") language.now)
+        result headers.new }
+{
+    match language {
+        Some(tag) => put_printed(alloc, headers, CONTENT_LANGUAGE, tag),
+        None => Ok(()),
+    }
+}
+
+/// Says by which headers of a request a variant is chosen (RFC 9110, section 12.5.5).
+fn put_vary(headers: &mut HeaderMap<HeaderValue>) -> Result<(), NoMemory>
+    ensures { OnOk result (headers.new ≡ insert_some headers.old (codes "vary")
+        (Some (codes "accept, accept-language, accept-encoding"))) }
+{
+    let names = HeaderValue::from_static("accept, accept-language, accept-encoding");
+    put(headers, VARY, names)
+}
+
+/// The headers of a reply without a variant.
+pub(crate) fn vary(alloc: Global) -> Result<HeaderMap<HeaderValue>, NoMemory>
+    ensures { IfOk result (λ headers. headers ≡ vary_headers) }
+{
+    let mut headers = HeaderMap::empty(alloc);
+    put_vary(&mut headers)?;
+    Ok(headers)
+}
+
+/// The headers that a variant is sent with. `InvalidHeaderValue` comes where its media type, its
+/// language or its coding can be no header's value.
+pub(crate) fn printed_headers(
+    alloc: Global,
+    variant: &Variant,
+) -> Result<HeaderMap<HeaderValue>, Fail<InvalidHeaderValue>>
+    ensures { Returns result (printed_headers_of variant.now) }
+{
+    let mut headers = HeaderMap::empty(alloc);
+    put_coding(alloc, &mut headers, &variant.coding)?;
+    put_language(alloc, &mut headers, &variant.language)?;
+    put_printed(alloc, &mut headers, CONTENT_TYPE, &variant.media_type)?;
+    put_vary(&mut headers)?;
+    Ok(headers)
+}
