@@ -1,0 +1,3 @@
+pub mod FirstGreatestLemmas
+pub mod PrintedHeaderLemmas
+pub mod StoredVariantLemmas

@@ -1,7 +1,6 @@
 -- The first item of the greatest rank above zero, as a function of a list.
-use Rattle.std.specs.Prelude.{◌≡◌, ℕ, List, [], ◌∷◌, nat_lt}
+use Rattle.std.specs.Prelude.{ℕ, List, [], ◌∷◌, nat_lt}
 use Rattle.std.specs.Prelude.{Option, None, Some, if◌then◌else◌}
-use Rattle.web_negotiate.specs.Rankings.{IsGreatest}
 
 -- an item whose rank is above zero, unless what was found behind it is greater
 abbrev pub or_greater : {X : Type 0} → (X → ℕ) → X → Option X → Option X
@@ -12,8 +11,3 @@ or_greater rank x (Some y) = if nat_lt (rank x) (rank y) then Some y else Some x
 abbrev pub first_greatest : {X : Type 0} → (X → ℕ) → List X → Option X
 first_greatest rank [] = None
 first_greatest rank (x ∷ xs) = or_greater rank x (first_greatest rank xs)
-
--- no other item of the list is the first of the greatest
-abbrev pub FirstGreatestLaw : Type 1
-FirstGreatestLaw = {X : Type 0} (rank : X → ℕ) (xs : List X) (given : Option X)
-    → IsGreatest rank xs given → given ≡ first_greatest rank xs

@@ -6,13 +6,11 @@ mod best_quality;
 mod choice;
 mod coding_quality;
 mod language_quality;
-mod laws;
 mod media_quality;
 mod printed_headers;
 mod stored_variants;
 mod variant_reply;
 
 pub use choice::choose;
-pub use laws::first_greatest_law;
 pub use stored_variants::{Variant, VariantFault, Variants};
 pub use variant_reply::answer_variant;

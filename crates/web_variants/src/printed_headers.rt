@@ -1,14 +1,12 @@
 //! The headers that a variant is sent with.
-ghost use Rattle.std.specs.Prelude.{◌≡◌, IfOk, IfSome, OnOk, Some, codes};
+ghost use Rattle.std.specs.Prelude.{◌≡◌, IfOk, IfSome, OnOk, codes};
 ghost use Rattle.http_header.specs.FieldValue.{plain_value};
 ghost use Rattle.http_header.specs.HeaderMap.{insert};
 ghost use Rattle.web_headers.specs.Codings.{encoding_text};
 ghost use Rattle.web_reply.specs.HeaderSteps.{is_field_value};
-ghost use Rattle.web_texts.specs.Returns.{Returns};
-ghost use Rattle.web_variants.specs.PrintedHeaders.{PutsOrRefuses, insert_some};
-ghost use Rattle.web_variants.specs.PrintedHeaders.{printed_value as printed};
+ghost use Rattle.web_variants.specs.PrintedHeaders.{OkWhere, insert_some};
 ghost use Rattle.web_variants.specs.StoredVariants.{content_encoding, is_language_value};
-ghost use Rattle.web_variants.specs.StoredVariants.{printed_headers as printed_headers_of};
+ghost use Rattle.web_variants.specs.StoredVariants.{is_printable, variant_headers};
 ghost use Rattle.web_variants.specs.StoredVariants.{vary as vary_headers};
 
 use crate::coding_quality::is_identity;
@@ -35,17 +33,22 @@ fn put(
     }
 }
 
-/// The value that an item prints.
+/// The value that an item prints. `InvalidHeaderValue` comes where no header may hold it.
 fn value_of<T: fmt::Display>(
     alloc: Global,
     item: &T,
 ) -> Result<HeaderValue, Fail<InvalidHeaderValue>>
-    ensures { IfSome (T.output item.now) (λ text. Returns result (printed text)) }
+    ensures { IfSome (T.output item.now) (λ text.
+        OkWhere (is_field_value text) (λ value. value ≡ plain_value text) result) }
 {
-    let value = printed_value(alloc, item)?;
-    // It says that a header may hold the value.
-    let _bytes = value.as_bytes();
-    Ok(value)
+    match printed_value(alloc, item) {
+        Ok(value) => {
+            // It says that a header may hold the value.
+            let _bytes = value.as_bytes();
+            Ok(value)
+        }
+        Err(error) => Err(error),
+    }
 }
 
 /// Sets a header to the text that an item prints.
@@ -55,8 +58,8 @@ fn put_printed<T: fmt::Display>(
     name: HeaderName,
     item: &T,
 ) -> Result<(), Fail<InvalidHeaderValue>>
-    ensures { IfSome (T.output item.now) (λ text. PutsOrRefuses (is_field_value text)
-        (insert_some headers.old name (Some text)) result headers.new) }
+    ensures { IfSome (T.output item.now) (λ text. OkWhere (is_field_value text)
+        (λ _. headers.new ≡ insert headers.old name (plain_value text)) result) }
 {
     let value = value_of(alloc, item)?;
     put(headers, name, value)?;
@@ -69,9 +72,8 @@ fn put_coding(
     headers: &mut HeaderMap<HeaderValue>,
     coding: &Encoding,
 ) -> Result<(), Fail<InvalidHeaderValue>>
-    ensures { PutsOrRefuses (is_field_value (encoding_text coding.now))
-        (insert_some headers.old (codes "content-encoding") (content_encoding coding.now))
-        result headers.new }
+    ensures { OkWhere (is_field_value (encoding_text coding.now)) (λ _. headers.new
+        ≡ insert_some headers.old (codes "content-encoding") (content_encoding coding.now)) result }
 {
     if is_identity(coding) {
         Ok(())
@@ -85,9 +87,8 @@ fn put_language(
     headers: &mut HeaderMap<HeaderValue>,
     language: &Option<LanguageTag>,
 ) -> Result<(), Fail<InvalidHeaderValue>>
-    ensures { PutsOrRefuses (is_language_value language.now)
-        (insert_some headers.old (codes "content-language") language.now)
-        result headers.new }
+    ensures { OkWhere (is_language_value language.now) (λ _. headers.new
+        ≡ insert_some headers.old (codes "content-language") language.now) result }
 {
     match language {
         Some(tag) => put_printed(alloc, headers, CONTENT_LANGUAGE, tag),
@@ -97,8 +98,8 @@ fn put_language(
 
 /// Says by which headers of a request a variant is chosen (RFC 9110, section 12.5.5).
 fn put_vary(headers: &mut HeaderMap<HeaderValue>) -> Result<(), NoMemory>
-    ensures { OnOk result (headers.new ≡ insert_some headers.old (codes "vary")
-        (Some (codes "accept, accept-language, accept-encoding"))) }
+    ensures { OnOk result (headers.new ≡ insert headers.old (codes "vary")
+        (plain_value (codes "accept, accept-language, accept-encoding"))) }
 {
     let names = HeaderValue::from_static("accept, accept-language, accept-encoding");
     put(headers, VARY, names)
@@ -119,7 +120,8 @@ pub(crate) fn printed_headers(
     alloc: Global,
     variant: &Variant,
 ) -> Result<HeaderMap<HeaderValue>, Fail<InvalidHeaderValue>>
-    ensures { Returns result (printed_headers_of variant.now) }
+    ensures { OkWhere (is_printable variant.now)
+        (λ headers. headers ≡ variant_headers variant.now) result }
 {
     let mut headers = HeaderMap::empty(alloc);
     put_coding(alloc, &mut headers, &variant.coding)?;
