@@ -1,9 +1,9 @@
 -- The headers of variants, up to the first that is refused.
-use Rattle.std.proofs.Common.{◌≡◌, ℕ, ◌+◌, List, [], ◌∷◌, ◌++◌, map, length, Option, None, Some, refl, sym, ap, ◌∙◌}
+use Rattle.std.proofs.Common.{◌≡◌, ◌<◌, ℕ, ◌+◌, List, [], ◌∷◌, ◌++◌, map, length, get_or, Option, None, Some, refl, sym, ap, ◌∙◌}
 use Rattle.std.specs.Prelude.{Ok, Err}
-use Rattle.std.proofs.lemmas.List.{append_assoc, append-nil, length_push}
+use Rattle.std.proofs.lemmas.List.{append_assoc, append-nil, get_or-map, length_push}
 use Rattle.web_variants.specs.Acceptance.{Headers}
-use Rattle.web_variants.specs.StoredVariants.{fault_at, first_fault, or_fault, unless_refused, variant_headers}
+use Rattle.web_variants.specs.StoredVariants.{fault_at, first_fault, or_fault, refusal, unless_refused, variant_headers}
 use Rattle.web_variants.specs.declared.stored_variants.Variant.{Variant}
 use Rattle.web_variants.specs.declared.stored_variants.VariantFault.{VariantFault}
 
@@ -45,3 +45,13 @@ pub so_far_all : (stored : List Variant) (all : List Headers) (rest : List Varia
 so_far_all stored all [] none so =
     ap (unless_refused (map variant_headers stored)) (sym so.fault) ∙ ap Ok (sym so.headers ∙ append-nil all)
 so_far_all stored all (v ∷ more) none so = absurd (cc)
+
+-- a list with a variant is refused by its first fault
+pub refusal_is : (stored : List Variant) → (stored ≡ [] → ⊥) → refusal stored ≡ first_fault 0 stored
+refusal_is [] some = absurd (some refl)
+refusal_is (v ∷ more) some = refl
+
+pub headers_at : (stored : List Variant) (all : List Headers) (place : ℕ) (h : Headers) (v : Variant)
+    → all ≡ map variant_headers stored → place < length stored → h ≡ get_or all place h → v ≡ get_or stored place v → h ≡ variant_headers v
+headers_at stored all place h v are inside is_h is_v =
+    is_h ∙ (ap (λ l. get_or l place h) are ∙ (get_or-map variant_headers stored place v h inside ∙ ap variant_headers (sym is_v)))

@@ -67,6 +67,7 @@ fn put_printed<T: fmt::Display>(
 }
 
 /// Says the coding, but not identity.
+#[tactic(auto, using(crate::proofs::PrintedHeaderLemmas::identity_fits))]
 fn put_coding(
     alloc: Global,
     headers: &mut HeaderMap<HeaderValue>,
