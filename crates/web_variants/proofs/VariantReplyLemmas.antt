@@ -7,6 +7,7 @@ use Rattle.web_reply.specs.declared.body.WholeBody.{WholeBody}
 use Rattle.web_reply.specs.declared.body.WholeBody.TheVariants as whole
 use Rattle.web_negotiate.specs.Rankings.{IsFirst}
 use Rattle.web_variants.specs.Acceptance.{Headers, variant_rank}
+use Rattle.web_variants.specs.FirstGreatest.{first_greatest}
 use Rattle.web_variants.specs.StoredVariants.{variant_headers}
 use Rattle.web_variants.specs.VariantReplies.{IsVariantReply, reply_of, reply_with, variant_reply}
 use Rattle.web_variants.specs.declared.stored_variants.Variant.{Variant}
@@ -31,27 +32,35 @@ reply_is stored place headers body x v inside are is_x is_body is_v =
     ∙ ap (λ b. reply_with 200 (variant_headers v) (whole.Bytes b)) (is_body ∙ ap (λ w. w.body) same)
 
 module _ {E : Type 0} (headers : Headers) (stored : List Variant) (result : Result (Reply WholeBody) E) where
-  module _ (place : ℕ) (first : IsFirst (variant_rank headers) stored place)
-      (replies : IfOk result (λ reply. (v : Variant) → v ≡ get_or stored place v → reply ≡ reply_of (Some v))) where
-    pub chosen_reply : IfOk result (IsVariantReply headers stored)
-    chosen_reply =
+  abbrev Alone : Reply WholeBody → Type 0
+  Alone reply = reply ≡ variant_reply headers stored
+
+  module _ (place : ℕ) (first : IsFirst (variant_rank headers) stored place) where
+    abbrev RepliesAt : Reply WholeBody → Type 0
+    RepliesAt reply = (v : Variant) → v ≡ get_or stored place v → reply ≡ reply_of (Some v)
+
+    pub chosen_reply : IfOk result (λ reply. (v : Variant) → v ≡ get_or stored place v → reply ≡ reply_of (Some v)) → IfOk result (IsVariantReply headers stored)
+    chosen_reply replies =
         let found = element_at stored place first.inside in
-        if_ok result _ _ (λ reply is. record {
+        if_ok result RepliesAt (IsVariantReply headers stored) (λ reply is. record {
           chosen = Some found.0;
           is_greatest = (place, first, sym found.1);
           is = is found.0 found.1;
         }) replies
 
-    pub chosen_alone : IfOk result (λ reply. reply ≡ variant_reply headers stored)
-    chosen_alone =
+    pub chosen_alone : IfOk result (λ reply. (v : Variant) → v ≡ get_or stored place v → reply ≡ reply_of (Some v)) → IfOk result (λ reply. reply ≡ variant_reply headers stored)
+    chosen_alone replies =
         let found = element_at stored place first.inside in
-        let greatest = greatest_at (variant_rank headers) stored place found.0 first ∙ ap Some (sym found.1) in
-        if_ok result _ _ (λ reply is. is found.0 found.1 ∙ ap reply_of (sym greatest)) replies
+        let greatest : first_greatest (variant_rank headers) stored ≡ Some found.0 =
+        greatest_at (variant_rank headers) stored place found.0 first ∙ ap Some (sym found.1) in
+        if_ok result RepliesAt Alone (λ reply is. is found.0 found.1 ∙ ap reply_of (sym greatest)) replies
 
-  module _ (zeros : (k : ℕ) (d : Variant) → k < length stored → variant_rank headers (get_or stored k d) ≡ 0)
-      (replies : IfOk result (λ reply. reply ≡ reply_of None)) where
-    pub refused_reply : IfOk result (IsVariantReply headers stored)
-    refused_reply = if_ok result _ _ (λ reply is. record { chosen = None; is_greatest = zeros; is = is }) replies
+  module _ (zeros : (k : ℕ) (d : Variant) → k < length stored → variant_rank headers (get_or stored k d) ≡ 0) where
+    abbrev Refuses : Reply WholeBody → Type 0
+    Refuses reply = reply ≡ reply_of None
 
-    pub refused_alone : IfOk result (λ reply. reply ≡ variant_reply headers stored)
-    refused_alone = if_ok result _ _ (λ reply is. is ∙ ap reply_of (sym (none_greatest (variant_rank headers) stored zeros))) replies
+    pub refused_reply : IfOk result (λ reply. reply ≡ reply_of None) → IfOk result (IsVariantReply headers stored)
+    refused_reply replies = if_ok result Refuses (IsVariantReply headers stored) (λ reply is. record { chosen = None; is_greatest = zeros; is = is }) replies
+
+    pub refused_alone : IfOk result (λ reply. reply ≡ reply_of None) → IfOk result (λ reply. reply ≡ variant_reply headers stored)
+    refused_alone replies = if_ok result Refuses Alone (λ reply is. is ∙ ap reply_of (sym (none_greatest (variant_rank headers) stored zeros))) replies
