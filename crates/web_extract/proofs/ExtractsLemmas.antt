@@ -5,20 +5,16 @@ use Rattle.web_request.specs.declared.source.Mark.{Mark}
 use Rattle.web_reply.specs.Replies.{Fault}
 use Rattle.web_extract.specs.Extracts.{Extracts, ExtractsBoth}
 use Rattle.web_extract.specs.ArgumentLists.{Gives, ConvertsRefusal, Joins1, Joins2, nested3, nested4}
-use Rattle.web_extract.specs.ListMeanings.{Member, Means1, Means2, Means3, Means4}
+use Rattle.web_extract.specs.ListMeanings.{ArgumentMeaning, Member, Means1, Means2, Means3, Means4}
 use Rattle.web_extract.specs.OptionArgument.{GivesOption}
 use Rattle.web_extract.specs.ResultArgument.{GivesResult}
 
--- what an argument means, with its own error
-abbrev pub MeansOf : Type 0 → Type 0 → Type 1
-MeansOf T E = List Mark → List Mark → ℕ → Result T E → Type 0
-
-pub extracts_option : {T E : Type 0} (means : MeansOf T E) (gives : ℕ → Result T E → Type 0) (old new : Option (List Mark))
+pub extracts_option : {T E : Type 0} (means : ArgumentMeaning T E) (gives : ℕ → Result T E → Type 0) (old new : Option (List Mark))
     → Extracts means gives old new → Extracts (λ m rest n x. GivesOption {T = T} {E = E} (means m rest) n x) (GivesOption gives) old new
 extracts_option means gives None new h = tt
 extracts_option means gives (Some m) new h = (h.0, h.1, λ n x g. (g.0, h.2 n g.0 g.1, g.2))
 
-pub extracts_result : {T E F : Type 0} (c : E → F → Type 0) (means : MeansOf T E) (gives : ℕ → Result T E → Type 0) (old new : Option (List Mark))
+pub extracts_result : {T E F : Type 0} (c : E → F → Type 0) (means : ArgumentMeaning T E) (gives : ℕ → Result T E → Type 0) (old new : Option (List Mark))
     → Extracts means gives old new → Extracts (λ m rest n x. GivesResult c (means m rest) n x) (λ n x. GivesResult c gives n x) old new
 extracts_result c means gives None new h = tt
 extracts_result c means gives (Some m) new h = (h.0, h.1, λ n x g. (g.0, h.2 n g.0 g.1, g.2))
@@ -60,17 +56,17 @@ rest_within : {T : Type 0} (g k : Gives T) → Within g k → Within (ConvertsRe
 rest_within g k f n x h = f n x (itself_within g n x h)
 
 -- the next place begins with the marks that the place before left
-next_extracts : {T E : Type 0} (means : MeansOf T E) (gives : ℕ → Result T E → Type 0) (old new : Option (List Mark)) (m : List Mark)
+next_extracts : {T E : Type 0} (means : ArgumentMeaning T E) (gives : ℕ → Result T E → Type 0) (old new : Option (List Mark)) (m : List Mark)
     → old ≡ Some m → Extracts means gives old new → Extracts means gives (Some m) new
 next_extracts means gives old new m e h = subst (λ (o : Option (List Mark)). Extracts means gives o new) e h
 
-pub extracts1 : {A E : Type 0} (c : E → Fault → Type 0) (means1 : MeansOf A E) (g1 : ℕ → Result A E → Type 0) (old new : Option (List Mark))
+pub extracts1 : {A E : Type 0} (c : E → Fault → Type 0) (means1 : ArgumentMeaning A E) (g1 : ℕ → Result A E → Type 0) (old new : Option (List Mark))
     → Extracts means1 g1 old new → Extracts (λ m rest n x. Means1 (Member c means1) m rest n x) (λ n x. Joins1 (ConvertsRefusal c g1) n x) old new
 extracts1 c means1 g1 None new h = tt
 extracts1 c means1 g1 (Some m) new h =
     (h.0, h.1, joins1_within (ConvertsRefusal c g1) (ConvertsRefusal c (means1 m h.0)) (turned_within c g1 (means1 m h.0) h.2))
 
-pub extracts2 : {A B E F : Type 0} (c1 : E → Fault → Type 0) (c2 : F → Fault → Type 0) (means1 : MeansOf A E) (means2 : MeansOf B F)
+pub extracts2 : {A B E F : Type 0} (c1 : E → Fault → Type 0) (c2 : F → Fault → Type 0) (means1 : ArgumentMeaning A E) (means2 : ArgumentMeaning B F)
     (g1 : ℕ → Result A E → Type 0) (g2 : ℕ → Result B F → Type 0) (old new : Option (List Mark))
     → ExtractsBoth means1 means2 g1 g2 old new
     → Extracts (λ m rest n x. Means2 (Member c1 means1) (Member c2 means2) m rest n x) (λ n x. Joins2 (ConvertsRefusal c1 g1) (ConvertsRefusal c2 g2) n x) old new
@@ -82,7 +78,7 @@ extracts2 c1 c2 means1 means2 g1 g2 (Some m) new (mid, h, k) =
     (j.0, j.1, λ n x d. (h.0, joins2_within (ConvertsRefusal c1 g1) (ConvertsRefusal c1 (means1 m h.0)) (ConvertsRefusal c2 g2) (ConvertsRefusal c2 (means2 h.0 j.0)) f1 f2 n x d))
 
 pub extracts3 : {A B C E F G : Type 0} (c1 : E → Fault → Type 0) (c2 : F → Fault → Type 0) (c3 : G → Fault → Type 0)
-    (means1 : MeansOf A E) (means2 : MeansOf B F) (means3 : MeansOf C G)
+    (means1 : ArgumentMeaning A E) (means2 : ArgumentMeaning B F) (means3 : ArgumentMeaning C G)
     (g1 : ℕ → Result A E → Type 0) (g2 : ℕ → Result B F → Type 0) (g3 : ℕ → Result C G → Type 0) (old mid1 new : Option (List Mark))
     → Extracts means1 g1 old mid1 → ExtractsBoth means2 means3 g2 g3 mid1 new
     → Extracts (λ m rest n x. Means3 (Member c1 means1) (Member c2 means2) (Member c3 means3) m rest n x)
@@ -100,7 +96,7 @@ extracts3 c1 c2 c3 means1 means2 means3 g1 g2 g3 (Some m) mid1 new h1 (mid2, h2,
     (j3.0, j3.1, λ n x d. (h1.0, j2.0, all n (nested3 x) d))
 
 pub extracts4 : {A B C D E F G H : Type 0} (c1 : E → Fault → Type 0) (c2 : F → Fault → Type 0) (c3 : G → Fault → Type 0) (c4 : H → Fault → Type 0)
-    (means1 : MeansOf A E) (means2 : MeansOf B F) (means3 : MeansOf C G) (means4 : MeansOf D H)
+    (means1 : ArgumentMeaning A E) (means2 : ArgumentMeaning B F) (means3 : ArgumentMeaning C G) (means4 : ArgumentMeaning D H)
     (g1 : ℕ → Result A E → Type 0) (g2 : ℕ → Result B F → Type 0) (g3 : ℕ → Result C G → Type 0) (g4 : ℕ → Result D H → Type 0)
     (old mid new : Option (List Mark))
     → ExtractsBoth means1 means2 g1 g2 old mid → ExtractsBoth means3 means4 g3 g4 mid new

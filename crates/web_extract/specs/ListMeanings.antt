@@ -11,10 +11,13 @@ use Rattle.web_extract.specs.CollectedResults.{One}
 abbrev pub Meaning : Type 0 → Type 1
 Meaning T = List Mark → List Mark → Gives T
 
+-- the same, with an error of its own
+abbrev pub ArgumentMeaning : Type 0 → Type 0 → Type 1
+ArgumentMeaning T E = List Mark → List Mark → ℕ → Result T E → Type 0
+
 -- an argument as a place
 abbrev pub Member :
-    {T E : Type 0} → (E → Fault → Type 0) → (List Mark → List Mark → ℕ → Result T E → Type 0)
-    → Meaning T
+    {T E : Type 0} → (E → Fault → Type 0) → ArgumentMeaning T E → Meaning T
 Member converts means m rest = ConvertsRefusal converts (means m rest)
 
 abbrev pub Means1 : {A : Type 0} → Meaning A → Meaning (One A)
