@@ -1,0 +1,3 @@
+pub mod TestRepliesLemmas
+pub mod TestRequestsLemmas
+pub mod TestWorkersLemmas
