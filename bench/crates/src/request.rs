@@ -69,11 +69,12 @@ impl Request {
         })
     }
 
-    /// Adds the header of a line: a name, and after one space a value, empty without a space.
-    pub fn add_header(&mut self, argument: &Bytes) -> Option<()> {
+    /// Adds the header of a line: a name, and after one space a value, empty without a space. The
+    /// value shares the input that it stands in.
+    pub fn add_header(&mut self, argument: &[u8], input: &Bytes) -> Option<()> {
         let (name, value) = text::split_word(argument);
         let name = HeaderName::from_bytes(name).ok()?;
-        let value = HeaderValue::from_maybe_shared(argument.slice_ref(value)).ok()?;
+        let value = HeaderValue::from_maybe_shared(input.slice_ref(value)).ok()?;
         self.headers.append(name, value);
         Some(())
     }

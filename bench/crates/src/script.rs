@@ -48,8 +48,9 @@ impl From<&'static str> for Refused {
 const MOST_HEADERS: usize = 1_024;
 
 /// What was read so far.
-#[derive(Default)]
-struct Reader {
+struct Reader<'a> {
+    /// Pieces and values of headers share it.
+    input: &'a Bytes,
     script: Script,
     /// A `plan` line came.
     is_planned: bool,
@@ -57,23 +58,23 @@ struct Reader {
     headers: usize,
 }
 
-/// Reads a script. Its pieces and the values of its headers share its bytes.
+/// Reads a script.
 pub fn read(input: &Bytes) -> Result<Script, Unread> {
-    let mut reader = Reader::default();
-    let mut rest = input.clone();
+    let mut reader = Reader {
+        input,
+        script: Script::default(),
+        is_planned: false,
+        headers: 0,
+    };
+    let mut rest = input.as_ref();
     let mut number = 0;
     while !rest.is_empty() {
-        let end = memchr::memchr(b'\n', &rest);
-        let mut line = rest.split_to(end.map_or(rest.len(), |end| end + 1));
-        line.truncate(end.unwrap_or(line.len()));
-        if line.last() == Some(&b'\r') {
-            line.truncate(line.len() - 1);
-        }
+        let line = next_line(&mut rest);
         number += 1;
         if line.is_empty() || line[0] == b'#' {
             continue;
         }
-        reader.add(&line).map_err(|refused| match refused {
+        reader.add(line).map_err(|refused| match refused {
             Refused::Faulty(reason) => Unread::Faulty {
                 line: number,
                 reason,
@@ -84,8 +85,8 @@ pub fn read(input: &Bytes) -> Result<Script, Unread> {
     Ok(reader.script)
 }
 
-impl Reader {
-    fn add(&mut self, line: &Bytes) -> Result<(), Refused> {
+impl Reader<'_> {
+    fn add(&mut self, line: &[u8]) -> Result<(), Refused> {
         let (word, argument) = split_word(line);
         match word {
             b"plan" => {
@@ -94,11 +95,9 @@ impl Reader {
                 Ok(())
             }
             b"exchange" => self.add_exchange(argument),
-            b"header" => self.add_header(line.slice_ref(argument)),
+            b"header" => self.add_header(argument),
             b"param" | b"layer" | b"peer" | b"local" | b"conn" => self.add_part(word, argument),
-            b"text" | b"piece" | b"stall" | b"fault" => {
-                self.add_mark(word, line.slice_ref(argument))
-            }
+            b"text" | b"piece" | b"stall" | b"fault" => self.add_mark(word, argument),
             _ => Err("unknown line".into()),
         }
     }
@@ -119,13 +118,13 @@ impl Reader {
         Ok(())
     }
 
-    fn add_header(&mut self, argument: Bytes) -> Result<(), Refused> {
-        let count = self.headers;
+    fn add_header(&mut self, argument: &[u8]) -> Result<(), Refused> {
+        let (input, count) = (self.input, self.headers);
         let request = &mut self.open()?.request;
         if count == MOST_HEADERS {
             return Err("too many headers".into());
         }
-        request.add_header(&argument).ok_or("bad header")?;
+        request.add_header(argument, input).ok_or("bad header")?;
         self.headers += 1;
         Ok(())
     }
@@ -146,15 +145,16 @@ impl Reader {
         Ok(())
     }
 
-    fn add_mark(&mut self, word: &[u8], argument: Bytes) -> Result<(), Refused> {
+    fn add_mark(&mut self, word: &[u8], argument: &[u8]) -> Result<(), Refused> {
+        let input = self.input;
         let marks = &mut self.open()?.marks;
         if matches!(marks.last(), Some(Mark::Fault)) {
             return Err("mark after fault".into());
         }
         marks.push(match word {
             b"text" | b"piece" if argument.is_empty() => return Ok(()),
-            b"text" => Mark::Piece(argument),
-            b"piece" => Mark::Piece(decoded(&argument).ok_or("bad piece")?),
+            b"text" => Mark::Piece(input.slice_ref(argument)),
+            b"piece" => Mark::Piece(decoded(argument).ok_or("bad piece")?),
             _ if !argument.is_empty() => return Err("bad mark".into()),
             b"stall" => Mark::Stall,
             _ => Mark::Fault,
@@ -169,6 +169,19 @@ impl Reader {
         }
         Ok(self.script.exchanges.last_mut().ok_or("no exchange")?)
     }
+}
+
+/// Takes the next line, without its end.
+fn next_line<'a>(rest: &mut &'a [u8]) -> &'a [u8] {
+    let line = match memchr::memchr(b'\n', rest) {
+        Some(end) => {
+            let (line, behind) = rest.split_at(end);
+            *rest = &behind[1..];
+            line
+        }
+        None => std::mem::take(rest),
+    };
+    line.strip_suffix(b"\r").unwrap_or(line)
 }
 
 const LINE_AFTER_PLAN: &str = "line after plan";
