@@ -7,6 +7,7 @@ use Rattle.demo_arguments.specs.declared.choice.Choice.TheVariants as choice
 use Rattle.demo_arguments.specs.declared.choice.DecodedChoice.TheVariants as decoded
 use Rattle.demo_arguments.specs.declared.choice.HeadChoice.TheVariants as head
 use Rattle.demo_arguments.specs.declared.choice.ReadChoice.TheVariants as read
+use Rattle.demo_arguments.specs.declared.choice.RequestChoice.TheVariants as request
 
 -- what this segment asks for
 abbrev pub choice_named : List ℕ → Choice
@@ -24,12 +25,14 @@ choice_named segment =
     else if bytes_eq segment (codes "data") then choice.Data
     else if bytes_eq segment (codes "raw") then choice.Read read.Raw
     else if bytes_eq segment (codes "who") then choice.Head head.Who
-    else if bytes_eq segment (codes "cookies") then choice.Head head.Cookies
+    else if bytes_eq segment (codes "cookies") then choice.Head (head.Request request.Cookies)
     else if bytes_eq segment (codes "lines") then choice.Lines
     else if bytes_eq segment (codes "both") then choice.Both
     else if bytes_eq segment (codes "wait") then choice.Head head.Wait
     else if bytes_eq segment (codes "capped") then choice.Capped
     else if bytes_eq segment (codes "capped-json") then choice.Decoded decoded.CappedJson
+    else if bytes_eq segment (codes "doc") then choice.Head (head.Request request.Document)
+    else if bytes_eq segment (codes "variant") then choice.Head (head.Request request.Variant)
     else choice.Head head.Other
 
 -- what a path asks for: its first segment alone decides

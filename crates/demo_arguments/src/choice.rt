@@ -40,14 +40,22 @@ pub enum ReadChoice {
     Raw,
 }
 
-/// Further arguments that are there at once: where the request came from, its cookies, how long the
-/// handler waits, and none.
+/// Further arguments that are there at once: where the request came from, the request itself, how
+/// long the handler waits, and none.
 #[derive(Clone, Copy, Debug, PartialEq, Eq)]
 pub enum HeadChoice {
     Who,
-    Cookies,
+    Request(RequestChoice),
     Wait,
     Other,
+}
+
+/// What the request alone is replied to with: its cookies, a document, or a variant.
+#[derive(Clone, Copy, Debug, PartialEq, Eq)]
+pub enum RequestChoice {
+    Cookies,
+    Document,
+    Variant,
 }
 
 fn is_named(segment: &[u8], name: &[u8]) -> bool
@@ -86,7 +94,7 @@ fn choice_named(segment: &[u8]) -> Choice
     } else if is_named(segment, b"who") {
         Choice::Head(HeadChoice::Who)
     } else if is_named(segment, b"cookies") {
-        Choice::Head(HeadChoice::Cookies)
+        Choice::Head(HeadChoice::Request(RequestChoice::Cookies))
     } else if is_named(segment, b"lines") {
         Choice::Lines
     } else if is_named(segment, b"both") {
@@ -97,6 +105,10 @@ fn choice_named(segment: &[u8]) -> Choice
         Choice::Capped
     } else if is_named(segment, b"capped-json") {
         Choice::Decoded(DecodedChoice::CappedJson)
+    } else if is_named(segment, b"doc") {
+        Choice::Head(HeadChoice::Request(RequestChoice::Document))
+    } else if is_named(segment, b"variant") {
+        Choice::Head(HeadChoice::Request(RequestChoice::Variant))
     } else {
         Choice::Head(HeadChoice::Other)
     }

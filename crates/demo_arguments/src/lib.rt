@@ -10,8 +10,8 @@ mod request_arguments;
 mod wait;
 
 pub use all_lines::{AllLines, AllLinesFuture};
-pub use choice::{Choice, DecodedChoice, HeadChoice, ReadChoice, choice_of};
+pub use choice::{Choice, DecodedChoice, HeadChoice, ReadChoice, RequestChoice, choice_of};
 pub use delayed::Delayed;
 pub use late::{Late, LateFuture};
-pub use request_arguments::{CookieArguments, DataArguments, RawBody};
+pub use request_arguments::{CookieArguments, DataArguments, RawBody, RequestArguments};
 pub use wait::Wait;

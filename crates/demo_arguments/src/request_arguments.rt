@@ -1,4 +1,4 @@
-//! The arguments of `/data`, of `/cookies` and of `/raw`.
+//! The arguments of `/data`, of `/cookies`, of `/doc`, of `/variant` and of `/raw`.
 use demo_app::{Demo, DemoLocal};
 use std::marker::Model;
 use web_body::{Marks, Payload};
@@ -37,6 +37,20 @@ impl Model for CookieArguments {
     ghost Value = { CookiesSaid };
 
     ghost view = { λ c. known_cookies c.request };
+}
+
+/// A request that is replied to by its head. Contracts see the request.
+#[derive(Drop)]
+pub struct RequestArguments {
+    pub request: HttpRequest<Demo>,
+}
+
+impl Model for RequestArguments {
+    ghost use Rattle.demo_app.specs.DemoRequests.{DemoRequest};
+
+    ghost Value = { DemoRequest };
+
+    ghost view = { λ r. r.request.request };
 }
 
 /// A body that nothing was read of. Contracts see its marks, where they are stated.

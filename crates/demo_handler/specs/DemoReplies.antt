@@ -13,6 +13,11 @@ use Rattle.web_reply.specs.ResponseBodies.{whole_plain}
 use Rattle.web_reply.specs.declared.cause.Cause.TheVariants.{Custom}
 use Rattle.web_reply.specs.Replies.{Fault, Reply, error_reply, fault_of, plain_reply, typed_reply}
 use Rattle.web_reply.specs.Responders.{bytes_reply, empty_reply, text_reply}
+use Rattle.web_docs.specs.DocumentFunctions.{document_reply}
+use Rattle.web_variants.specs.VariantReplies.{variant_reply}
+use Rattle.demo_content.specs.StoredDocuments.{found_document}
+use Rattle.demo_content.specs.StoredVariants.{demo_variants}
+use Rattle.demo_app.specs.DemoRequests.{DemoRequest}
 use Rattle.demo_app.specs.Items.{item_text, json_of_item, pairs_of_item}
 use Rattle.demo_app.specs.declared.item.Item.{Item}
 use Rattle.demo_handler.specs.DemoTexts.{accept_text, data_text, either_text, option_text}
@@ -68,6 +73,15 @@ text_or_refusal (Err error) = cookies_refusal error
 abbrev pub cookies_reply : CookiesSaid → Reply Plain
 cookies_reply said = text_or_refusal (printed_cookies said)
 
+-- the document of the request's path, by the conditions of the request
+abbrev pub demo_document_reply : DemoRequest → Reply Plain
+demo_document_reply q = plain_reply whole_plain (document_reply (found_document q.head) q.head)
+
+-- the variant that the request accepts most
+abbrev pub demo_variant_reply : DemoRequest → Reply Plain
+demo_variant_reply q =
+    plain_reply whole_plain (variant_reply q.head.headers demo_variants)
+
 -- an empty reply, and one that was made, allocate nothing
 abbrev pub AnswerNeedsNoMemory : {S : Type 0} → Answer S → Type 0
 AnswerNeedsNoMemory answer.Done = ⊤
@@ -98,6 +112,8 @@ demo_reply (picked.Raw body) = raw_reply body
 demo_reply (picked.Who info) = text_reply (who_text info)
 demo_reply (picked.Cookies said) = cookies_reply said
 demo_reply (picked.Lines lines) = text_reply (lines_text lines)
+demo_reply (picked.Document q) = demo_document_reply q
+demo_reply (picked.Variant q) = demo_variant_reply q
 demo_reply (picked.Both text late) = text_reply text
 demo_reply (picked.Wait wait) = empty_reply 204
 demo_reply picked.Other = empty_reply 404

@@ -2,22 +2,24 @@
 ghost use Rattle.std.specs.Prelude.{◌≡◌, ◌∷◌, [], IfOk, IsOk, OnOk, codes};
 ghost use Rattle.http_header.specs.FieldValue.{plain_value};
 ghost use Rattle.web_reply.specs.Replies.{plain_reply};
-ghost use Rattle.web_reply.specs.ResponseBodies.{box_plain};
+ghost use Rattle.web_reply.specs.ResponseBodies.{box_plain, whole_plain};
 ghost use Rattle.web_request.specs.KeptValues.{known_cookies};
 ghost use Rattle.web_texts.specs.Returns.{ReturnsBy};
 ghost use Rattle.demo_handler.specs.DemoReplies.{cookie_error, cookies_refusal, cookies_reply};
+ghost use Rattle.demo_handler.specs.DemoReplies.{demo_document_reply, demo_variant_reply};
 ghost use Rattle.demo_handler.specs.DemoReplies.{output_reply, raw_reply};
 ghost use Rattle.demo_handler.specs.DemoTexts.{printed_cookies};
 
 use crate::texts::cookies_text;
 use bytes::Bytes;
 use demo_app::{Demo, Item};
-use demo_arguments::{CookieArguments, RawBody};
+use demo_arguments::{CookieArguments, RawBody, RequestArguments};
+use demo_content::{DemoDocuments, DemoVariants};
 use http::StatusCode;
 use http_header::{CONTENT_TYPE, HeaderMap, HeaderValue};
 use std::alloc::Global;
 use web_body::Marks;
-use web_reply::{BoxBody, Cause, Done, Error, HttpResponse, Responder};
+use web_reply::{BoxBody, Cause, Done, Error, HttpResponse, Responder, WholeBody};
 use web_request::cookies::CookieParseError;
 use web_request::{App, Fail, HttpRequest, NoMemory};
 use web_texts::Text;
@@ -126,6 +128,38 @@ pub(crate) fn cookies_answer(
         Err(Fail::NoMemory) => Err(NoMemory),
         Err(Fail::Of(error)) => refused_cookies(alloc, error),
     }
+}
+
+/// A response whose body is in memory, as an answer.
+fn whole_answer(alloc: Global, response: HttpResponse<WholeBody>) -> Result<DemoOutput, NoMemory>
+    ensures { IfOk result (λ output. output_reply output ≡ plain_reply whole_plain response) }
+{
+    let response = response.map_into_boxed_body(alloc)?;
+    Ok(Answer::Response(Box::new(alloc, response)?))
+}
+
+/// The reply to a request for a document, as an answer.
+pub(crate) fn document_answer(
+    alloc: Global,
+    documents: &mut DemoDocuments,
+    arguments: RequestArguments,
+) -> Result<DemoOutput, NoMemory>
+    ensures { IfOk result (λ output. output_reply output ≡ demo_document_reply arguments) }
+{
+    let response = documents.answer(alloc, &arguments.request)?;
+    whole_answer(alloc, response)
+}
+
+/// The reply to a request for a variant, as an answer.
+pub(crate) fn variant_answer(
+    alloc: Global,
+    variants: &mut DemoVariants,
+    arguments: RequestArguments,
+) -> Result<DemoOutput, NoMemory>
+    ensures { IfOk result (λ output. output_reply output ≡ demo_variant_reply arguments) }
+{
+    let response = variants.answer(alloc, &arguments.request)?;
+    whole_answer(alloc, response)
 }
 
 /// The response of a value, with its body in the common form.

@@ -4,9 +4,12 @@ ghost use Rattle.web_reply.specs.Responders.{text_reply};
 ghost use Rattle.demo_handler.specs.DemoReplies.{AnswersWithoutMemory, demo_reply, output_reply};
 ghost use Rattle.demo_handler.specs.DemoReplies.{wait_of};
 
-use crate::answer::{Answer, DemoOutput, cookies_answer, raw_answer};
+use crate::answer::{
+    Answer, DemoOutput, cookies_answer, document_answer, raw_answer, variant_answer,
+};
 use crate::answering::Answering;
 use crate::texts::PlainText;
+use demo_content::{DemoDocuments, DemoVariants};
 use demo_picked::Picked;
 use std::alloc::Global;
 use web_request::NoMemory;
@@ -15,10 +18,13 @@ use web_worker::Handler;
 /// The handler of the program. What it replies to the arguments of each segment stands in the
 /// command's page.
 ///
-/// `call` needs memory for the texts that it prints, to read cookies, and for the response to
-/// `/raw`. A poll of its future needs none.
-#[derive(Debug, Drop)]
-pub struct DemoHandler;
+/// `call` needs memory for the texts that it prints, to read cookies, and for the responses to
+/// `/raw`, `/doc` and `/variant`. A poll of its future needs none.
+#[derive(Drop)]
+pub struct DemoHandler {
+    documents: DemoDocuments,
+    variants: DemoVariants,
+}
 
 fn wait_of(picked: &Picked) -> u64
     ensures { result ≡ wait_of picked.now }
@@ -40,7 +46,11 @@ fn text_answer<P: PlainText + Drop>(alloc: Global, value: P) -> Result<DemoOutpu
 }
 
 /// The output for these arguments.
-fn output_of(alloc: Global, picked: Picked) -> Result<DemoOutput, NoMemory>
+fn output_of(
+    alloc: Global,
+    handler: &mut DemoHandler,
+    picked: Picked,
+) -> Result<DemoOutput, NoMemory>
     ensures value { IfOk result (λ output. output_reply output ≡ demo_reply picked) }
     ensures memory { AnswersWithoutMemory picked → IsOk result }
 {
@@ -62,9 +72,21 @@ fn output_of(alloc: Global, picked: Picked) -> Result<DemoOutput, NoMemory>
         Picked::Who(info) => text_answer(alloc, info),
         Picked::Cookies(arguments) => cookies_answer(alloc, arguments),
         Picked::Lines(lines) => text_answer(alloc, lines),
+        Picked::Document(arguments) => { document_answer(alloc, &mut handler.documents, arguments) }
+        Picked::Variant(arguments) => variant_answer(alloc, &mut handler.variants, arguments),
         Picked::Both(text, _) => Ok(Answer::Text(text)),
         Picked::Wait(_) => Ok(Answer::Done),
         Picked::Other => Ok(Answer::None),
+    }
+}
+
+impl DemoHandler {
+    /// A handler that has answered nothing yet.
+    pub fn new() -> DemoHandler {
+        DemoHandler {
+            documents: DemoDocuments::new(),
+            variants: DemoVariants::new(),
+        }
     }
 }
 
@@ -89,6 +111,6 @@ impl Handler<Picked> for DemoHandler {
         ensures memory { AnswersWithoutMemory picked → IsOk result }
     {
         let wait = wait_of(&picked);
-        Ok(Answering::new(wait, output_of(alloc, picked)?))
+        Ok(Answering::new(wait, output_of(alloc, self, picked)?))
     }
 }

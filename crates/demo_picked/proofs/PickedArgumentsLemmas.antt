@@ -58,8 +58,8 @@ use Rattle.demo_picked.specs.ItemArguments.{MeansPathItem, MeansQueryItem}
 use Rattle.demo_picked.specs.ItemArguments.{either_item_result, form_item_result}
 use Rattle.demo_picked.specs.ItemArguments.{form_item_rest, json_item_rest, json_item_result}
 use Rattle.demo_picked.specs.ItemArguments.{path_item_result, query_item_result}
-use Rattle.demo_picked.specs.PickedArguments.{MeansChoice, MeansDecoded, MeansHead, MeansPicked, MeansRead}
-use Rattle.demo_picked.specs.PickedArguments.{choice_result, decoded_result, head_result, read_result}
+use Rattle.demo_picked.specs.PickedArguments.{MeansChoice, MeansDecoded, MeansHead, MeansPicked, MeansRead, MeansRequestAs}
+use Rattle.demo_picked.specs.PickedArguments.{choice_result, decoded_result, head_result, read_result, request_result}
 use Rattle.demo_picked.specs.PickedArguments.{picked_delay, picked_result}
 use Rattle.demo_picked.specs.Picking.{By, ByEither, Picks, never_fault, parse_fault, same_fault}
 use Rattle.demo_arguments.specs.declared.choice.Choice.{Choice}
@@ -70,6 +70,8 @@ use Rattle.demo_arguments.specs.declared.choice.HeadChoice.{HeadChoice}
 use Rattle.demo_arguments.specs.declared.choice.HeadChoice.TheVariants as head
 use Rattle.demo_arguments.specs.declared.choice.ReadChoice.{ReadChoice}
 use Rattle.demo_arguments.specs.declared.choice.ReadChoice.TheVariants as read
+use Rattle.demo_arguments.specs.declared.choice.RequestChoice.{RequestChoice}
+use Rattle.demo_arguments.specs.declared.choice.RequestChoice.TheVariants as request
 use Rattle.demo_arguments.specs.LinesArgument.{MeansLines, lines_rest, lines_result}
 use Rattle.demo_picked.specs.declared.picked.Picked.{Picked}
 use Rattle.demo_picked.specs.declared.picked.Picked.TheVariants as picked
@@ -260,10 +262,16 @@ read_only read.Query q m rest = pick (λ v. v) same_fault (λ v. picked.Query v)
 read_only read.Header q m rest = pick (λ v. v) parse_fault (λ v. picked.Header v) (MeansAccept q) (λ m. m) (λ m. accept_result q) (accept_seen q) m rest
 read_only read.Raw q m rest = pick raw_view same_fault (λ v. picked.Raw v) MeansRaw (λ m. []) payload_result raw_seen m rest
 
+request_only : (c : RequestChoice) (q : DemoRequest) (m rest : List Mark)
+    → GivesOnly (λ n x. MeansRequestAs c q m rest n x) (request_result c q).delay (request_result c q).result
+request_only request.Cookies q m rest = pick known_cookies same_fault (λ v. picked.Cookies v) (MeansRequest q) (λ m. m) (λ m. cookies_result q) (cookies_seen q) m rest
+request_only request.Document q m rest = pick (λ r. r.request) same_fault (λ v. picked.Document v) (MeansRequest q) (λ m. m) (λ m. at_once (Ok q)) (request_seen q) m rest
+request_only request.Variant q m rest = pick (λ r. r.request) same_fault (λ v. picked.Variant v) (MeansRequest q) (λ m. m) (λ m. at_once (Ok q)) (request_seen q) m rest
+
 head_only : (c : HeadChoice) (q : DemoRequest) (m rest : List Mark)
     → GivesOnly (λ n x. MeansHead c q m rest n x) (head_result c q m).delay (head_result c q m).result
 head_only head.Who q m rest = pick (λ v. v) never_fault (λ v. picked.Who v) (MeansWho q) (λ m. m) (λ m. who_result q) (who_seen q) m rest
-head_only head.Cookies q m rest = pick known_cookies same_fault (λ v. picked.Cookies v) (MeansRequest q) (λ m. m) (λ m. cookies_result q) (cookies_seen q) m rest
+head_only (head.Request c) q m rest = request_only c q m rest
 head_only head.Wait q m rest =
     converted_only (λ v. picked.Wait v) never_fault (MeansWait q.params m rest) _ _ (λ k y g. (g.1, g.2))
 head_only head.Other q m rest =

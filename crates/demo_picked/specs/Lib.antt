@@ -3,4 +3,5 @@ pub mod BodyArguments
 pub mod BoxedFutures
 pub mod ItemArguments
 pub mod PickedArguments
+pub mod PickedRequests
 pub mod Picking

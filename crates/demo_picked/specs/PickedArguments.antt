@@ -1,6 +1,5 @@
 -- The argument `Picked`, which the first segment of the path decides.
 use Rattle.std.specs.Prelude.{◌≡◌, ℕ, List, None, Result, Ok, string_bytes, ⊤}
-use Rattle.web_request.specs.KeptValues.{known_cookies}
 use Rattle.web_request.specs.declared.source.Mark.{Mark}
 use Rattle.web_request.specs.Head.{head_path}
 use Rattle.web_reply.specs.Replies.{Fault}
@@ -43,6 +42,9 @@ use Rattle.demo_arguments.specs.declared.choice.HeadChoice.{HeadChoice}
 use Rattle.demo_arguments.specs.declared.choice.HeadChoice.TheVariants as head
 use Rattle.demo_arguments.specs.declared.choice.ReadChoice.{ReadChoice}
 use Rattle.demo_arguments.specs.declared.choice.ReadChoice.TheVariants as read
+use Rattle.demo_arguments.specs.declared.choice.RequestChoice.{RequestChoice}
+use Rattle.demo_arguments.specs.declared.choice.RequestChoice.TheVariants as request
+use Rattle.demo_picked.specs.PickedRequests.{picked_request}
 use Rattle.demo_picked.specs.declared.picked.Picked.{Picked}
 use Rattle.demo_picked.specs.declared.picked.Picked.TheVariants as picked
 use Rattle.demo_app.specs.DemoRequests.{DemoRequest}
@@ -127,12 +129,22 @@ read_result read.Query q m = with_value (λ v. picked.Query v) (query_item_resul
 read_result read.Header q m = with_value (λ v. picked.Header v) (accept_result q)
 read_result read.Raw q m = with_value (λ v. picked.Raw v) (payload_result m)
 
+-- the same of the request itself
+abbrev pub MeansRequestAs : RequestChoice → DemoRequest → Meaning Picked
+MeansRequestAs c q m rest n x =
+    Picks (picked_request c) (By same_fault) (MeansRequest q) m rest n x
+
+-- what is picked, and after how many polls
+abbrev pub request_result : RequestChoice → DemoRequest → DelayedResult Picked
+request_result request.Cookies q = with_value (λ v. picked.Cookies v) (cookies_result q)
+request_result request.Document q = at_once (Ok (picked.Document q))
+request_result request.Variant q = at_once (Ok (picked.Variant q))
+
 -- the same of further ones that are there at once
 abbrev pub MeansHead : HeadChoice → DemoRequest → Meaning Picked
 MeansHead head.Who q m rest n x =
     Picks (λ v. picked.Who v) (By never_fault) (MeansWho q) m rest n x
-MeansHead head.Cookies q m rest n x =
-    Picks (λ v. picked.Cookies (known_cookies v)) (By same_fault) (MeansRequest q) m rest n x
+MeansHead (head.Request c) q m rest n x = MeansRequestAs c q m rest n x
 MeansHead head.Wait q m rest n x =
     Picks (λ v. picked.Wait v) (By never_fault) (MeansWait q.params) m rest n x
 MeansHead head.Other q m rest n x =
@@ -143,8 +155,8 @@ head_some : (c : HeadChoice) (q : DemoRequest) (m : List Mark)
 head_some head.Who q m =
     picks_some (λ v. picked.Who v) (By never_fault) (MeansWho q)
     (converted_by never_fault) m (who_some q m)
-head_some head.Cookies q m =
-    picks_some (λ v. picked.Cookies (known_cookies v)) (By same_fault) (MeansRequest q)
+head_some (head.Request c) q m =
+    picks_some (picked_request c) (By same_fault) (MeansRequest q)
     (converted_by same_fault) m (request_some q m)
 head_some head.Wait q m =
     picks_some (λ v. picked.Wait v) (By never_fault) (MeansWait q.params)
@@ -156,7 +168,7 @@ head_some head.Other q m =
 -- what is picked, and after how many polls
 abbrev pub head_result : HeadChoice → DemoRequest → List Mark → DelayedResult Picked
 head_result head.Who q m = with_value (λ v. picked.Who v) (who_result q)
-head_result head.Cookies q m = with_value (λ v. picked.Cookies v) (cookies_result q)
+head_result (head.Request c) q m = request_result c q
 head_result head.Wait q m = at_once (Ok (picked.Wait (record { 0 = delay_in q.params })))
 head_result head.Other q m = at_once (Ok picked.Other)
 

@@ -12,7 +12,8 @@ use crate::ready::{head_future, read_future};
 use bytes::Bytes;
 use demo_app::{Demo, Item};
 use demo_arguments::{
-    AllLines, Choice, CookieArguments, DataArguments, Late, RawBody, Wait, choice_of,
+    AllLines, Choice, CookieArguments, DataArguments, Late, RawBody, RequestArguments, Wait,
+    choice_of,
 };
 use std::alloc::Global;
 use web_arguments::{Header, Path, Query};
@@ -62,6 +63,10 @@ pub enum Picked {
     Cookies(CookieArguments),
     /// Of `/lines`: the lines of the body.
     Lines(AllLines),
+    /// Of `/doc`: the request, which asks for a document.
+    Document(RequestArguments),
+    /// Of `/variant`: the request, which asks for a variant.
+    Variant(RequestArguments),
     /// Of `/both`: the body as a text, and an argument that comes late.
     Both(Text, Late),
     /// Of `/wait`: how long the handler waits.

@@ -101,7 +101,7 @@ pub(crate) fn begin<T: FromRequest<Demo> + IntoPicked>(
 }
 
 /// The value of a future that was not polled.
-fn value_of<X: Drop>(alloc: Global, mut future: Ready<X>) -> X
+pub(crate) fn value_of<X: Drop>(alloc: Global, mut future: Ready<X>) -> X
     requires unfinished { is_none future ≡ false }
     ensures { future ≡ Some result }
 {

@@ -4,11 +4,15 @@ ghost use Rattle.web_body.specs.Payload.{payload_feed};
 ghost use Rattle.web_extract.specs.Extracts.{Extracts};
 ghost use Rattle.web_extract.specs.ReadyFuture.{GivesHeld};
 ghost use Rattle.demo_picked.specs.PickedArguments.{HeadNeedsNoMemory, MeansHead, MeansRead};
+ghost use Rattle.demo_picked.specs.PickedArguments.{MeansRequestAs};
+ghost use Rattle.demo_picked.specs.PickedRequests.{picked_request};
 
 use crate::picked::Picked;
-use crate::picked_future::picked_now;
+use crate::picked_future::{picked_now, value_of};
 use demo_app::{Demo, Item};
-use demo_arguments::{HeadChoice, ReadChoice, Wait};
+use demo_arguments::{
+    CookieArguments, HeadChoice, ReadChoice, RequestArguments, RequestChoice, Wait,
+};
 use std::alloc::Global;
 use web_arguments::{Header, Path, Query};
 use web_body::{Marks, Payload};
@@ -55,8 +59,41 @@ pub(crate) fn read_future(
     }
 }
 
-/// What is picked of where a request came from, of its cookies, of how long the handler waits, or
-/// of nothing, as a future.
+/// What is picked of a request.
+fn picked_of(choice: RequestChoice, request: HttpRequest<Demo>) -> Picked
+    ensures { result ≡ picked_request choice request }
+{
+    match choice {
+        RequestChoice::Cookies => Picked::Cookies(CookieArguments { request }),
+        RequestChoice::Document => Picked::Document(RequestArguments { request }),
+        RequestChoice::Variant => Picked::Variant(RequestArguments { request }),
+    }
+}
+
+/// What is picked of the request itself, as a future.
+fn request_future(
+    alloc: Global,
+    req: &HttpRequest<Demo>,
+    payload: &mut Payload<Marks>,
+    choice: RequestChoice,
+) -> Result<Ready<Result<Picked, Error>>, NoMemory>
+    ensures fresh { IfOk result (λ f. is_none f ≡ false) }
+    ensures extracts { IfOk result (λ f. Extracts
+        (λ m rest n x. MeansRequestAs choice req.now.request m rest n x)
+        (λ n x. GivesHeld f n x)
+        (payload_feed (λ feed. feed) payload.old).marks
+        (payload_feed (λ feed. feed) payload.new).marks) }
+    ensures payload { (payload.new ≡ payload.old) ⊎ (payload.new ≡ Payload.None) }
+{
+    let future = HttpRequest::<Demo>::from_request(alloc, req, payload)?;
+    match value_of(alloc, future) {
+        Ok(request) => Ok(Ready::new(Ok(picked_of(choice, request)))),
+        Err(e) => Ok(Ready::new(Err(e))),
+    }
+}
+
+/// What is picked of where a request came from, of the request itself, of how long the handler
+/// waits, or of nothing, as a future.
 ///
 /// It stands apart, since the variables of every choice would be cleared for each request.
 #[inline(never)]
@@ -80,9 +117,9 @@ pub(crate) fn head_future(
             let future = ConnectionInfo::from_request(alloc, req, payload)?;
             Ok(picked_now(alloc, future))
         }
-        HeadChoice::Cookies => {
-            let future = HttpRequest::<Demo>::from_request(alloc, req, payload)?;
-            Ok(picked_now(alloc, future))
+        HeadChoice::Request(choice) => {
+            let future = request_future(alloc, req, payload, choice)?;
+            Ok(future)
         }
         HeadChoice::Wait => {
             let future = Wait::from_request(alloc, req, payload)?;

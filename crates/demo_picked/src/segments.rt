@@ -5,7 +5,7 @@ use crate::picked::Picked;
 use crate::picked_future::IntoPicked;
 use bytes::Bytes;
 use demo_app::{Demo, DemoLocal, Item};
-use demo_arguments::{AllLines, CookieArguments, DataArguments, Late, RawBody, Wait};
+use demo_arguments::{AllLines, DataArguments, Late, RawBody, Wait};
 use web_arguments::{Header, Path, Query};
 use web_body::{Marks, Payload};
 use web_extract::{Capped, IntoSome};
@@ -200,17 +200,6 @@ impl IntoPicked for ConnectionInfo {
 
     fn into_picked(self) -> Picked {
         Picked::Who(self)
-    }
-}
-
-impl IntoPicked for HttpRequest<Demo> {
-    ghost use Rattle.web_request.specs.KeptValues.{known_cookies};
-    ghost use Rattle.demo_picked.specs.declared.picked.Picked.TheVariants as picked;
-
-    ghost picked = { λ request. picked.Cookies (known_cookies request) };
-
-    fn into_picked(self) -> Picked {
-        Picked::Cookies(CookieArguments { request: self })
     }
 }
 

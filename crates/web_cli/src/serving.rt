@@ -232,5 +232,5 @@ pub fn run_program<I: Input, O: Output>(
     ensures write_fault { WriteFaultIsReported result (O.state output.old) (O.state output.new) }
     ensures too_long { TooLongIsReported result (I.state input.old) (I.state input.new) }
 {
-    run(alloc, words, input, output, &mut DemoHandler)
+    run(alloc, words, input, output, &mut DemoHandler::new())
 }

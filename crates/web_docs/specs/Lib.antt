@@ -1,8 +1,10 @@
 pub mod Conditions
+pub mod DocumentFunctions
 pub mod DocumentReplies
 pub mod Documents
 pub mod PartLaws
 pub mod PrintedDocuments
+pub mod SelectedEnds
 pub mod SentPositions
 pub mod Stores
 pub mod TextMaps

@@ -12,5 +12,5 @@ mod verdict;
 
 pub use answer::answer_document;
 pub use document::{Document, StoreFault};
-pub use laws::part_law;
+pub use laws::{document_law, part_law};
 pub use store::Store;

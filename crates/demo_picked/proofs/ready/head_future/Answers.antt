@@ -1,10 +1,9 @@
-use Rattle.web_request.specs.KeptValues.{known_cookies}
 use Rattle.web_extract.specs.ReadyFuture.{MeansUnit}
 use Rattle.demo_arguments.specs.LateAndWait.{MeansWait}
 use Rattle.demo_arguments.specs.declared.choice.HeadChoice.TheVariants as head
-use Rattle.demo_picked.specs.ArgumentMeanings.{MeansRequest, MeansWho}
+use Rattle.demo_picked.specs.ArgumentMeanings.{MeansWho}
 use Rattle.demo_picked.specs.PickedArguments.{MeansHead}
-use Rattle.demo_picked.specs.Picking.{By, never_fault, same_fault}
+use Rattle.demo_picked.specs.Picking.{By, never_fault}
 use Rattle.demo_picked.specs.declared.picked.Picked.TheVariants as picked
 use Rattle.demo_picked.proofs.PickedArgumentsLemmas.{extracts_chosen, extracts_now}
 use Rattle.demo_picked.proofs.ready.head_future.Goals as goal
@@ -15,11 +14,10 @@ returns-in_ok-future-in-Who-clause-extracts c =
     (extracts_now (λ v. picked.Who v) (By never_fault) (MeansWho c.args.req.now.request) _ _ _ _
     c.picked_now.ensures.gives c.in_ok-future-in-Who.ensures.extracts)
 
-pub returns-in_ok-future-in-Cookies-clause-extracts : goal.returns-in_ok-future-in-Cookies-clause-extracts
-returns-in_ok-future-in-Cookies-clause-extracts c =
-    extracts_chosen (λ d m rest n x. MeansHead d c.args.req.now.request m rest n x) _ head.Cookies _ _ _ c.in-Cookies.is
-    (extracts_now (λ v. picked.Cookies (known_cookies v)) (By same_fault) (MeansRequest c.args.req.now.request) _ _ _ _
-    c.picked_now-in-Cookies.ensures.gives c.in_ok-future-in-Cookies.ensures.extracts)
+pub returns-in_ok-future-in-Request-clause-extracts : goal.returns-in_ok-future-in-Request-clause-extracts
+returns-in_ok-future-in-Request-clause-extracts c =
+    extracts_chosen (λ d m rest n x. MeansHead d c.args.req.now.request m rest n x) _ (head.Request c.in-Request.choice) _ _ _ c.in-Request.is
+    c.in_ok-future-in-Request.ensures.extracts
 
 pub returns-in_ok-future-in-Wait-clause-extracts : goal.returns-in_ok-future-in-Wait-clause-extracts
 returns-in_ok-future-in-Wait-clause-extracts c =

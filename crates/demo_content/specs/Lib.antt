@@ -1,0 +1,3 @@
+pub mod KeptContent
+pub mod StoredDocuments
+pub mod StoredVariants

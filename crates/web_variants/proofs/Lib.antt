@@ -1,0 +1,4 @@
+pub mod FirstGreatestLemmas
+pub mod PrintedHeaderLemmas
+pub mod StoredVariantLemmas
+pub mod VariantReplyLemmas

@@ -1,0 +1,6 @@
+pub mod Acceptance
+pub mod AcceptedHeaders
+pub mod FirstGreatest
+pub mod PrintedHeaders
+pub mod StoredVariants
+pub mod VariantReplies
