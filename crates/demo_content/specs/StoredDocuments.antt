@@ -2,6 +2,8 @@
 use Rattle.std.specs.Prelude.{ℕ, ◌≤◌, ◌<◌, true, false, List, [], ◌∷◌, codes, refl}
 use Rattle.std.specs.Prelude.{Option, None}
 use Rattle.std.specs.FinMap.{get}
+use Rattle.std.proofs.Common.{arith}
+use Rattle.httpdate.specs.Calendar.{days_of_months, days_of_years}
 use Rattle.httpdate.specs.declared.date.HttpDate.{HttpDate}
 use Rattle.web_texts.specs.MediaTypes.{MediaType}
 use Rattle.web_request.specs.Head.{Head, head_path}
@@ -14,7 +16,8 @@ plain_text =
     record { type_ = codes "text"; subtype = codes "plain"; suffix = None; params = [] }
 
 -- Tue, 14 Nov 2023 22:13:20 GMT
-pub demo_date : HttpDate
+unfoldable pub demo_date : HttpDate
+unfolding days_of_months days_of_years
 demo_date = record {
   parts = record { year = 2023; mon = 11; day = 14; hour = 22; min = 13; sec = 20; wday = 2 };
   civil = ((omega arith, omega arith), (omega arith, omega arith), (omega arith, omega arith));
