@@ -31,6 +31,7 @@ choice_named segment =
     else if bytes_eq segment (codes "wait") then choice.Head head.Wait
     else if bytes_eq segment (codes "capped") then choice.Capped
     else if bytes_eq segment (codes "capped-json") then choice.Decoded decoded.CappedJson
+    else if bytes_eq segment (codes "parts") then choice.Decoded decoded.Parts
     else if bytes_eq segment (codes "doc") then choice.Head (head.Request request.Document)
     else if bytes_eq segment (codes "variant") then choice.Head (head.Request request.Variant)
     else choice.Head head.Other

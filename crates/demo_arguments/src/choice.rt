@@ -28,6 +28,7 @@ pub enum DecodedChoice {
     Either,
     Option,
     Result,
+    Parts,
 }
 
 /// Arguments that are there at once: what the parameters, the query and a header say, and the body
@@ -105,6 +106,8 @@ fn choice_named(segment: &[u8]) -> Choice
         Choice::Capped
     } else if is_named(segment, b"capped-json") {
         Choice::Decoded(DecodedChoice::CappedJson)
+    } else if is_named(segment, b"parts") {
+        Choice::Decoded(DecodedChoice::Parts)
     } else if is_named(segment, b"doc") {
         Choice::Head(HeadChoice::Request(RequestChoice::Document))
     } else if is_named(segment, b"variant") {

@@ -22,6 +22,7 @@ use Rattle.demo_app.specs.Items.{item_text, json_of_item, pairs_of_item}
 use Rattle.demo_app.specs.declared.item.Item.{Item}
 use Rattle.demo_handler.specs.DemoTexts.{accept_text, data_text, either_text, option_text}
 use Rattle.demo_handler.specs.DemoTexts.{lines_text, printed_cookies, result_text, who_text}
+use Rattle.demo_handler.specs.PartsTexts.{parts_text}
 use Rattle.demo_handler.specs.declared.answer.Answer.{Answer}
 use Rattle.demo_handler.specs.declared.answer.Answer.TheVariants as answer
 use Rattle.demo_picked.specs.declared.picked.Picked.{Picked}
@@ -112,6 +113,7 @@ demo_reply (picked.Raw body) = raw_reply body
 demo_reply (picked.Who info) = text_reply (who_text info)
 demo_reply (picked.Cookies said) = cookies_reply said
 demo_reply (picked.Lines lines) = text_reply (lines_text lines)
+demo_reply (picked.Parts parts) = text_reply (parts_text parts)
 demo_reply (picked.Document q) = demo_document_reply q
 demo_reply (picked.Variant q) = demo_variant_reply q
 demo_reply (picked.Both text late) = text_reply text

@@ -1,4 +1,5 @@
 pub mod DemoFunctions
 pub mod DemoReplies
 pub mod DemoTexts
+pub mod PartsTexts
 pub mod ServiceFunctions

@@ -72,6 +72,7 @@ fn output_of(
         Picked::Who(info) => text_answer(alloc, info),
         Picked::Cookies(arguments) => cookies_answer(alloc, arguments),
         Picked::Lines(lines) => text_answer(alloc, lines),
+        Picked::Parts(parts) => text_answer(alloc, parts),
         Picked::Document(arguments) => { document_answer(alloc, &mut handler.documents, arguments) }
         Picked::Variant(arguments) => variant_answer(alloc, &mut handler.variants, arguments),
         Picked::Both(text, _) => Ok(Answer::Text(text)),

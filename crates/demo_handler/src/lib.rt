@@ -6,6 +6,7 @@ mod answer;
 mod answering;
 mod handler;
 mod law;
+mod parts_text;
 mod texts;
 
 pub use answer::{Answer, DemoOutput};

@@ -58,6 +58,7 @@ use Rattle.demo_picked.specs.ItemArguments.{MeansPathItem, MeansQueryItem}
 use Rattle.demo_picked.specs.ItemArguments.{either_item_result, form_item_result}
 use Rattle.demo_picked.specs.ItemArguments.{form_item_rest, json_item_rest, json_item_result}
 use Rattle.demo_picked.specs.ItemArguments.{path_item_result, query_item_result}
+use Rattle.demo_picked.specs.PartsArgument.{MeansParts, parts_rest, parts_result}
 use Rattle.demo_picked.specs.PickedArguments.{MeansChoice, MeansDecoded, MeansHead, MeansPicked, MeansRead, MeansRequestAs}
 use Rattle.demo_picked.specs.PickedArguments.{choice_result, decoded_result, head_result, read_result, request_result}
 use Rattle.demo_picked.specs.PickedArguments.{picked_delay, picked_result}
@@ -139,6 +140,9 @@ cookies_seen q m left n y h = (h.0, h.1, cookies_value q y h.2)
 
 lines_seen : (q : DemoRequest) → SeenAlone (λ v. v) same_fault (MeansLines q) (lines_rest q) (lines_result q)
 lines_seen q m left n y h = (h.0, h.1, converted_same y ∙ h.2)
+
+parts_seen : (q : DemoRequest) → SeenAlone (λ v. v) same_fault (MeansParts q) (parts_rest q) (parts_result q)
+parts_seen q m left n y h = (h.0, h.1, converted_same y ∙ h.2)
 
 -- the header Accept
 
@@ -254,6 +258,7 @@ decoded_only decoded.Either q m rest = pick_listed (λ v. v) ByEither (λ v. pic
 decoded_only decoded.Option q m rest =
     chosen_only (λ v. (v.0, v.1)) (λ v. picked.Option v.0 v.1) (MeansOptional q) (λ m. body_rest q (json_item_rest q m)) (optional_result q) (optional_seen q) m rest
 decoded_only decoded.Result q m rest = pick (λ v. v) never_fault (λ v. picked.Result v) (MeansItemOrRefusal q) (json_item_rest q) (λ m. as_value (json_item_result q m)) (result_seen q) m rest
+decoded_only decoded.Parts q m rest = pick (λ v. v) same_fault (λ v. picked.Parts v) (MeansParts q) (parts_rest q) (parts_result q) (parts_seen q) m rest
 
 read_only : (c : ReadChoice) (q : DemoRequest) (m rest : List Mark)
     → GivesOnly (λ n x. MeansRead c q m rest n x) (read_result c q m).delay (read_result c q m).result

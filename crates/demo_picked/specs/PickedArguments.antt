@@ -28,6 +28,7 @@ use Rattle.demo_picked.specs.ItemArguments.{MeansJsonItem, json_item_result, jso
 use Rattle.demo_picked.specs.ItemArguments.{MeansPathItem, path_item_result, path_item_some}
 use Rattle.demo_picked.specs.ItemArguments.{MeansQueryItem, query_item_result, query_item_some}
 use Rattle.demo_picked.specs.ItemArguments.{capped_item_some, either_item_some}
+use Rattle.demo_picked.specs.PartsArgument.{MeansParts, parts_result, parts_some}
 use Rattle.demo_picked.specs.Picking.{By, ByEither, Picks, converted_by, converted_by_either}
 use Rattle.demo_picked.specs.Picking.{never_fault, parse_fault, picks_some, same_fault}
 use Rattle.demo_arguments.specs.Choices.{choice_of}
@@ -63,6 +64,8 @@ MeansDecoded decoded.Option q m rest n x =
     Picks (λ v. picked.Option v.0 v.1) (By same_fault) (MeansOptional q) m rest n x
 MeansDecoded decoded.Result q m rest n x =
     Picks (λ v. picked.Result v) (By never_fault) (MeansItemOrRefusal q) m rest n x
+MeansDecoded decoded.Parts q m rest n x =
+    Picks (λ v. picked.Parts v) (By same_fault) (MeansParts q) m rest n x
 
 decoded_some : (c : DecodedChoice) (q : DemoRequest) (m : List Mark)
     → AllowsSome (MeansDecoded c q m)
@@ -84,6 +87,9 @@ decoded_some decoded.Option q m =
 decoded_some decoded.Result q m =
     picks_some (λ v. picked.Result v) (By never_fault) (MeansItemOrRefusal q)
     (converted_by never_fault) m (item_or_refusal_some q m)
+decoded_some decoded.Parts q m =
+    picks_some (λ v. picked.Parts v) (By same_fault) (MeansParts q)
+    (converted_by same_fault) m (parts_some q m)
 
 -- what is picked, and after how many polls
 abbrev pub decoded_result : DecodedChoice → DemoRequest → List Mark → DelayedResult Picked
@@ -95,6 +101,7 @@ decoded_result decoded.Either q m = with_value (λ v. picked.Either v) (either_i
 decoded_result decoded.Option q m = with_value (λ v. picked.Option v.0 v.1) (optional_result q m)
 decoded_result decoded.Result q m =
     with_value (λ v. picked.Result v) (as_value (json_item_result q m))
+decoded_result decoded.Parts q m = with_value (λ v. picked.Parts v) (parts_result q m)
 
 -- the same of those that are read at once
 abbrev pub MeansRead : ReadChoice → DemoRequest → Meaning Picked

@@ -15,6 +15,7 @@ use std::alloc::Global;
 use web_body::{Marks, Payload, Poll, Step};
 use web_extract::EitherFuture::{Left, Right};
 use web_extract::{Capped, CappedFut, EitherFuture, MapInto, from_request_into};
+use web_multipart::{Multipart, MultipartExtractFut};
 use web_reply::Error;
 use web_request::{HttpRequest, NoMemory};
 use web_types::{Either, Form, Json, JsonExtractFut};
@@ -22,11 +23,15 @@ use web_types::{Either, Form, Json, JsonExtractFut};
 // Not a `FutureOf`: other crates do not read an impl with a constant behind its bound.
 type CappedItemFuture = MapInto<CappedFut<JsonExtractFut<Item, Demo>, 16>, Picked, Error>;
 
-type CappedOrForm = EitherFuture<CappedItemFuture, FutureOf<Form<Item>>>;
+type PartsFuture = MapInto<MultipartExtractFut<Marks, 65536>, Picked, Error>;
+
+type FormOrParts = EitherFuture<FutureOf<Form<Item>>, PartsFuture>;
+
+type CappedOrForm = EitherFuture<CappedItemFuture, FormOrParts>;
 
 type JsonOrForm = EitherFuture<FutureOf<Json<Item>>, CappedOrForm>;
 
-/// The future of an item of the body, in memory of its own.
+/// The future of an item of the body, or of its parts, in memory of its own.
 #[derive(Drop)]
 pub struct ItemFuture {
     future: BoxedFuture<JsonOrForm>,
@@ -208,7 +213,13 @@ pub(crate) fn decoded_future(
         }
         DecodedChoice::Form => {
             let future = begin::<Form<Item>>(alloc, req, payload)?;
-            Ok(Left(ItemFuture::new(alloc, Right(Right(future)))?))
+            Ok(Left(ItemFuture::new(alloc, Right(Right(Left(future))))?))
+        }
+        DecodedChoice::Parts => {
+            let future = from_request_into::<Demo, Multipart<65536>, Picked, Error>(
+                alloc, req, payload,
+            )?;
+            Ok(Left(ItemFuture::new(alloc, Right(Right(Right(future))))?))
         }
         DecodedChoice::Either => {
             let future = begin::<Either<Json<Item>, Form<Item>>>(alloc, req, payload)?;

@@ -21,6 +21,7 @@ use web_body::{Marks, Payload};
 use web_extract::EitherFuture::{Left, Right};
 use web_extract::{Capped, EitherFuture, FromRequest, Ready};
 use web_headers::Accept;
+use web_multipart::Multipart;
 use web_reply::Error;
 use web_request::{ConnectionInfo, HttpRequest, NoMemory};
 use web_texts::Text;
@@ -63,6 +64,8 @@ pub enum Picked {
     Cookies(CookieArguments),
     /// Of `/lines`: the lines of the body.
     Lines(AllLines),
+    /// Of `/parts`: the parts of the body, of at most 65,536 bytes each.
+    Parts(Multipart<65536>),
     /// Of `/doc`: the request, which asks for a document.
     Document(RequestArguments),
     /// Of `/variant`: the request, which asks for a variant.

@@ -10,6 +10,7 @@ use web_arguments::{Header, Path, Query};
 use web_body::{Marks, Payload};
 use web_extract::{Capped, IntoSome};
 use web_headers::Accept;
+use web_multipart::Multipart;
 use web_reply::Error;
 use web_request::{ConnectionInfo, Data, HttpRequest, ReqData};
 use web_texts::Text;
@@ -150,6 +151,23 @@ impl IntoPicked for AllLines {
     fn into_picked(self) -> Picked {
         Picked::Lines(self)
     }
+}
+
+impl From<Multipart<65536>> for Picked {
+    ghost use Rattle.demo_picked.specs.declared.picked.Picked.TheVariants as picked;
+
+    ghost from_gives = { λ parts x. x ≡ picked.Parts parts };
+
+    fn from(parts: Multipart<65536>) -> Picked {
+        Picked::Parts(parts)
+    }
+}
+
+impl IntoSome<Picked> for Multipart<65536> {
+    ghost use Rattle.web_extract.specs.ConvertedFutures.{converts_by};
+    ghost use Rattle.demo_picked.specs.declared.picked.Picked.TheVariants as picked;
+
+    ghost converted = { converts_by (λ parts. picked.Parts parts) };
 }
 
 impl IntoPicked for Path<Item> {

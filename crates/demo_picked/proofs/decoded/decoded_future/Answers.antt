@@ -45,3 +45,10 @@ returns-in_ok-new-in-Result-clause-extracts c =
     _ decoded.Result _ _ _ c.in-Result.is
     (extracts_within _ _ _ _ _ c.in_ok-new-in-Result.ensures.gives
     c.in_ok-future-in-Result.ensures.extracts)
+
+pub returns-in_ok-new-in-Parts-clause-extracts : goal.returns-in_ok-new-in-Parts-clause-extracts
+returns-in_ok-new-in-Parts-clause-extracts c =
+    extracts_chosen (λ d m rest n x. MeansDecoded d c.args.req.now.request m rest n x)
+    _ decoded.Parts _ _ _ c.in-Parts.is
+    (extracts_within _ _ _ _ _ c.in_ok-new-in-Parts.ensures.gives
+    c.in_ok-future-in-Parts.ensures.extracts)

@@ -1,0 +1,2 @@
+pub mod CollectionLemmas
+pub mod MultipartArgumentLemmas

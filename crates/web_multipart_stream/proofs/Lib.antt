@@ -1,0 +1,3 @@
+pub mod ScheduleLemmas
+pub mod TurnLemmas
+pub mod StreamLemmas
