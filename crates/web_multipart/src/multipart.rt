@@ -58,7 +58,7 @@ impl<const PART: usize> Multipart<PART> {
 
     /// The same, to keep.
     pub fn into_parts(self) -> Vec<Part>
-        ensures parts { result.items ≡ self }
+        ensures parts { result.items ≡ self.entry }
         ensures few { length result.items ≤ 64 }
     {
         let Multipart { parts } = self;

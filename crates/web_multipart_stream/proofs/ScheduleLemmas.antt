@@ -1,11 +1,11 @@
 -- What the steps of a reader, and the marks that are left, mean for what is due.
-use Rattle.std.proofs.Common.{◌≡◌, ◌<◌, ◌≤◌, ◌+◌, ◌-◌, ℕ, zero, suc, Bool, true, false, List, [], ◌∷◌, ◌++◌, refl, sym, ◌∙◌, ap, length, map, arith, append_assoc, length-append}
+use Rattle.std.proofs.Common.{◌≡◌, ◌<◌, ◌+◌, ◌-◌, ℕ, zero, suc, Bool, List, [], ◌∷◌, ◌++◌, refl, sym, ◌∙◌, ap, length, map, arith, append_assoc, length-append}
 use Rattle.std.specs.List.{AllByRecursion}
 use Rattle.web_request.specs.declared.source.Mark.{Mark}
 use Rattle.web_request.specs.declared.source.Mark.TheVariants.{Piece, Stall, Fault}
-use Rattle.web_request.specs.Body.{ends_in_fault, piece_bytes, stalls}
-use Rattle.web_parts.specs.Parts.{Closes, CutOff, Ending, Fails, Found, Parts, behind, later_ending, later_found, no_part, part_then}
-use Rattle.web_parts.specs.PartReading.{GivesEnd, GivesPart, GoesOn, IsLater, IsLaterEnding, IsLaterFound, Reader, Waits, parts_with}
+use Rattle.web_request.specs.Body.{ends_in_fault, piece_bytes}
+use Rattle.web_parts.specs.Parts.{Closes, CutOff, Ending, Fails, Found, Parts, behind, later_ending, later_found, part_then}
+use Rattle.web_parts.specs.PartReading.{GivesEnd, GivesPart, GoesOn, IsLaterEnding, IsLaterFound, Reader, Waits, parts_with}
 use Rattle.web_parts.specs.declared.part.Part.{Part}
 use Rattle.web_parts.specs.declared.part.PartError.{PartError}
 use Rattle.web_body.specs.declared.message_body.PayloadError.TheVariants.{Io}

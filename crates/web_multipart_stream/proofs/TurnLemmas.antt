@@ -1,5 +1,5 @@
 -- What the turns of a payload mean for the parts that are due.
-use Rattle.std.proofs.Common.{◌≡◌, ◌<◌, ◌≤◌, ◌+◌, ℕ, List, [], ◌∷◌, ◌++◌, Option, None, Some, refl, sym, ◌∙◌, ap, length, subst, arith, length-append}
+use Rattle.std.proofs.Common.{◌≡◌, ◌<◌, ◌≤◌, ◌+◌, ℕ, List, Option, None, Some, refl, sym, ◌∙◌, ap, length, subst, arith, length-append}
 use Rattle.std.specs.Prelude.{IfSome, option_map}
 use Rattle.web_texts.specs.Counts.{Rose}
 use Rattle.web_request.specs.declared.source.Mark.{Mark}
@@ -176,7 +176,7 @@ module _ {S : Type 0} (feed : S → Feed) (p : Payload S) (r : Reader) (first : 
           let same : wait_size new.form ≡ wait_size s.form = ap wait_size new_form in
           omega (arith, small, same, new_held)
 
-      still_fewer : parts_left new ≤ parts_left r
+      still_fewer : 0 + parts_left new ≤ parts_left r
       still_fewer = let two = on.fewer in omega (arith, new_fewer, two)
 
       pub takes_close : GivesEnd s Closes → NextPart feed p r first turn.Closed q new last
@@ -226,6 +226,9 @@ module _ {S : Type 0} (feed : S → Feed) (p : Payload S) (r : Reader) (first : 
       goes_fewer : parts_left new ≤ parts_left r
       goes_fewer = let one = goes.fewer in let two = on.fewer in omega (arith, one, two)
 
+      none_more : 0 + parts_left new ≤ parts_left r
+      none_more = let few = goes_fewer in omega (arith, few)
+
       module _ (t : Payload S) (n : ℕ) (gave : GivesBytes feed q n t) where
         keeps_then : (payload_feed feed q).faults ≤ (payload_feed feed t).faults → (payload_feed feed q).stalls ≤ (payload_feed feed t).stalls → KeepsPayload feed p t
         keeps_then f st = keeps_on feed p q t on.payload (keeps_turn feed q t n gave f st)
@@ -257,7 +260,7 @@ module _ {S : Type 0} (feed : S → Feed) (p : Payload S) (r : Reader) (first : 
             form = goes.form ∙ on.form;
             gives = sym goes_same ∙ turn_stall new waits (payload_feed feed q).marks (payload_feed feed t).marks g.takes;
             small = short_of last;
-            fewer = goes_fewer;
+            fewer = none_more;
             rose = rose_on (payload_feed feed p).stalls (payload_feed feed q).stalls (payload_feed feed t).stalls on.stalls g.rose;
             failed = tt;
             last = stall_taken _ _ _ _ _ on.taken g.takes;
@@ -269,7 +272,7 @@ module _ {S : Type 0} (feed : S → Feed) (p : Payload S) (r : Reader) (first : 
         form = goes.form ∙ on.form;
         gives = subst (λ (o : Option Schedule). IfSome o (λ x. x ≡ ended (Failed (multipart.Payload Io)))) goes_same (turn_fault new waits (payload_feed feed q).marks (payload_feed feed t).marks g.takes);
         small = short_of last;
-        fewer = goes_fewer;
+        fewer = none_more;
         rose = tt;
         failed = subst (λ (n : ℕ). Rose n (payload_feed feed t).faults) on.faults g.rose;
         last = fault_taken _ _ _ _ _ on.taken g.takes;
@@ -283,7 +286,7 @@ module _ {S : Type 0} (feed : S → Feed) (p : Payload S) (r : Reader) (first : 
             form = goes.form ∙ on.form;
             gives = subst (λ (o : Option Schedule). IfSome o (λ x. x ≡ ended (Failed multipart.Grammar))) goes_same (turn_end new waits (payload_feed feed q).marks (payload_feed feed t).marks g.left);
             small = short_of last;
-            fewer = goes_fewer;
+            fewer = none_more;
             rose = tt;
             failed = tt;
             last = none_more_taken _ _ _ _ _ on.taken g.left;
@@ -297,7 +300,7 @@ module _ {S : Type 0} (feed : S → Feed) (p : Payload S) (r : Reader) (first : 
             form = goes.form ∙ on.form;
             gives = tt;
             small = short_of last;
-            fewer = goes_fewer;
+            fewer = none_more;
             rose = tt;
             failed = tt;
             last = untold_taken _ _ _ _ _ on.taken g.untold g.marks;
@@ -313,7 +316,7 @@ module _ {S : Type 0} (feed : S → Feed) (p : Payload S) (r : Reader) (first : 
             form = goes.form ∙ on.form;
             gives = tt;
             small = short_of (length piece);
-            fewer = goes_fewer;
+            fewer = none_more;
             rose = tt;
             failed = tt;
             last = piece_taken _ _ _ _ _ piece on.taken g.takes;

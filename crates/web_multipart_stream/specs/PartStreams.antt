@@ -81,5 +81,6 @@ pub record ReadsPart {S : Type 0} (feed : S → Feed) (old : StreamView S)
   pub fault : OnFault s
       (Rose (payload_feed feed old.payload).faults (payload_feed feed new.payload).faults)
   pub fewer : parts_given s + parts_left new.reader ≤ parts_left old.reader
+  pub within : length new.reader.came < wait_size new.reader.form + new.last
   pub last : LastTaken
       (payload_feed feed old.payload).marks old.last (payload_feed feed new.payload).marks new.last

@@ -3,7 +3,6 @@ use Rattle.std.specs.Prelude.{◌≡◌, ℕ, List, [], ◌∷◌, map}
 use Rattle.web_request.specs.declared.source.Mark.{Mark}
 use Rattle.web_request.specs.declared.source.Mark.TheVariants.{Piece, Stall, Fault}
 use Rattle.web_body.specs.declared.message_body.PayloadError.TheVariants.{Io}
-use Rattle.web_body.specs.Cuttings.{SameBody}
 use Rattle.web_parts.specs.Parts.{Closes, Fails}
 use Rattle.web_parts.specs.PartReading.{GivesEnd, GivesPart, GoesOn, Reader, Waits}
 use Rattle.web_parts.specs.declared.part.Part.{Part}

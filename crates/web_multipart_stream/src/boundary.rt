@@ -1,5 +1,6 @@
 //! The boundary that a head names.
 ghost use Rattle.std.specs.Prelude.{◌≡◌};
+ghost use Rattle.std.specs.List.{list_all};
 ghost use Rattle.std.specs.Option.{option_map};
 ghost use Rattle.web_multipart_stream.specs.FormBoundaries.{boundary_in, is_boundary};
 ghost use Rattle.web_multipart_stream.specs.FormBoundaries.{is_boundary_byte};
@@ -29,12 +30,16 @@ pub fn boundary_in(media_type: &Mime) -> Option<&str>
 fn is_boundary(bytes: &[u8]) -> bool
     ensures { result ≡ is_boundary bytes.now }
 {
-    match bytes.last() {
-        Some(last) => {
-            *last != b' ' && bytes.len() <= LONGEST && bytes.iter().all(|b| is_boundary_byte(*b))
-        }
-        None => false,
+    if bytes.is_empty() || bytes.len() > LONGEST {
+        return false;
     }
+    are_boundary_bytes(bytes) && bytes[bytes.len() - 1] != b' '
+}
+
+fn are_boundary_bytes(bytes: &[u8]) -> bool
+    ensures { result ≡ list_all is_boundary_byte bytes.now }
+{
+    bytes.iter().all(|b| is_boundary_byte(*b))
 }
 
 /// Printable ASCII, or a space.

@@ -153,6 +153,23 @@ impl<S: Source> MultipartStream<S> {
             ≡ Some (body_schedule req.now.request.head.headers part_limit m))) }
         ensures err { OnErr result (payload.new ≡ payload.old) }
     {
+        MultipartStream::of_request(alloc, req, payload, part_limit)
+    }
+
+    /// The same, by what the head says.
+    fn of_request<A: App<Source = S>>(
+        alloc: Global,
+        req: &HttpRequest<A>,
+        payload: &mut Payload<S>,
+        limit: usize,
+    ) -> Result<MultipartStream<S>, NoMemory>
+        requires { limit ≤ 2 ^ 62 }
+        ensures value { IfOk result (λ stream. stream
+            ≡ new_stream req.now.request.head.headers limit payload.old) }
+        ensures taken { OnOk result (payload.new
+            ≡ left_by (boundary_of req.now.request.head.headers) payload.old) }
+        ensures err { OnErr result (payload.new ≡ payload.old) }
+    {
         let media_type = media_type(alloc, req)?;
         let boundary = match &media_type {
             Some(media_type) => boundary_in(media_type),
@@ -163,7 +180,7 @@ impl<S: Source> MultipartStream<S> {
             boundary,
             is_coded(&req.head().headers),
             payload,
-            part_limit,
+            limit,
         )
     }
 

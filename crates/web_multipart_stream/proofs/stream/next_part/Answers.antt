@@ -54,3 +54,9 @@ turns-preserved-in-Ok g c =
     takes_piece g.S.Source.feed c.args.payload.now c.args.reader.now c.args.last.now c.turns.payload c.turns.reader c.turns.last c.turns.invariant
     c.next.new.self c.in-More.ensures.gives.0 c.in-More.ensures.gives.1 c.in-Piece.piece c.poll_next.new.self c.in-Piece.ensures.next c.in-Piece.ensures.gave
     c.feed.new.self (rw c.as_slice.ensures at c.in-Ok.ensures.ok) c.len.result c.len.ensures.value
+
+pub turns-preserved : goal.turns-preserved
+turns-preserved g c =
+    takes_piece g.S.Source.feed c.args.payload.now c.args.reader.now c.args.last.now c.turns.payload c.turns.reader c.turns.last c.turns.invariant
+    c.next.new.self c.in-More.ensures.gives.0 c.in-More.ensures.gives.1 c.in-Piece.piece c.poll_next.new.self c.in-Piece.ensures.next c.in-Piece.ensures.gave
+    c.feed.new.self (rw c.as_slice.ensures at c.in-Ok.ensures.ok) c.len.result c.len.ensures.value
