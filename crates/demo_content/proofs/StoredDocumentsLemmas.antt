@@ -1,5 +1,5 @@
 -- Nothing is wrong with the documents of `/doc`.
-use Rattle.std.proofs.Common.{◌≡◌, ℕ, List, [], ◌∷◌, ◌++◌, Option, None, Some, refl, sym, ap, ◌∙◌, subst}
+use Rattle.std.proofs.Common.{◌≡◌, List, [], ◌∷◌, ◌++◌, None, Some, refl, subst}
 use Rattle.web_docs.specs.Stores.{IsFirstFault, fault_behind}
 use Rattle.web_docs.specs.declared.document.Document.{Document}
 use Rattle.web_docs.specs.declared.document.StoreFault.{StoreFault}

@@ -1,3 +1,2 @@
-pub mod KeptContent
 pub mod StoredDocuments
 pub mod StoredVariants

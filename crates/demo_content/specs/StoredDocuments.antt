@@ -1,13 +1,13 @@
 -- The documents of `/doc`.
-use Rattle.std.specs.Prelude.{ℕ, ◌≤◌, ◌<◌, true, false, List, [], ◌∷◌, codes, refl}
-use Rattle.std.specs.Prelude.{Option, None}
+use Rattle.std.specs.Prelude.{◌≡◌, true, false, List, [], ◌∷◌, codes, refl}
+use Rattle.std.specs.Prelude.{Option, None, IfSome}
 use Rattle.std.specs.FinMap.{get}
 use Rattle.std.proofs.Common.{arith}
 use Rattle.httpdate.specs.Calendar.{days_of_months, days_of_years}
 use Rattle.httpdate.specs.declared.date.HttpDate.{HttpDate}
 use Rattle.web_texts.specs.MediaTypes.{MediaType}
 use Rattle.web_request.specs.Head.{Head, head_path}
-use Rattle.web_docs.specs.Stores.{store_of}
+use Rattle.web_docs.specs.Stores.{Documents, store_of}
 use Rattle.web_docs.specs.declared.document.Document.{Document}
 
 -- `text/plain`
@@ -47,6 +47,10 @@ empty_document = record {
 
 abbrev pub demo_documents : List Document
 demo_documents = digits_document ∷ empty_document ∷ []
+
+-- A store, where one was made, has these documents.
+abbrev pub IsKeptStore : Option Documents → Type 0
+IsKeptStore kept = IfSome kept (λ store. store ≡ store_of demo_documents)
 
 -- the document of a request's path
 abbrev pub found_document : Head → Option Document

@@ -1,5 +1,5 @@
 -- The variants of `/variant`.
-use Rattle.std.specs.Prelude.{ℕ, List, [], ◌∷◌, codes, Option, None, Some}
+use Rattle.std.specs.Prelude.{◌≡◌, ℕ, List, [], ◌∷◌, codes, Option, None, Some, IfSome}
 use Rattle.web_texts.specs.MediaTypes.{MediaType}
 use Rattle.web_headers.specs.declared.codings.ContentEncoding.TheVariants as coding
 use Rattle.web_headers.specs.declared.codings.Encoding.{Encoding}
@@ -34,3 +34,7 @@ abbrev pub demo_variants : List Variant
 demo_variants =
     page (codes "en") identity (codes "hello") ∷ page (codes "de") identity (codes "hallo")
     ∷ object ∷ page (codes "en") gzip (31 ∷ 139 ∷ []) ∷ []
+
+-- Variants, where they were stored, are these.
+abbrev pub AreKeptVariants : Option (List Variant) → Type 0
+AreKeptVariants kept = IfSome kept (λ stored. stored ≡ demo_variants)

@@ -1,9 +1,10 @@
 //! The documents of `/doc`.
-ghost use Rattle.std.specs.Prelude.{◌≡◌, IfOk};
+ghost use Rattle.std.specs.Prelude.{◌≡◌, IfOk, OnOk};
 ghost use Rattle.web_docs.specs.DocumentFunctions.{document_reply};
 ghost use Rattle.web_docs.specs.Stores.{store_of};
 ghost use Rattle.demo_content.specs.StoredDocuments.{demo_date, demo_documents, empty_document};
-ghost use Rattle.demo_content.specs.StoredDocuments.{digits_document, found_document, plain_text};
+ghost use Rattle.demo_content.specs.StoredDocuments.{IsKeptStore, digits_document, found_document};
+ghost use Rattle.demo_content.specs.StoredDocuments.{plain_text};
 
 use crate::media_types::media_type;
 use bytes::Bytes;
@@ -26,20 +27,21 @@ pub struct DemoDocuments {
 }
 
 impl Model for DemoDocuments {
-    ghost use Rattle.std.specs.Prelude.{⊤, tt};
-    ghost use Rattle.demo_content.specs.KeptContent.{KeepsDocuments};
+    ghost use Rattle.std.specs.Prelude.{⊤};
+    ghost use Rattle.demo_content.specs.StoredDocuments.{IsKeptStore};
 
     ghost Value = { ⊤ };
 
     ghost view = { λ _. tt };
 
-    ghost invariant = { KeepsDocuments };
+    ghost invariant = { λ d. IsKeptStore d.store };
 }
 
 fn plain_text(alloc: Global) -> Result<Mime, NoMemory>
     ensures { IfOk result (λ made. made ≡ plain_text) }
 {
-    media_type(alloc, "text/plain")
+    let made = media_type(alloc, "text/plain")?;
+    Ok(made)
 }
 
 fn last_change() -> HttpDate
@@ -97,6 +99,18 @@ fn make_store(alloc: Global) -> Result<Store, NoMemory>
     }
 }
 
+/// Stores the documents where none is stored.
+fn keep_store(alloc: Global, kept: &mut Option<Store>) -> Result<(), NoMemory>
+    requires { IsKeptStore kept.old }
+    ensures kept { IsKeptStore kept.new }
+    ensures stored { OnOk result (kept.new ≡ Some (store_of demo_documents)) }
+{
+    if kept.is_none() {
+        *kept = Some(make_store(alloc)?);
+    }
+    Ok(())
+}
+
 impl DemoDocuments {
     /// No document is stored yet.
     pub const fn new() -> DemoDocuments {
@@ -112,12 +126,11 @@ impl DemoDocuments {
         ensures { IfOk result (λ reply. reply
             ≡ document_reply (found_document req.now.request.head) req.now.request.head) }
     {
-        if self.store.is_none() {
-            self.store = Some(make_store(alloc)?);
-        }
-        match &self.store {
-            Some(store) => answer_document(alloc, store, req),
-            None => unreachable!(),
-        }
+        keep_store(alloc, &mut self.store)?;
+        let Some(store) = &self.store else {
+            unreachable!()
+        };
+        let reply = answer_document(alloc, store, req)?;
+        Ok(reply)
     }
 }

@@ -1,7 +1,8 @@
 //! The variants of `/variant`.
-ghost use Rattle.std.specs.Prelude.{◌≡◌, IfOk, codes};
+ghost use Rattle.std.specs.Prelude.{◌≡◌, IfOk, OnOk, codes};
 ghost use Rattle.web_variants.specs.VariantReplies.{variant_reply};
-ghost use Rattle.demo_content.specs.StoredVariants.{demo_variants, html, json, object, page};
+ghost use Rattle.demo_content.specs.StoredVariants.{AreKeptVariants, demo_variants, html};
+ghost use Rattle.demo_content.specs.StoredVariants.{json, object, page};
 
 use crate::media_types::media_type;
 use bytes::Bytes;
@@ -20,26 +21,28 @@ pub struct DemoVariants {
 }
 
 impl Model for DemoVariants {
-    ghost use Rattle.std.specs.Prelude.{⊤, tt};
-    ghost use Rattle.demo_content.specs.KeptContent.{KeepsVariants};
+    ghost use Rattle.std.specs.Prelude.{⊤};
+    ghost use Rattle.demo_content.specs.StoredVariants.{AreKeptVariants};
 
     ghost Value = { ⊤ };
 
     ghost view = { λ _. tt };
 
-    ghost invariant = { KeepsVariants };
+    ghost invariant = { λ v. AreKeptVariants v.variants };
 }
 
 fn html(alloc: Global) -> Result<Mime, NoMemory>
     ensures { IfOk result (λ made. made ≡ html) }
 {
-    media_type(alloc, "text/html")
+    let made = media_type(alloc, "text/html")?;
+    Ok(made)
 }
 
 fn json(alloc: Global) -> Result<Mime, NoMemory>
     ensures { IfOk result (λ made. made ≡ json) }
 {
-    media_type(alloc, "application/json")
+    let made = media_type(alloc, "application/json")?;
+    Ok(made)
 }
 
 fn english(alloc: Global) -> Result<LanguageTag, NoMemory>
@@ -113,6 +116,18 @@ fn make_variants(alloc: Global) -> Result<Variants, NoMemory>
     }
 }
 
+/// Stores the variants where none are stored.
+fn keep_variants(alloc: Global, kept: &mut Option<Variants>) -> Result<(), NoMemory>
+    requires { AreKeptVariants kept.old }
+    ensures kept { AreKeptVariants kept.new }
+    ensures stored { OnOk result (kept.new ≡ Some demo_variants) }
+{
+    if kept.is_none() {
+        *kept = Some(make_variants(alloc)?);
+    }
+    Ok(())
+}
+
 impl DemoVariants {
     /// No variant is stored yet.
     pub const fn new() -> DemoVariants {
@@ -128,12 +143,11 @@ impl DemoVariants {
         ensures { IfOk result (λ reply.
             reply ≡ variant_reply req.now.request.head.headers demo_variants) }
     {
-        if self.variants.is_none() {
-            self.variants = Some(make_variants(alloc)?);
-        }
-        match &self.variants {
-            Some(variants) => answer_variant(alloc, variants, req),
-            None => unreachable!(),
-        }
+        keep_variants(alloc, &mut self.variants)?;
+        let Some(variants) = &self.variants else {
+            unreachable!()
+        };
+        let reply = answer_variant(alloc, variants, req)?;
+        Ok(reply)
     }
 }

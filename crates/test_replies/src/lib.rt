@@ -1,5 +1,5 @@
 //! Tests of replies: responses and their bodies, errors with their causes, what values respond,
-//! builders, redirects and pages, cookies of responses, and the names of statuses.
+//! builders, redirects and pages, cookies of responses, documents, and the names of statuses.
 //!
 //! Values stand in tables beside what is expected of them, which is written by hand. A reply is
 //! compared by its text, which says all of it.
@@ -19,6 +19,8 @@ mod causes;
 mod compare;
 #[cfg(test)]
 mod customized;
+#[cfg(test)]
+mod documents;
 #[cfg(test)]
 mod errors;
 #[cfg(test)]

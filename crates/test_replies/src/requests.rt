@@ -1,6 +1,6 @@
 //! A request of the tests' application.
 use http::{Method, Version};
-use http_header::HeaderMap;
+use http_header::{HeaderMap, HeaderValue};
 use http_uri::Uri;
 use std::alloc::Global;
 use std::process::Abort;
@@ -27,18 +27,29 @@ fn pool(rt: &impl Abort, alloc: Global) -> HttpRequestPool<Site> {
     HttpRequestPool::with_capacity(alloc, root, config, 0).expect(rt, "memory")
 }
 
-/// A request for this target, of a pool of its own.
+/// A GET for this target, of a pool of its own.
 pub(crate) fn new_request(
     rt: &impl Abort,
     alloc: Global,
     target: &'static str,
 ) -> HttpRequest<Site> {
+    request_with(rt, alloc, Method::GET, target, HeaderMap::new(alloc))
+}
+
+/// A request of this method, target and headers, of a pool of its own.
+pub(crate) fn request_with(
+    rt: &impl Abort,
+    alloc: Global,
+    method: Method,
+    target: &'static str,
+    headers: HeaderMap<HeaderValue>,
+) -> HttpRequest<Site> {
     let parts = RequestParts {
         head: RequestHead {
             uri: Uri::from_static(target).expect(rt, "a target"),
-            method: Method::GET,
+            method,
             version: Version::HTTP_11,
-            headers: HeaderMap::new(alloc),
+            headers,
             peer_addr: None,
         },
         params: Vec::new(alloc),

@@ -1,5 +1,5 @@
 //! Rows of texts: what calls of `web_texts`, `web_headers`, `web_entities`, `web_negotiate`,
-//! `web_cookies` and `web_connection` give for texts.
+//! `web_cookies`, `web_connection` and `web_docs` give for texts.
 //!
 //! Standard input has a row a line, `CALL | FIELD | .. | WANTED`, which is written by hand; a line
 //! that is empty or begins with `#` is none. Each row whose call gives something else is printed
@@ -11,6 +11,7 @@ mod choices;
 mod compressing_proxy;
 mod cookies;
 mod dispositions;
+mod documents;
 mod entities;
 mod file_service;
 mod headers;

@@ -6,6 +6,9 @@ use web_texts::NoMemory;
 /// Stands for the byte FF, which is in no text.
 const NO_TEXT: char = '\u{fffd}';
 
+/// What stands between the name and the value of a header field.
+pub(crate) const BETWEEN: &str = ": ";
+
 /// The map that has these values under one name, or `None` where one of them may stand in no head.
 pub(crate) fn map_of(
     alloc: Global,
@@ -19,6 +22,45 @@ pub(crate) fn map_of(
         }
     }
     Ok(Some(map))
+}
+
+/// The head with these fields, or `None` where one of them is no header field.
+pub(crate) fn headers_of(
+    alloc: Global,
+    fields: &[&str],
+) -> Result<Option<HeaderMap<HeaderValue>>, NoMemory> {
+    let mut headers = HeaderMap::new(alloc);
+    for field in fields {
+        if !is_field_appended(alloc, &mut headers, field)? {
+            return Ok(None);
+        }
+    }
+    Ok(Some(headers))
+}
+
+/// Appends a field, `NAME: VALUE`, and gives whether it is one.
+fn is_field_appended(
+    alloc: Global,
+    headers: &mut HeaderMap<HeaderValue>,
+    field: &str,
+) -> Result<bool, NoMemory> {
+    match field.split_once(BETWEEN) {
+        Some((name, value)) => is_named_appended(alloc, headers, name, value),
+        None => Ok(false),
+    }
+}
+
+/// Appends a value under a name, and gives whether they are a header field.
+pub(crate) fn is_named_appended(
+    alloc: Global,
+    headers: &mut HeaderMap<HeaderValue>,
+    name: &str,
+    value: &str,
+) -> Result<bool, NoMemory> {
+    match HeaderName::from_bytes(alloc, name.as_bytes()) {
+        Ok(name) => is_appended(alloc, headers, &name, value),
+        Err(_) => Ok(false),
+    }
 }
 
 /// Appends a value, and gives whether it may stand in a head.

@@ -1,8 +1,8 @@
 //! Rows: a call, what it is called with, and what it has to give.
 use crate::answers::{Answer, text};
 use crate::{
-    choices, compressing_proxy, cookies, dispositions, entities, file_service, headers, items,
-    languages, made_headers, media_types, origins, texts,
+    choices, compressing_proxy, cookies, dispositions, documents, entities, file_service, headers,
+    items, languages, made_headers, media_types, origins, texts,
 };
 use std::alloc::Global;
 use web_texts::NoMemory;
@@ -82,6 +82,7 @@ fn answer_in_small_group(alloc: Global, group: &str, name: &str, fields: &[&str]
         "language" => languages::answer(alloc, name, fields),
         "disposition" => dispositions::answer(alloc, name, fields),
         "choice" => choices::answer(alloc, name, fields),
+        "document" => documents::answer(alloc, name, fields),
         "cookie" => cookies::answer(alloc, name, fields),
         "origin" => origins::answer(alloc, name, fields),
         "service" => file_service::answer(alloc, name, fields),

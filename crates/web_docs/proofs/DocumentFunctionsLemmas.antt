@@ -1,14 +1,12 @@
 -- One reply alone is that of a document.
-use Rattle.std.proofs.Common.{◌≡◌, ℕ, ◌+◌, List, length, drop, take, Option, None, Some, refl, sym, ap, ◌∙◌, subst}
+use Rattle.std.proofs.Common.{◌≡◌, ℕ, length, Option, None, Some, ap, ◌∙◌}
 use Rattle.web_entities.specs.declared.ranges.ByteRangeSpec.{ByteRangeSpec}
 use Rattle.web_negotiate.specs.SelectedPositions.{AreEnds, Selects}
-use Rattle.web_request.specs.Head.{Head}
 use Rattle.web_reply.specs.Replies.{Reply}
 use Rattle.web_reply.specs.declared.body.WholeBody.{WholeBody}
-use Rattle.web_docs.specs.DocumentFunctions.{OneDocumentReply, document_reply, part_reply, reply_to}
-use Rattle.web_docs.specs.DocumentReplies.{Answers, IsDocumentReply, RepliesTo, SendsPart, for_method, partial_reply}
+use Rattle.web_docs.specs.DocumentFunctions.{OneDocumentReply, part_reply, reply_to}
+use Rattle.web_docs.specs.DocumentReplies.{RepliesTo, SendsPart, for_method, partial_reply}
 use Rattle.web_docs.specs.SelectedEnds.{selected_ends}
-use Rattle.web_docs.specs.SentPositions.{AreBytesAt}
 use Rattle.web_docs.specs.Verdicts.{verdict_of}
 use Rattle.web_docs.specs.declared.document.Document.{Document}
 use Rattle.web_docs.specs.declared.verdict.Verdict.{Verdict}

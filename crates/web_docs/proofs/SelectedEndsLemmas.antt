@@ -1,5 +1,5 @@
 -- The first and the last position that a byte range selects are its ends, and no others are.
-use Rattle.std.proofs.Common.{◌≡◌, ◌<◌, ◌≤◌, ℕ, ◌+◌, ◌-◌, ◌&&◌, Bool, true, false, nat_le, nat_lt, Option, None, Some, refl, sym, ap, if◌then◌else◌, arith}
+use Rattle.std.proofs.Common.{◌≡◌, ℕ, ◌-◌, ◌&&◌, Bool, true, false, nat_le, nat_lt, Option, None, Some, refl, ap, if◌then◌else◌, arith}
 use Rattle.web_entities.specs.declared.ranges.ByteRangeSpec.{ByteRangeSpec}
 use Rattle.web_entities.specs.declared.ranges.ByteRangeSpec.TheVariants as spec
 use Rattle.web_negotiate.specs.SelectedPositions.{AreEnds, Selects}

@@ -1,5 +1,5 @@
 -- The reply to a request for a document, as a function of both.
-use Rattle.std.specs.Prelude.{◌≡◌, ℕ, ◌+◌, List, codes, length, drop, take}
+use Rattle.std.specs.Prelude.{◌≡◌, ℕ, ◌+◌, codes, length, drop, take}
 use Rattle.std.specs.Prelude.{◌∷◌, [], Option, None, Some}
 use Rattle.http_header.specs.FieldValue.{plain_value}
 use Rattle.web_request.specs.Head.{Head}

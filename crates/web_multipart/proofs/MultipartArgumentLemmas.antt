@@ -1,5 +1,5 @@
 -- What the stream of a request's body means for the argument.
-use Rattle.std.proofs.Common.{◌≡◌, ◌⊎◌, inl, inr, ℕ, Bool, true, false, ◌≤◌, List, [], Option, None, Some, refl, sym, ◌∙◌, ap, arith}
+use Rattle.std.proofs.Common.{◌≡◌, ◌⊎◌, inl, inr, ℕ, Bool, true, false, ◌≤◌, List, [], Option, None, Some, refl, arith}
 use Rattle.std.specs.Prelude.{IfSome, option_map}
 use Rattle.http_header.specs.FieldValue.{FieldValue}
 use Rattle.http_header.specs.HeaderMap.{Entries}
@@ -36,11 +36,11 @@ extracts_by limit headers None new s left due = tt
 extracts_by limit headers (Some m) new s left due =
     (multipart_rest limit headers m, left, λ n x h. let a = rw due at h in (refl, a.0, a.1))
 
-pub extracts_parts : {S : Type 0} (feed : S → Feed) (limit : ℕ) (headers : Entries FieldValue) (old new : Payload S) (s : Option Schedule)
+pub extracts_parts : {S : Type 0} (feed : S → Feed) (asked limit : ℕ) → limit ≡ asked → (headers : Entries FieldValue) (old new : Payload S) (s : Option Schedule)
     → new ≡ left_by (boundary_of headers) old → IfSome (payload_feed feed old).marks (λ m. s ≡ Some (body_schedule headers limit m))
-    → Extracts (λ m rest n x. MeansMultipart limit headers m rest n x) (λ n x. AllowsParts (option_map (collection []) s) n x) (payload_feed feed old).marks (payload_feed feed new).marks
-extracts_parts feed limit headers old new s is due =
-    rw is (extracts_by limit headers (payload_feed feed old).marks (payload_feed feed (left_by (boundary_of headers) old)).marks s (marks_by feed (boundary_of headers) old) due)
+    → Extracts (λ m rest n x. MeansMultipart asked headers m rest n x) (λ n x. AllowsParts (option_map (collection []) s) n x) (payload_feed feed old).marks (payload_feed feed new).marks
+extracts_parts feed asked limit same headers old new s is due =
+    rw (is, ← same) (extracts_by limit headers (payload_feed feed old).marks (payload_feed feed (left_by (boundary_of headers) old)).marks s (marks_by feed (boundary_of headers) old) due)
 
 pub left_or_taken : {S : Type 0} (boundary : Option (List ℕ)) (old new : Payload S) → new ≡ left_by boundary old → (new ≡ old) ⊎ (new ≡ kind.None)
 left_or_taken None old new is = inl is

@@ -1,8 +1,8 @@
 -- The first of the greatest by its place, and as a function of the list.
-use Rattle.std.proofs.Common.{◌≡◌, ◌<◌, ◌≤◌, ℕ, zero, suc, Bool, true, false, List, [], ◌∷◌, length, get_or, cond, Option, None, Some, refl, sym, arith, ap, ◌∙◌}
+use Rattle.std.proofs.Common.{◌≡◌, ◌<◌, ◌≤◌, ℕ, zero, suc, Bool, true, false, List, [], ◌∷◌, length, get_or, cond, Option, None, Some, refl, sym, arith, ◌∙◌}
 use Rattle.std.specs.Prelude.{⊤, nat_lt}
 use Rattle.std.proofs.lemmas.Bool.{cond-true, cond-false, lt-ltb, le-ltb}
-use Rattle.web_negotiate.specs.Rankings.{IsFirst, IsFirstGreatest, IsGreatest}
+use Rattle.web_negotiate.specs.Rankings.{IsFirst, IsFirstGreatest}
 use Rattle.web_variants.specs.FirstGreatest.{first_greatest, or_greater}
 
 module _ {X : Type 0} (rank : X → ℕ) where

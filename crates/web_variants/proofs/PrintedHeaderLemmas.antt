@@ -1,5 +1,5 @@
 -- The headers of a variant, put one by one.
-use Rattle.std.proofs.Common.{◌≡◌, ℕ, Bool, true, false, List, [], ◌∷◌, Option, None, Some, IfSome, refl, sym, ap, ◌∙◌}
+use Rattle.std.proofs.Common.{◌≡◌, ℕ, Bool, true, false, List, [], Option, None, Some, IfSome, refl, ap, ◌∙◌}
 use Rattle.std.specs.Prelude.{◌++◌, ◌&&◌, codes, Ok, Err}
 use Rattle.std.proofs.lemmas.Bool.{false≢true}
 use Rattle.http_header.specs.FieldValue.{FieldValue, IsFieldValue, plain_value}
@@ -21,10 +21,10 @@ use Rattle.web_variants.specs.declared.stored_variants.Variant.{Variant}
 
 -- the value of what is printed, if it is
 
-pub value_fits : {E : Type 0} (printed : Option (List ℕ)) (value : FieldValue) → IfSome printed (λ text. value ≡ plain_value text) → IsFieldValue value.bytes
+pub value_fits : (E : Type 0) (printed : Option (List ℕ)) (value : FieldValue) → IfSome printed (λ text. value ≡ plain_value text) → IsFieldValue value.bytes
     → IfSome printed (λ text. OkWhere {E = E} (is_field_value text) (λ v. v ≡ plain_value text) (Ok value))
-value_fits None value is fits = tt
-value_fits (Some text) value is fits = ((value_decides text).1 (rw is at fits), is)
+value_fits E None value is fits = tt
+value_fits E (Some text) value is fits = ((value_decides text).1 (rw is at fits), is)
 
 pub value_fails : {E : Type 0} (printed : Option (List ℕ)) (error : Fail E) → IfSome printed (λ text. GivesValue (plain_value text) (Err error))
     → IfSome printed (λ text. OkWhere {T = FieldValue} (is_field_value text) (λ v. v ≡ plain_value text) (Err error))

@@ -1,7 +1,10 @@
 -- The headers of variants, up to the first that is refused.
-use Rattle.std.proofs.Common.{◌≡◌, ◌<◌, ℕ, ◌+◌, List, [], ◌∷◌, ◌++◌, map, length, get_or, Option, None, Some, refl, sym, ap, ◌∙◌}
+use Rattle.std.proofs.Common.{◌≡◌, ◌<◌, ℕ, ◌+◌, List, [], ◌∷◌, ◌++◌, map, length, get_or, Option, None, Some, refl, sym, ap, subst, ◌∙◌}
 use Rattle.std.specs.Prelude.{Ok, Err}
 use Rattle.std.proofs.lemmas.List.{append_assoc, append-nil, get_or-map, length_push}
+use Rattle.web_texts.specs.Returns.{ReturnsError}
+use Rattle.web_texts.specs.declared.memory.Fail.{Fail}
+use Rattle.web_texts.specs.declared.memory.Fail.TheVariants as fail
 use Rattle.web_variants.specs.Acceptance.{Headers}
 use Rattle.web_variants.specs.StoredVariants.{fault_at, first_fault, or_fault, refusal, unless_refused, variant_headers}
 use Rattle.web_variants.specs.declared.stored_variants.Variant.{Variant}
@@ -39,6 +42,21 @@ module _ (stored : List Variant) (all : List Headers) (v : Variant) (later : Lis
   so_far_refused fault is =
       let first = refused (variant_headers v) (fault_at (length all) v) fault is in
       ap (unless_refused (map variant_headers stored)) (sym so.fault ∙ ap (λ f. or_fault f (first_fault (length all + 1) later)) first)
+
+-- the same, where the headers of the next variant were asked for at its place
+module _ (stored : List Variant) (all : List Headers) (rest : List Variant) (v : Variant) (later : List Variant) (split : rest ≡ v ∷ later) (so : HeadersSoFar stored all rest) (place : ℕ) (is : place ≡ length all) where
+  next_so_far : HeadersSoFar stored all (v ∷ later)
+  next_so_far = subst (HeadersSoFar stored all) split so
+
+  pub one_more : (h : Headers) (more : List Headers) → unless_refused (variant_headers v) (fault_at place v) ≡ Ok h → more ≡ all ++ h ∷ [] → HeadersSoFar stored more later
+  one_more h more gives pushed =
+      subst (λ l. HeadersSoFar stored l later) (sym pushed)
+      (so_far_more stored all v later next_so_far h (subst (λ n. unless_refused (variant_headers v) (fault_at n v) ≡ Ok h) is gives))
+
+  pub one_refused : (e : Fail VariantFault) → ReturnsError e (unless_refused (variant_headers v) (fault_at place v)) → ReturnsError e (unless_refused (map variant_headers stored) (first_fault 0 stored))
+  one_refused fail.NoMemory returns = tt
+  one_refused (fail.Of fault) returns =
+      so_far_refused stored all v later next_so_far fault (subst (λ n. unless_refused (variant_headers v) (fault_at n v) ≡ Err fault) is returns)
 
 pub so_far_all : (stored : List Variant) (all : List Headers) (rest : List Variant) → rest ≡ [] → HeadersSoFar stored all rest
     → unless_refused (map variant_headers stored) (first_fault 0 stored) ≡ Ok all

@@ -1,5 +1,5 @@
 -- The reply with the variant at a place.
-use Rattle.std.proofs.Common.{◌≡◌, ◌<◌, ℕ, zero, suc, List, [], ◌∷◌, length, get_or, Option, None, Some, IfOk, refl, sym, arith, ap, ◌∙◌}
+use Rattle.std.proofs.Common.{◌≡◌, ◌<◌, ℕ, zero, suc, List, [], ◌∷◌, length, get_or, None, Some, IfOk, refl, sym, arith, ap, ◌∙◌}
 use Rattle.std.specs.Prelude.{Result, Ok, Err}
 use Rattle.std.proofs.lemmas.List.{get_or_default}
 use Rattle.web_reply.specs.Replies.{Reply}

@@ -20,15 +20,19 @@ use Rattle.web_negotiate.specs.EncodingChoices.{same_encoding}
 use Rattle.web_variants.specs.FirstGreatest.{first_greatest}
 use Rattle.web_variants.specs.declared.stored_variants.Variant.{Variant}
 
+-- the headers of a request
 abbrev pub Headers : Type 0
 Headers = Entries FieldValue
 
+-- the items of Accept, each with its quality
 abbrev pub MediaRanges : Type 0
 MediaRanges = List (QualityItem MediaType)
 
+-- the items of Accept-Language
 abbrev pub LanguageRanges : Type 0
 LanguageRanges = List (QualityItem (Preference (List ℕ)))
 
+-- the items of Accept-Encoding
 abbrev pub Codings : Type 0
 Codings = List (QualityItem (Preference Encoding))
 
@@ -38,6 +42,7 @@ best_quality rank items = option_map (λ x. x.quality) (first_greatest rank item
 
 -- ---- media types (section 12.5.1)
 
+-- the same type, subtype and suffix
 abbrev pub same_essence : MediaType → MediaType → Bool
 same_essence a b = bytes_eq (essence_of a) (essence_of b)
 
@@ -90,14 +95,17 @@ language_quality (Some tag) (Some (item ∷ items)) =
 
 -- ---- codings (section 12.5.3)
 
+-- the content is in no coding
 abbrev pub is_identity : Encoding → Bool
 is_identity (encoding.Known coding.Identity) = true
 is_identity other = false
 
+-- this item of Accept-Encoding is the coding itself, not `*`
 abbrev pub names_coding : Encoding → Preference Encoding → Bool
 names_coding e preference.Any = false
 names_coding e (preference.Specific named) = same_encoding e named
 
+-- this item of Accept-Encoding is `*`
 abbrev pub is_any : Preference Encoding → Bool
 is_any preference.Any = true
 is_any (preference.Specific e) = false
@@ -110,6 +118,7 @@ quality_where test x = if test x.item then x.quality + 1 else 0
 abbrev pub greatest_quality : (Preference Encoding → Bool) → Codings → Option ℕ
 greatest_quality test items = best_quality (quality_where test) items
 
+-- one of two qualities, by whether the coding is identity
 abbrev pub by_identity : Encoding → ℕ → ℕ → ℕ
 by_identity e identity other = if is_identity e then identity else other
 
@@ -124,14 +133,17 @@ coding_quality e (Some (item ∷ items)) =
 
 -- ---- what the headers of a request say
 
+-- the values of a header, in their order
 abbrev pub values : List ℕ → Headers → List (List ℕ)
 values name headers = value_bytes (get_all headers name)
 
 -- A header that its reader refuses says nothing.
 
+-- what Accept says
 abbrev pub media_ranges : Headers → Option MediaRanges
 media_ranges headers = accept_of (values (codes "accept") headers)
 
+-- what Accept-Language says
 abbrev pub language_ranges : Headers → Option LanguageRanges
 language_ranges headers = accept_language_of (values (codes "accept-language") headers)
 
@@ -140,6 +152,7 @@ abbrev pub codings_of_values : List (List ℕ) → Option Codings
 codings_of_values [] = None
 codings_of_values (first ∷ more) = accept_encoding_of (first ∷ more)
 
+-- what Accept-Encoding says
 abbrev pub codings : Headers → Option Codings
 codings headers = codings_of_values (values (codes "accept-encoding") headers)
 

@@ -2,7 +2,7 @@
 use Rattle.std.specs.Prelude.{ℕ, ◌+◌, Bool, true, ◌&&◌, ◌||◌, List, [], ◌∷◌, ◌++◌, codes}
 use Rattle.std.specs.Prelude.{Option, None, Some, Result, Ok, Err, if◌then◌else◌}
 use Rattle.std.specs.Str.{bytes_eq}
-use Rattle.http_header.specs.FieldValue.{FieldValue, plain_value}
+use Rattle.http_header.specs.FieldValue.{plain_value}
 use Rattle.web_texts.specs.MediaTypes.{MediaType}
 use Rattle.web_texts.specs.MediaTypeTexts.{media_type_text}
 use Rattle.web_headers.specs.Codings.{encoding_text}
@@ -17,6 +17,7 @@ use Rattle.web_variants.specs.declared.stored_variants.VariantFault.TheVariants 
 abbrev pub has_star : MediaType → Bool
 has_star m = bytes_eq m.type_ (codes "*") || bytes_eq m.subtype (codes "*")
 
+-- a header may hold the language, where there is one
 abbrev pub is_language_value : Option (List ℕ) → Bool
 is_language_value None = true
 is_language_value (Some tag) = is_field_value tag
@@ -33,6 +34,7 @@ fault_at place v =
     else if is_printable v then None
     else Some (fault.Value place)
 
+-- the first of two faults, where there is one
 abbrev pub or_fault : Option VariantFault → Option VariantFault → Option VariantFault
 or_fault None later = later
 or_fault (Some e) later = Some e
@@ -47,6 +49,7 @@ abbrev pub refusal : List Variant → Option VariantFault
 refusal [] = Some fault.Empty
 refusal (v ∷ more) = first_fault 0 (v ∷ more)
 
+-- the value, unless there is a fault
 abbrev pub unless_refused : {T : Type 0} → T → Option VariantFault → Result T VariantFault
 unless_refused x None = Ok x
 unless_refused x (Some e) = Err e

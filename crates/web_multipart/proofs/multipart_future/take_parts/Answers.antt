@@ -1,8 +1,6 @@
-use Rattle.std.proofs.Common.{sym, subst, Option, ◌∙◌, Ok, Err, arith, ◌+◌, ◌≤◌, length, length-append, ◌++◌, ◌∷◌, []}
-use Rattle.std.specs.Prelude.{IfSome}
+use Rattle.std.proofs.Common.{sym, ◌∙◌}
 use Rattle.web_multipart_stream.specs.PartStreams.{schedule_of}
-use Rattle.web_multipart.specs.Collections.{Collection, EndsNow}
-use Rattle.web_multipart.proofs.CollectionLemmas.{collect_closed, collect_failed, collect_part, collect_stall}
+use Rattle.web_multipart.proofs.CollectionLemmas.{collect_stall}
 use Rattle.web_multipart.proofs.multipart_future.take_parts.Goals as goal
 
 pub returns-in-Pending-clause-collects : goal.returns-in-Pending-clause-collects

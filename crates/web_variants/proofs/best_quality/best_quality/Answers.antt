@@ -5,8 +5,7 @@ use Rattle.web_variants.proofs.best_quality.best_quality.Goals as goal
 
 pub returns-in-Some : goal.returns-in-Some
 returns-in-Some g c =
-    let found = greatest_at (g.R.Ranking.ranks c.args.ranking.now) c.args.items.now c.in-Some.place c.index-items-place.result c.in-Some.ensures
-    ∙ ap Some (sym c.index-items-place.is) in
+    let found = greatest_at (g.R.Ranking.ranks c.args.ranking.now) c.args.items.now c.in-Some.place c.index-items-place.result c.in-Some.ensures in
     ap Some c.thousandths.ensures.value ∙ sym (ap (option_map (λ x. x.quality)) found)
 
 pub returns-in-None : goal.returns-in-None

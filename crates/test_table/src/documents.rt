@@ -1,0 +1,277 @@
+//! The replies to requests for a document: to one request, and to every choice of conditions.
+use crate::answers::{Answer, no_such_call, text};
+use crate::maps::{BETWEEN, headers_of, is_named_appended};
+use bytes::Bytes;
+use http::{Method, Version};
+use http_header::{HeaderMap, HeaderValue};
+use http_uri::Uri;
+use httpdate::HttpDate;
+use std::alloc::Global;
+use std::fmt::Write;
+use std::rc::Rc;
+use std::str;
+use web_body::Marks;
+use web_docs::{Document, Store, answer_document};
+use web_entities::EntityTag;
+use web_reply::{HttpResponse, WholeBody};
+use web_request::{
+    AppConfig, HttpRequest, HttpRequestPool, IpAddr, NoData, PlainApp, RequestHead, RequestParts,
+    SocketAddr,
+};
+use web_texts::{Mime, NoMemory, ReadText, Text};
+
+/// The application that is asked.
+type Site = PlainApp<Marks>;
+
+/// What stands between the values of a condition.
+const OR: &str = " or ";
+
+/// The letters that stand for the replies of a table, in the order in which they first come.
+const LETTERS: &str = "ABCDEFGH";
+
+/// The fields of a row: a method and a target; the tag of the document under `/d`, when it was
+/// changed, in seconds since 1970, and its content; and header fields, `NAME: VALUE`.
+pub(crate) fn answer(alloc: Global, name: &str, fields: &[&str]) -> Answer {
+    let [request, tag, seconds, body, headers @ ..] = fields else {
+        return no_such_call(alloc);
+    };
+    let Some(store) = store_of(alloc, tag, seconds, body) else {
+        return text(alloc, "no document");
+    };
+    match name {
+        "reply" => reply(alloc, &store, request, headers),
+        "replies" => replies(alloc, &store, request, headers),
+        _ => no_such_call(alloc),
+    }
+}
+
+/// A store of one document of plain text, under `/d`.
+fn store_of(alloc: Global, tag: &str, seconds: &str, body: &str) -> Option<Store> {
+    let document = document_of(alloc, tag, seconds, body)?;
+    let mut documents = Vec::new(alloc);
+    documents.push(document).ok()?;
+    Store::new(alloc, documents).ok()
+}
+
+fn document_of(alloc: Global, tag: &str, seconds: &str, body: &str) -> Option<Document> {
+    let modified = HttpDate::from_unix_secs(seconds.parse().ok()?).ok()?;
+    let body = body_of(alloc, body)?;
+    let tag = EntityTag::parse(alloc, tag).ok()?;
+    document_with(alloc, tag, modified, body)
+}
+
+fn document_with(
+    alloc: Global,
+    tag: EntityTag,
+    modified: HttpDate,
+    body: Bytes,
+) -> Option<Document> {
+    Some(Document {
+        path: Text::of(alloc, "/d").ok()?,
+        media_type: Mime::parse(alloc, "text/plain").ok()?,
+        tag,
+        modified,
+        body,
+    })
+}
+
+fn body_of(alloc: Global, text: &str) -> Option<Bytes> {
+    let mut bytes = Vec::new(alloc);
+    bytes.extend_from_slice(text.as_bytes()).ok()?;
+    Bytes::from_vec(bytes).ok()
+}
+
+/// The reply to a request with these header fields.
+fn reply(alloc: Global, store: &Store, request: &str, fields: &[&str]) -> Answer {
+    match headers_of(alloc, fields)? {
+        Some(headers) => reply_with(alloc, store, request, headers),
+        None => text(alloc, "no header fields"),
+    }
+}
+
+fn reply_with(
+    alloc: Global,
+    store: &Store,
+    request: &str,
+    headers: HeaderMap<HeaderValue>,
+) -> Answer {
+    match head_of(alloc, request, headers) {
+        Some(head) => shown(alloc, answer_document(alloc, store, &started(alloc, head)?)?),
+        None => text(alloc, "no request"),
+    }
+}
+
+fn head_of(
+    alloc: Global,
+    request: &str,
+    headers: HeaderMap<HeaderValue>,
+) -> Option<RequestHead> {
+    let (method, target) = request.split_once(' ')?;
+    let method = Method::from_bytes(alloc, method.as_bytes()).ok()?;
+    let uri = Uri::from_bytes(alloc, target.as_bytes()).ok()?;
+    Some(RequestHead {
+        method,
+        uri,
+        version: Version::HTTP_11,
+        headers,
+        peer_addr: None,
+    })
+}
+
+fn started(alloc: Global, head: RequestHead) -> Result<HttpRequest<Site>, NoMemory> {
+    let parts = RequestParts {
+        head,
+        params: Vec::new(alloc),
+        layers: Vec::new(alloc),
+        conn: None,
+        local: None,
+    };
+    let mut pool = pool(alloc)?;
+    if pool.made() > 0 {
+        return Err(NoMemory);
+    }
+    pool.start(alloc, parts).map_err(|_| NoMemory)
+}
+
+fn pool(alloc: Global) -> Result<HttpRequestPool<Site>, NoMemory> {
+    let config = AppConfig {
+        host: Text::of(alloc, "localhost:8080")?,
+        secure: false,
+        local_addr: SocketAddr {
+            ip: IpAddr::V4([127, 0, 0, 1]),
+            port: 8080,
+        },
+    };
+    let root = Rc::new(alloc, NoData)?;
+    HttpRequestPool::with_capacity(alloc, root, config, 0)
+}
+
+/// The status, the headers and the body.
+fn shown(alloc: Global, reply: HttpResponse<WholeBody>) -> Answer {
+    let status = reply.status().as_u16();
+    let mut shown = format!(in alloc; "{status}")?;
+    for (name, value) in reply.headers() {
+        add_part(&mut shown, name.as_str(), ": ", value.as_bytes())?;
+    }
+    match reply.body() {
+        WholeBody::Empty => add_part(&mut shown, "empty", "", b"")?,
+        WholeBody::Bytes(bytes) => add_part(&mut shown, "bytes ", "", bytes.as_slice())?,
+    }
+    Ok(shown)
+}
+
+fn add_part(shown: &mut String, name: &str, between: &str, value: &[u8]) -> Result<(), NoMemory> {
+    let value = str::from_utf8(value).ok().unwrap_or("no text");
+    match write!(shown, "; {name}{between}{value}") {
+        Ok(()) => Ok(()),
+        Err(_) => Err(NoMemory),
+    }
+}
+
+/// The letters of replies, and the replies that they stand for.
+#[derive(Drop)]
+struct Table {
+    letters: String,
+    replies: Vec<String>,
+}
+
+/// The replies to the requests with every choice of four conditions, each of which is absent or has
+/// one of its three values, `NAME: VALUE or VALUE or VALUE`. The further fields are in each
+/// request. A letter stands for each reply, the choice of the last condition changing first.
+fn replies(alloc: Global, store: &Store, request: &str, fields: &[&str]) -> Answer {
+    let [first, second, third, fourth, more @ ..] = fields else {
+        return no_such_call(alloc);
+    };
+    let conditions = [*first, *second, *third, *fourth];
+    let mut table = Table {
+        letters: String::new(alloc),
+        replies: Vec::new(alloc),
+    };
+    for number in 0..256 {
+        let reply = reply_of_choice(alloc, store, request, (&conditions, more), number)?;
+        if number % 16 == 0 {
+            table.letters.push(' ')?;
+        }
+        add_reply(&mut table, reply)?;
+    }
+    table_shown(alloc, &table)
+}
+
+/// The reply to the request with the choice of this number among the conditions.
+fn reply_of_choice(
+    alloc: Global,
+    store: &Store,
+    request: &str,
+    fields: (&[&str; 4], &[&str]),
+    number: usize,
+) -> Answer {
+    let (conditions, more) = fields;
+    let Some(mut headers) = headers_of(alloc, more)? else {
+        return text(alloc, "no header fields");
+    };
+    let mut left = number;
+    for condition in conditions.iter().rev() {
+        if !is_choice_appended(alloc, &mut headers, condition, left % 4)? {
+            return text(alloc, "no condition");
+        }
+        left /= 4;
+    }
+    reply_with(alloc, store, request, headers)
+}
+
+/// Appends the value of a condition that has this number, from 1 on; at 0 it is absent. Gives
+/// whether there is one.
+fn is_choice_appended(
+    alloc: Global,
+    headers: &mut HeaderMap<HeaderValue>,
+    condition: &str,
+    number: usize,
+) -> Result<bool, NoMemory> {
+    if number == 0 {
+        return Ok(true);
+    }
+    let (name, values) = condition.split_once(BETWEEN).unwrap_or((condition, ""));
+    match values.split(OR).nth(number - 1) {
+        Some(value) => is_named_appended(alloc, headers, name, value),
+        None => Ok(false),
+    }
+}
+
+/// Adds a reply to a table.
+fn add_reply(table: &mut Table, reply: String) -> Result<(), NoMemory> {
+    let place = place_of(&table.replies, reply.as_str());
+    table.letters.push(letter_of(place))?;
+    if place == table.replies.len() {
+        table.replies.push(reply)?;
+    }
+    Ok(())
+}
+
+/// The place of a reply among others, or their number where it is new.
+fn place_of(replies: &[String], reply: &str) -> usize {
+    let mut place = 0usize;
+    for other in replies {
+        if other.as_str() == reply {
+            break;
+        }
+        place += 1;
+    }
+    place
+}
+
+fn letter_of(place: usize) -> char {
+    LETTERS.chars().nth(place).unwrap_or('?')
+}
+
+/// The letters, and then each of them with its reply in brackets.
+fn table_shown(alloc: Global, table: &Table) -> Answer {
+    let letters = table.letters.as_str();
+    let mut shown = text(alloc, letters.trim_start())?;
+    for (place, reply) in table.replies.iter().enumerate() {
+        let letter = letter_of(place);
+        if write!(shown, " {letter} [{reply}]").is_err() {
+            return Err(NoMemory);
+        }
+    }
+    Ok(shown)
+}
