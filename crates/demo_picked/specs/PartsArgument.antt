@@ -21,4 +21,4 @@ abbrev pub parts_result : DemoRequest → List Mark → DelayedResult (List Part
 parts_result q m = multipart_result (limit_of 65536) q.head.headers m
 
 abbrev pub parts_rest : DemoRequest → List Mark → List Mark
-parts_rest q m = multipart_rest q.head.headers m
+parts_rest q m = multipart_rest (limit_of 65536) q.head.headers m
