@@ -1,7 +1,8 @@
 //! Accept, and the order of what it names.
 use crate::headers::{Headers, is_header_text};
 use crate::media_type::{self, MediaType};
-use crate::text::{trimmed, trimmed_end};
+use crate::quality;
+use crate::text::trimmed;
 use std::cmp::Reverse;
 
 /// Media types, the preferred ones first.
@@ -43,40 +44,11 @@ impl<'a> Accept<'a> {
 impl<'a> Item<'a> {
     /// A media type and, behind the last semicolon, perhaps a quality.
     fn read(text: &'a [u8]) -> Option<Item<'a>> {
-        let (mut text, mut quality) = (text, 1000);
-        if let Some(at) = text.iter().rposition(|byte| *byte == b';') {
-            match trimmed(&text[at + 1..]) {
-                [] | [_] => return None,
-                [b'q' | b'Q', b'=', digits @ ..] => {
-                    quality = read_quality(digits)?;
-                    text = trimmed_end(&text[..at]);
-                }
-                _ => {}
-            }
-        }
+        let (text, quality) = quality::split(text)?;
         let media_type = media_type::read(text)?;
         Some(Item {
             rank: (quality, media_type.exactness()),
             media_type,
         })
-    }
-}
-
-fn read_quality(text: &[u8]) -> Option<u16> {
-    let (whole, fraction) = match text {
-        [whole] => (whole, &[][..]),
-        [whole, b'.', fraction @ ..] if fraction.len() <= 3 => (whole, fraction),
-        _ => return None,
-    };
-    let (mut thousandths, mut unit) = (0, 100);
-    for digit in fraction {
-        let digit = digit.is_ascii_digit().then(|| u16::from(digit - b'0'))?;
-        thousandths += digit * unit;
-        unit /= 10;
-    }
-    match whole {
-        b'0' => Some(thousandths),
-        b'1' if thousandths == 0 => Some(1000),
-        _ => None,
     }
 }

@@ -3,12 +3,15 @@ use crate::accept::Accept;
 use crate::body::{self, Collector, FormItem, JsonItem, WholeBytes, WholeText};
 use crate::connection::Connection;
 use crate::cookies;
+use crate::documents;
 use crate::item::Item;
 use crate::lines::Lines;
 use crate::pairs::{FormPairs, PathPairs};
-use crate::reply::{Refusal, collected};
+use crate::parts::{Part, Parts};
+use crate::reply::{Refusal, Reply, collected};
 use crate::request::{Request, Segment};
 use crate::script::Mark;
+use crate::variants;
 use std::borrow::Cow;
 
 /// The arguments of a handler.
@@ -30,6 +33,9 @@ pub enum Picked<'a> {
     Data(Data),
     Raw(Vec<Mark<'a>>),
     Wait(u64),
+    Parts(Vec<Part<'a>>),
+    /// What a request as a whole is answered with.
+    Reply(Reply<'a>),
     Other,
 }
 
@@ -59,6 +65,7 @@ pub enum Arguments<'a> {
     Option(Box<OptionAndBytes<'a>>),
     Result(Collector<'a, JsonItem>),
     Lines(Box<Lines<'a>>),
+    Parts(Box<Parts<'a>>),
     /// Those that wait for nothing.
     Ready(Option<Answer<'a>>),
 }
@@ -104,6 +111,7 @@ impl<'a> Arguments<'a> {
             })),
             Segment::Result => Arguments::Result(Collector::of(request, marks)),
             Segment::Lines => Arguments::Lines(Box::new(Lines::of(request, marks))),
+            Segment::Parts => Arguments::Parts(Box::new(Parts::of(request, marks))),
             _ => Arguments::Ready(Some(without_delay(request, marks))),
         }
     }
@@ -125,6 +133,7 @@ impl<'a> Arguments<'a> {
                 Some(Ok(Picked::Result(item)))
             }
             Arguments::Lines(lines) => Some(lines.poll()?.map(|text| Picked::Text(text.into()))),
+            Arguments::Parts(parts) => Some(parts.poll()?.map(Picked::Parts)),
             Arguments::Ready(answer) => answer.take(),
         }
     }
@@ -147,6 +156,8 @@ fn without_delay<'a>(request: &Request<'a>, marks: &mut Vec<Mark<'a>>) -> Answer
         }
         Segment::Raw => Ok(Picked::Raw(std::mem::take(marks))),
         Segment::Wait => Ok(Picked::Wait(delay(request))),
+        Segment::Document => Ok(Picked::Reply(documents::reply(request))),
+        Segment::Variant => Ok(Picked::Reply(variants::reply(request))),
         _ => Ok(Picked::Other),
     }
 }

@@ -127,8 +127,8 @@ pub fn of_whole<'a, K: Kind>(
 }
 
 const OVERFLOW: &str = "payload reached its limit";
-const FAILED: &str = "payload read failed";
-const CODED: &str = "content coding is not supported";
+pub const FAILED: &str = "payload read failed";
+pub const CODED: &str = "content coding is not supported";
 const IN_PAYLOAD: &str = "Error that occur during reading payload: ";
 
 /// The bytes as they are.

@@ -20,9 +20,7 @@ impl<'a> Headers<'a> {
     /// Adds the header of a line: a name, and after one space a value, empty without a space.
     pub fn add(&mut self, argument: &'a [u8]) -> Option<()> {
         let (name, value) = text::split_word(argument);
-        let is_header =
-            name.len() <= MOST_NAME && is_token(name) && value.iter().all(is_value_byte);
-        is_header.then(|| self.0.push((name, value)))
+        is_header(name, value).then(|| self.0.push((name, value)))
     }
 
     /// The values of this name in their order.
@@ -34,6 +32,18 @@ impl<'a> Headers<'a> {
     /// The first value of this name.
     pub fn get(&self, name: &str) -> Option<&'a [u8]> {
         Some(self.0.iter().find(|header| is_named(header, name))?.1)
+    }
+
+    /// The items of a list, `None` where the header is absent or a value of it is no header text.
+    pub fn list(&self, name: &str) -> Option<impl Iterator<Item = &'a [u8]>> {
+        let mut values = self.all(name).peekable();
+        values.peek()?;
+        if !values.all(is_header_text) {
+            return None;
+        }
+        let values = self.all(name);
+        let texts = values.flat_map(|value| value.split(|byte| *byte == b','));
+        Some(texts.map(trimmed).filter(|text| !text.is_empty()))
     }
 
     /// The media type, `None` where no header says it.
@@ -62,6 +72,11 @@ impl<'a> Headers<'a> {
 
 fn is_named(header: &(&[u8], &[u8]), name: &str) -> bool {
     header.0.eq_ignore_ascii_case(name.as_bytes())
+}
+
+/// Whether a header may have this name and this value.
+pub fn is_header(name: &[u8], value: &[u8]) -> bool {
+    name.len() <= MOST_NAME && is_token(name) && value.iter().all(is_value_byte)
 }
 
 /// Whether these bytes are text in a header: printable ASCII and tabs.

@@ -40,6 +40,16 @@ pub fn read(text: &[u8]) -> Option<MediaType<'_>> {
     Some(MediaType { essence, params })
 }
 
+impl<'a> MediaType<'a> {
+    /// The media type of this essence, without parameters.
+    pub const fn of_essence(essence: &'a str) -> MediaType<'a> {
+        MediaType {
+            essence: essence.as_bytes(),
+            params: Vec::new(),
+        }
+    }
+}
+
 impl MediaType<'_> {
     /// Type, subtype, and suffix where there is one.
     fn parts(&self) -> (&[u8], &[u8], Option<&[u8]>) {
@@ -61,9 +71,13 @@ impl MediaType<'_> {
         is_json(subtype) || suffix.is_some_and(is_json)
     }
 
+    pub fn has_essence(&self, essence: &str) -> bool {
+        self.essence.eq_ignore_ascii_case(essence.as_bytes())
+    }
+
     /// Whether it is this one, without parameters.
     pub fn is_alone(&self, essence: &str) -> bool {
-        self.essence.eq_ignore_ascii_case(essence.as_bytes()) && self.params.is_empty()
+        self.has_essence(essence) && self.params.is_empty()
     }
 
     /// 2 for one that is exact, 1 for any of a type, 0 for any.
@@ -72,6 +86,22 @@ impl MediaType<'_> {
             (b"*", _, _) => 0,
             (_, b"*", _) => 1,
             _ => 2,
+        }
+    }
+
+    /// How exactly a range names this one, `None` where it does not: 3 with its parameters, 2 by its essence, 1 by its
+    /// type alone, 0 as any.
+    pub fn exactness_in(&self, range: &MediaType<'_>) -> Option<u8> {
+        let is_essence = self.essence.eq_ignore_ascii_case(range.essence);
+        if !range.params.is_empty() {
+            return (is_essence && self.params == range.params).then_some(3);
+        }
+        if is_essence {
+            return Some(2);
+        }
+        match range.essence.strip_suffix(b"/*")? {
+            b"*" => Some(0),
+            type_ => self.parts().0.eq_ignore_ascii_case(type_).then_some(1),
         }
     }
 

@@ -81,6 +81,12 @@ impl<'a> Reply<'a> {
         }
     }
 
+    /// The same with this header.
+    pub fn with(mut self, name: &'static str, value: impl Into<Cow<'a, str>>) -> Reply<'a> {
+        self.headers.push((name, value.into()));
+        self
+    }
+
     /// A reply with this text.
     pub fn text(status: u16, text: Cow<'a, [u8]>) -> Reply<'a> {
         Reply::typed(status, "text/plain; charset=utf-8", Body::Whole(text))

@@ -6,7 +6,6 @@ use crate::text::{self, is_token_byte};
 
 /// A request without its body.
 pub struct Request<'a> {
-    #[expect(dead_code, reason = "no handler asks for it yet")]
     pub method: &'a str,
     pub target: Target<'a>,
     pub headers: Headers<'a>,
@@ -43,6 +42,9 @@ pub enum Segment {
     CappedJson,
     Raw,
     Wait,
+    Document,
+    Variant,
+    Parts,
     Other,
 }
 
@@ -110,6 +112,9 @@ impl Segment {
             b"lines" => Segment::Lines,
             b"capped" => Segment::Capped,
             b"capped-json" => Segment::CappedJson,
+            b"doc" => Segment::Document,
+            b"variant" => Segment::Variant,
+            b"parts" => Segment::Parts,
             _ => Segment::Other,
         }
     }

@@ -1,6 +1,7 @@
 //! One worker that polls the exchanges in the order of the plan.
 use crate::arguments::{Arguments, Data, Picked, Side};
 use crate::item::Item;
+use crate::parts;
 use crate::reply::{Body, Refusal, Reply};
 use crate::request::Request;
 use crate::script::{Mark, Script};
@@ -143,6 +144,8 @@ fn reply_of(picked: Picked<'_>) -> Reply<'_> {
         Picked::Data(data) => text(data_line(&data)),
         Picked::Raw(marks) => Reply::typed(200, "application/octet-stream", Body::Stream(marks)),
         Picked::Wait(_) => Reply::empty(204),
+        Picked::Parts(parts) => text(parts::text(&parts)),
+        Picked::Reply(reply) => reply,
         Picked::Other => Reply::empty(404),
     }
 }

@@ -14,6 +14,13 @@ pub struct Target<'a> {
 }
 
 impl<'a> Target<'a> {
+    /// Without the query.
+    pub fn path(&self) -> &'a str {
+        self.path_and_query
+            .split_once('?')
+            .map_or(self.path_and_query, |cut| cut.0)
+    }
+
     /// Without the question mark, and empty where there is none.
     pub fn query(&self) -> &'a str {
         self.path_and_query.split_once('?').map_or("", |cut| cut.1)

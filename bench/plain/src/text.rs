@@ -1,4 +1,5 @@
 //! Tests and cuts of bytes.
+use std::io::BufRead;
 
 /// Whether these are one or more bytes of a token.
 pub fn is_token(bytes: &[u8]) -> bool {
@@ -32,6 +33,15 @@ pub fn number(digits: &[u8], most: u64) -> Option<u64> {
             value.checked_mul(10)?.checked_add(digit)
         })
         .filter(|value| *value <= most)
+}
+
+/// Where the first of these bytes stands.
+pub fn find(bytes: &[u8], wanted: u8) -> Option<usize> {
+    let mut rest = bytes;
+    let taken = rest
+        .skip_until(wanted)
+        .expect("reading a slice does not fail");
+    bytes[..taken].ends_with(&[wanted]).then(|| taken - 1)
 }
 
 /// The word before the first space, and what stands behind it, which is empty where there is none.

@@ -1,0 +1,265 @@
+//! The documents of `/doc`, by conditional requests (RFC 7232) and ranges (RFC 7233).
+use crate::date;
+use crate::headers::{Headers, is_header_text};
+use crate::reply::{Body, Reply};
+use crate::request::Request;
+use crate::text::{number, put_number, trimmed};
+use std::borrow::Cow;
+use std::ops::Range;
+
+struct Document {
+    path: &'static str,
+    media_type: &'static str,
+    tag: Tag<'static>,
+    /// The tag as a header has it.
+    etag: &'static str,
+    /// In seconds since 1970.
+    modified: u64,
+    /// The same as a header has it.
+    last_modified: &'static str,
+    body: &'static [u8],
+}
+
+static DOCUMENTS: [Document; 2] = [
+    Document {
+        path: "/doc/a",
+        media_type: "text/plain",
+        tag: Tag {
+            is_weak: false,
+            text: b"v1",
+        },
+        etag: "\"v1\"",
+        modified: 1_700_000_000,
+        last_modified: "Tue, 14 Nov 2023 22:13:20 GMT",
+        body: b"0123456789",
+    },
+    Document {
+        path: "/doc/empty",
+        media_type: "text/plain",
+        tag: Tag {
+            is_weak: true,
+            text: b"e",
+        },
+        etag: "W/\"e\"",
+        modified: 1_700_000_000,
+        last_modified: "Tue, 14 Nov 2023 22:13:20 GMT",
+        body: b"",
+    },
+];
+
+/// The tag of a version of a document.
+struct Tag<'a> {
+    is_weak: bool,
+    text: &'a [u8],
+}
+
+/// What the conditions of a request come to.
+enum Verdict {
+    NotAllowed,
+    Failed,
+    NotModified,
+    /// A range that selects no byte.
+    Unsatisfiable,
+    Part(Range<usize>),
+    Whole,
+}
+
+/// The reply to a request for a document.
+pub fn reply(request: &Request<'_>) -> Reply<'static> {
+    let path = request.target.path();
+    let Some(document) = DOCUMENTS.iter().find(|document| document.path == path) else {
+        return Reply::empty(404);
+    };
+    let is_head = request.method == "HEAD";
+    let mut reply = match document.verdict(request.method, &request.headers) {
+        Verdict::NotAllowed => Reply::empty(405).with("allow", "GET, HEAD"),
+        Verdict::Failed => Reply::empty(412),
+        Verdict::NotModified => document.not_modified(),
+        Verdict::Unsatisfiable => {
+            Reply::empty(416).with("content-range", content_range(None, document.body.len()))
+        }
+        Verdict::Part(part) => {
+            let range = content_range(Some(&part), document.body.len());
+            document
+                .sent(206, &document.body[part])
+                .with("content-range", range)
+        }
+        Verdict::Whole => document.sent(200, document.body),
+    };
+    if is_head {
+        reply.body = Body::Whole(Cow::Borrowed(&[]));
+    }
+    reply
+}
+
+impl Document {
+    fn verdict(&self, method: &str, headers: &Headers<'_>) -> Verdict {
+        if method != "GET" && method != "HEAD" {
+            return Verdict::NotAllowed;
+        }
+        let matches = any_tag(headers, "if-match", |tag| self.tag.is_strongly(tag))
+            .or_else(|| Some(self.modified <= date(headers, "if-unmodified-since")?));
+        if matches == Some(false) {
+            return Verdict::Failed;
+        }
+        let is_known = any_tag(headers, "if-none-match", |tag| self.tag.text == tag.text)
+            .or_else(|| Some(self.modified <= date(headers, "if-modified-since")?));
+        if is_known == Some(true) {
+            return Verdict::NotModified;
+        }
+        match one_range(headers) {
+            Some(range) if method == "GET" && self.is_range_of_this(headers) => range
+                .of(self.body.len())
+                .map_or(Verdict::Unsatisfiable, Verdict::Part),
+            _ => Verdict::Whole,
+        }
+    }
+
+    /// Whether If-Range is absent, or names this version.
+    fn is_range_of_this(&self, headers: &Headers<'_>) -> bool {
+        let Some(value) = headers.get("if-range") else {
+            return true;
+        };
+        match Tag::read(value) {
+            Some(tag) => self.tag.is_strongly(&tag),
+            None => date::read(value) == Some(self.modified),
+        }
+    }
+
+    /// The headers of 304, and room for those of a part.
+    fn validators(&self) -> Vec<(&'static str, Cow<'static, str>)> {
+        let mut headers = Vec::with_capacity(5);
+        headers.push(("etag", self.etag.into()));
+        headers.push(("last-modified", self.last_modified.into()));
+        headers
+    }
+
+    fn not_modified(&self) -> Reply<'static> {
+        Reply {
+            headers: self.validators(),
+            ..Reply::empty(304)
+        }
+    }
+
+    /// A reply with these bytes of the document.
+    fn sent(&self, status: u16, body: &'static [u8]) -> Reply<'static> {
+        let mut headers = self.validators();
+        headers.push(("accept-ranges", "bytes".into()));
+        headers.push(("content-type", self.media_type.into()));
+        Reply {
+            status,
+            headers,
+            body: Body::Whole(Cow::Borrowed(body)),
+        }
+    }
+}
+
+impl<'a> Tag<'a> {
+    fn read(text: &'a [u8]) -> Option<Tag<'a>> {
+        let (is_weak, quoted) = match text.strip_prefix(b"W/") {
+            Some(quoted) => (true, quoted),
+            None => (false, text),
+        };
+        let text = quoted.strip_prefix(b"\"")?.strip_suffix(b"\"")?;
+        let is_tag = text.iter().all(|byte| matches!(byte, 0x21 | 0x23..=0x7E));
+        is_tag.then_some(Tag { is_weak, text })
+    }
+
+    /// Whether both are strong and have the same text.
+    fn is_strongly(&self, other: &Tag<'_>) -> bool {
+        !self.is_weak && !other.is_weak && self.text == other.text
+    }
+}
+
+/// Whether a list of tags has one of these, or is an asterisk. `None` where the header is absent or no value of it.
+fn any_tag(headers: &Headers<'_>, name: &str, is_it: impl Fn(&Tag<'_>) -> bool) -> Option<bool> {
+    if trimmed(headers.get(name)?) == b"*" {
+        return Some(true);
+    }
+    if !headers.all(name).all(is_header_text) {
+        return None;
+    }
+    let mut texts = headers.all(name).flat_map(|value| Pieces(Some(value)));
+    Some(texts.any(|text| Tag::read(trimmed(text)).is_some_and(|tag| is_it(&tag))))
+}
+
+/// What stands between commas outside of quotes.
+struct Pieces<'a>(Option<&'a [u8]>);
+
+impl<'a> Iterator for Pieces<'a> {
+    type Item = &'a [u8];
+
+    fn next(&mut self) -> Option<&'a [u8]> {
+        let text = self.0?;
+        let mut is_quoted = false;
+        let comma = text.iter().position(|byte| {
+            is_quoted ^= *byte == b'"';
+            *byte == b',' && !is_quoted
+        });
+        self.0 = comma.map(|at| &text[at + 1..]);
+        Some(&text[..comma.unwrap_or(text.len())])
+    }
+}
+
+fn date(headers: &Headers<'_>, name: &str) -> Option<u64> {
+    date::read(headers.get(name)?)
+}
+
+/// A range of bytes, as a request asks for it.
+enum Asked {
+    FromTo(u64, u64),
+    From(u64),
+    Last(u64),
+}
+
+/// The range of Range, where it is one range of bytes. Those that cannot be read do not count.
+fn one_range(headers: &Headers<'_>) -> Option<Asked> {
+    let value = headers.get("range").filter(|value| is_header_text(value))?;
+    let texts = value.strip_prefix(b"bytes=")?.split(|byte| *byte == b',');
+    let mut ranges = texts.filter_map(|text| Asked::read(trimmed(text)));
+    let range = ranges.next()?;
+    ranges.next().is_none().then_some(range)
+}
+
+impl Asked {
+    fn read(text: &[u8]) -> Option<Asked> {
+        let at = text.iter().position(|byte| *byte == b'-')?;
+        let number = |digits| number(digits, u64::MAX);
+        match (&text[..at], &text[at + 1..]) {
+            (b"", last) => number(last).map(Asked::Last),
+            (first, b"") => number(first).map(Asked::From),
+            (first, last) => {
+                let (first, last) = (number(first)?, number(last)?);
+                (first <= last).then_some(Asked::FromTo(first, last))
+            }
+        }
+    }
+
+    /// The positions that it selects of so many, `None` where there are none.
+    fn of(&self, length: usize) -> Option<Range<usize>> {
+        let whole = length as u64;
+        let (start, end) = match *self {
+            Asked::FromTo(first, last) => (first, whole.min(last.saturating_add(1))),
+            Asked::From(first) => (first, whole),
+            Asked::Last(count) => (whole.saturating_sub(count), whole),
+        };
+        (start < end).then_some(start as usize..end as usize)
+    }
+}
+
+/// The value of Content-Range: a part of so many bytes, or an asterisk for none.
+fn content_range(part: Option<&Range<usize>>, length: usize) -> String {
+    let mut out = Vec::with_capacity(32);
+    out.extend_from_slice(b"bytes ");
+    match part {
+        Some(part) => {
+            put_number(&mut out, part.start as u64);
+            out.push(b'-');
+            put_number(&mut out, part.end as u64 - 1);
+        }
+        None => out.push(b'*'),
+    }
+    out.push(b'/');
+    put_number(&mut out, length as u64);
+    String::from_utf8(out).expect("it is ASCII")
+}
