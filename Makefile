@@ -17,7 +17,7 @@ help:
 	@echo "make wrong-bodies CRATE=N tries all wrong bodies of a crate that was checked"
 	@echo "make costs                prints what each crate cost the gate, beside what it cost before"
 	@echo "make graphs               lists the functions whose proofs cost most"
-	@echo "make bench                compares the program with one written in plain Rust"
+	@echo "make bench                compares the program with one in plain Rust, and one on Rust's crates"
 	@echo "make plain SCRIPT=F       serves a script by the program in plain Rust"
 
 # The proved program where there is one of these sources, else one that is built without proof.

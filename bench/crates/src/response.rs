@@ -1,0 +1,96 @@
+//! Responses.
+use crate::refusal::Refusal;
+use crate::text::put_line;
+use bytes::Bytes;
+use http::StatusCode;
+use http::header::{CONTENT_TYPE, HeaderMap, HeaderValue};
+use std::borrow::Cow;
+
+pub struct Response {
+    pub status: StatusCode,
+    headers: HeaderMap,
+    body: Bytes,
+}
+
+impl Response {
+    /// A response with this status and nothing else.
+    pub fn empty(status: StatusCode) -> Response {
+        Response {
+            status,
+            headers: HeaderMap::new(),
+            body: Bytes::new(),
+        }
+    }
+
+    /// A response with a body of this type.
+    pub fn typed(media_type: &'static str, body: impl Into<Bytes>) -> Response {
+        Response::new(StatusCode::OK, media_type, body.into())
+    }
+
+    /// A response with this text.
+    pub fn text(body: impl Into<Bytes>) -> Response {
+        Response::new(StatusCode::OK, PLAIN_TEXT, body.into())
+    }
+
+    fn new(status: StatusCode, media_type: &'static str, body: Bytes) -> Response {
+        let mut headers = HeaderMap::with_capacity(1);
+        headers.insert(CONTENT_TYPE, HeaderValue::from_static(media_type));
+        Response {
+            status,
+            headers,
+            body,
+        }
+    }
+
+    /// Adds the status, the headers by their names, and the body.
+    pub fn put(&self, out: &mut Vec<u8>) {
+        put_line(out, b"status ", u64::from(self.status.as_u16()));
+        let mut headers: Vec<_> = self.headers.iter().collect();
+        headers.sort_by_key(|(name, _)| name.as_str());
+        for (name, value) in headers {
+            for part in [name.as_str().as_bytes(), b": ", value.as_bytes(), b"\n"] {
+                out.extend_from_slice(part);
+            }
+        }
+        if self.body.is_empty() {
+            out.extend_from_slice(b"body");
+        } else if is_printable(&self.body) {
+            out.extend_from_slice(b"body text ");
+            out.extend_from_slice(&self.body);
+        } else {
+            out.extend_from_slice(b"body hex ");
+            put_hex(out, &self.body);
+        }
+        out.push(b'\n');
+    }
+}
+
+const PLAIN_TEXT: &str = "text/plain; charset=utf-8";
+
+impl From<Refusal> for Response {
+    fn from(refusal: Refusal) -> Self {
+        let text = match refusal.text {
+            Cow::Borrowed(text) => Bytes::from_static(text.as_bytes()),
+            Cow::Owned(text) => text.into(),
+        };
+        Response::new(refusal.status, PLAIN_TEXT, text)
+    }
+}
+
+/// Whether all bytes are printable ASCII, by blocks without a branch inside.
+fn is_printable(body: &[u8]) -> bool {
+    body.chunks(256).all(|block| {
+        let printable = block.iter().map(|byte| matches!(byte, 0x20..=0x7E));
+        printable.fold(true, |so_far, is_printable| so_far & is_printable)
+    })
+}
+
+/// Adds two lower-case hexadecimal digits a byte.
+fn put_hex(out: &mut Vec<u8>, bytes: &[u8]) {
+    let digit = |nibble| b"0123456789abcdef"[usize::from(nibble)];
+    out.extend(
+        bytes
+            .iter()
+            .flat_map(|byte| [digit(byte >> 4), digit(byte & 15)]),
+    );
+}

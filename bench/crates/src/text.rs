@@ -1,0 +1,32 @@
+//! Numbers and cuts of bytes.
+
+/// The number that these bytes write in digits alone, where it is at most `most`.
+pub fn number(digits: &[u8], most: u64) -> Option<u64> {
+    let (first, rest) = digits.split_first()?;
+    let digit = |byte: &u8| byte.is_ascii_digit().then(|| u64::from(byte - b'0'));
+    rest.iter()
+        .try_fold(digit(first)?, |value, byte| {
+            value.checked_mul(10)?.checked_add(digit(byte)?)
+        })
+        .filter(|value| *value <= most)
+}
+
+/// The word before the first space, and what stands behind it, which is empty where there is none.
+pub fn split_word(line: &[u8]) -> (&[u8], &[u8]) {
+    match line.iter().position(|byte| *byte == b' ') {
+        Some(at) => (&line[..at], &line[at + 1..]),
+        None => (line, b""),
+    }
+}
+
+/// Adds a number in decimal.
+pub fn put_number(out: &mut Vec<u8>, number: u64) {
+    out.extend_from_slice(itoa::Buffer::new().format(number).as_bytes());
+}
+
+/// Adds a word, a number behind it, and the end of the line.
+pub fn put_line(out: &mut Vec<u8>, word: &[u8], number: u64) {
+    out.extend_from_slice(word);
+    put_number(out, number);
+    out.push(b'\n');
+}
