@@ -2,12 +2,13 @@
 SCRIPT ?= examples/pieces.script
 PLAIN = bench/target/release/plain
 
-.PHONY: help run test rows gate prove check try lint fmt wrong-bodies costs graphs bench plain
+.PHONY: help run test rows faults gate prove check try lint fmt wrong-bodies costs graphs bench plain
 
 help:
 	@echo "make run SCRIPT=FILE      serves a script and prints the replies (default: $(SCRIPT))"
 	@echo "make test                 runs all tests, examples and rows, in minutes; it proves nothing"
 	@echo "make rows                 runs the program over the rows of examples/"
+	@echo "make faults               runs the program over rows with calls that fail, in turn; outside the gate"
 	@echo "make gate                 the gate: the same, and everything proved, in an hour or more"
 	@echo "make prove                proves and builds the program, and prints its path"
 	@echo "make check CRATE=NAME     proves a crate, and what it stands on, and says which crate it is at"
@@ -51,6 +52,9 @@ wrong-bodies:
 
 rows:
 	@tools/run-rows "$$(tools/program)"
+
+faults:
+	@tools/faults "$$(tools/program --failing)"
 
 costs:
 	@tools/gate-costs

@@ -13,9 +13,10 @@ def proved(crate):
     return os.path.join(TOP, "crates", crate, "out", crate)
 
 
-def unproved(crate, is_optimised):
-    """Where a program of this crate lies that is built without proof, with its `.sources` beside it."""
-    return os.path.join(TOP, "out", "unproved", "optimised" if is_optimised else "quick", crate)
+def unproved(crate, kind):
+    """Where a program of this crate lies that is built without proof, with its `.sources` beside it. The kinds are
+    `quick`, `optimised`, and `failing`, an optimised one some of whose calls may be made to fail."""
+    return os.path.join(TOP, "out", "unproved", kind, crate)
 
 
 def listed_crates():
@@ -69,6 +70,11 @@ def digest(crate=PROGRAM, parts=("src", "specs", "proofs")):
             content = opened.read()
         whole.update(f"{os.path.relpath(path, TOP)} {len(content)}\n".encode() + content)
     return whole.hexdigest()
+
+
+def file_digest(path):
+    with open(os.path.join(TOP, path), "rb") as opened:
+        return hashlib.sha256(opened.read()).hexdigest()
 
 
 def is_built_from(program, wanted):
