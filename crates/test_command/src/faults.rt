@@ -48,7 +48,7 @@ const RUNS: &[(&[&str], &str, Status, &str)] = &[
         &["serve"],
         "",
         Status::Usage,
-        "usage: serve --pool=N | generate SEED COUNT | replay SEED COUNT\n",
+        "usage: serve --pool=N | generate SEED COUNT | replay SEED COUNT | http1 --pool=N\n",
     ),
     (
         &["generate", "231", "1"],

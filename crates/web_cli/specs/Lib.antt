@@ -3,6 +3,7 @@ pub mod DemoExchanges
 pub mod DemoScripts
 pub mod LoadTexts
 pub mod Run
+pub mod ConnectionAnswers
 pub mod ScriptAnswers
 pub mod StatusCode
 pub mod WriteOrFault

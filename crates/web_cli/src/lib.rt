@@ -1,9 +1,10 @@
-//! The command of Rothveng: it reads a script, serves its exchanges and writes their replies; and
-//! it writes and serves scripts of its own.
+//! The command of Rothveng: it reads a script, serves its exchanges and writes their replies; it
+//! writes and serves scripts of its own; and it answers a connection of HTTP/1.1.
 //!
 //! What it stands on is re-exported here, so that a program needs this crate alone.
 #![tactic(auto)]
 
+mod connection;
 mod demo_flights;
 mod demo_worker;
 mod loads;

@@ -3,8 +3,10 @@ ghost use Rattle.std.specs.Prelude.{◌≡◌, List, ℕ, None, map, string_byte
 ghost use Rattle.cli_load.specs.declared.load.Load.{Load};
 ghost use Rattle.web_worker.specs.HandlerPromises.{SamePromises};
 ghost use Rattle.web_cli.specs.DemoExchanges.{demo_pool};
-ghost use Rattle.web_cli.specs.CommandWords.{IfUncalled, IsGenerate, IsReplay, IsServe};
+ghost use Rattle.web_cli.specs.CommandWords.{IfUncalled, IsConnect, IsGenerate, IsReplay, IsServe};
 ghost use Rattle.web_cli.specs.CommandWords.{command_of};
+ghost use Rattle.web_cli.specs.ConnectionAnswers.{AllAnswered, AreAnswers, AreDemoAnswers};
+ghost use Rattle.web_cli.specs.ConnectionAnswers.{ArePickedAnswers, ConnectionResult};
 ghost use Rattle.web_cli.specs.DemoScripts.{AppendsPickedCalls, ArePickedReplies};
 ghost use Rattle.web_cli.specs.DemoScripts.{IsDemoSummary, IsDemoText, IsPickedSummary};
 ghost use Rattle.web_cli.specs.LoadTexts.{IsSummary, load_script, replay_capacity};
@@ -12,20 +14,18 @@ ghost use Rattle.web_cli.specs.Run.{Headline, ReadFaultIsReported, RefusesWords,
 ghost use Rattle.web_cli.specs.Run.{TooLongIsReported, WriteFaultIsReported, WritesAlone};
 ghost use Rattle.web_cli.specs.ScriptAnswers.{AppendsScriptCalls, AreReplies};
 
+use crate::connection::connect;
 use crate::loads::{generate, replay};
 use crate::script_answer::{ScriptAnswer, answer_script};
 use crate::status::Status;
 use crate::words::{Command, USAGE, command_of};
-use crate::writing::write_or_fault;
+use crate::writing::{TOO_LONG, write_or_fault};
 use cli_io::{Input, Output, ReadWhole, read_whole};
 use demo_handler::{Demo, DemoHandler, Picked};
 use std::alloc::Global;
 use web_extract::FromRequest;
 use web_reply::Responder;
 use web_worker::{Handler, Serves};
-
-/// The text that is written where more bytes than the limit came.
-const TOO_LONG: &[u8] = b"line 0: too long\n";
 
 /// Reads a script, serves it with a pool of this capacity, and writes the replies.
 fn read_and_serve<I: Input, O: Output, Args: FromRequest<Demo>, H: Handler<Args>>(
@@ -133,6 +133,17 @@ where
         (⟦<H as Serves<Demo, Args>>⟧.setting handler.old (demo_pool replay_capacity))
         (H.calls handler.old) (H.calls handler.new) (load_script load)) result
         (I.state input.old) (I.state input.new) (O.state output.old) (O.state output.new) }
+    ensures connects { (capacity : ℕ) → IsConnect (map string_bytes words.now) capacity
+        → (came : List ℕ) × ConnectionResult
+        (AreAnswers Args.means Args.Error.converts (H.answers handler.old) H.Output.responds
+        capacity)
+        (handler.new ≡ handler.old) result came
+        (I.state input.old) (I.state input.new) (O.state output.old) (O.state output.new) }
+    ensures answered { (capacity : ℕ) → IsConnect (map string_bytes words.now) capacity
+        → AllAnswered
+        (AreAnswers Args.means Args.Error.converts (H.answers handler.old) H.Output.responds
+        capacity) result
+        (I.state input.old) (I.state input.new) (O.state output.old) (O.state output.new) }
     ensures read_fault { ReadFaultIsReported result (I.state input.old) (I.state input.new) }
     ensures write_fault { WriteFaultIsReported result (O.state output.old) (O.state output.new) }
     ensures too_long { TooLongIsReported result (I.state input.old) (I.state input.new) }
@@ -143,6 +154,9 @@ where
         }
         Some(Command::Generate(load)) => generate(alloc, output, load),
         Some(Command::Replay(load)) => replay::<O, Args, H>(alloc, output, handler, load),
+        Some(Command::Connect(capacity)) => {
+            connect::<I, O, Args, H>(alloc, capacity, input, output, handler)
+        }
         None => write_or_fault(output, USAGE, Status::Usage),
     }
 }
@@ -160,10 +174,16 @@ where
 /// many replies have each status, and how many records a pool of capacity 128 made. Both read
 /// nothing.
 ///
+/// `http1 --pool=N` reads at most 16,777,216 bytes of a connection of HTTP/1.1 from `input`,
+/// answers its messages by `handler`, with a pool that keeps up to N records, and writes the
+/// answers to `output` (see [`web_http1::serve_connection`]). A head has at most 16,384 bytes and
+/// 64 fields, and a body at most 1,048,576 bytes. The status is that of a whole answer also where a
+/// message is refused.
+///
 /// Any other words write the usage.
 ///
 /// A script that is refused writes `line N: reason` of its first faulty line, numbered from 1, or
-/// `line 0: too long` where more bytes came.
+/// `line 0: too long` where more bytes came; so do more bytes of a connection.
 ///
 /// The status says what was read and written: see [`Status`].
 pub fn run<I: Input, O: Output, H: Handler<Picked>>(
@@ -199,6 +219,14 @@ where
         (IsPickedSummary (H.answers handler.old) H.Output.responds (load_script load))
         (AppendsPickedCalls (H.calls handler.old) (H.calls handler.new) (load_script load)) result
         (I.state input.old) (I.state input.new) (O.state output.old) (O.state output.new) }
+    ensures connects { (capacity : ℕ) → IsConnect (map string_bytes words.now) capacity
+        → (came : List ℕ) × ConnectionResult
+        (ArePickedAnswers (H.answers handler.old) H.Output.responds capacity)
+        (handler.new ≡ handler.old) result came
+        (I.state input.old) (I.state input.new) (O.state output.old) (O.state output.new) }
+    ensures answered { (capacity : ℕ) → IsConnect (map string_bytes words.now) capacity
+        → AllAnswered (ArePickedAnswers (H.answers handler.old) H.Output.responds capacity) result
+        (I.state input.old) (I.state input.new) (O.state output.old) (O.state output.new) }
     ensures read_fault { ReadFaultIsReported result (I.state input.old) (I.state input.new) }
     ensures write_fault { WriteFaultIsReported result (O.state output.old) (O.state output.new) }
     ensures too_long { TooLongIsReported result (I.state input.old) (I.state input.new) }
@@ -227,6 +255,12 @@ pub fn run_program<I: Input, O: Output>(
         (I.state input.old) (I.state input.new) (O.state output.old) (O.state output.new) }
     ensures replays { (load : Load) → IsReplay (map string_bytes words.now) load → WritesAlone
         (IsDemoSummary (load_script load)) ⊤ result
+        (I.state input.old) (I.state input.new) (O.state output.old) (O.state output.new) }
+    ensures connects { (capacity : ℕ) → IsConnect (map string_bytes words.now) capacity
+        → (came : List ℕ) × ConnectionResult (AreDemoAnswers capacity) ⊤ result came
+        (I.state input.old) (I.state input.new) (O.state output.old) (O.state output.new) }
+    ensures answered { (capacity : ℕ) → IsConnect (map string_bytes words.now) capacity
+        → AllAnswered (AreDemoAnswers capacity) result
         (I.state input.old) (I.state input.new) (O.state output.old) (O.state output.new) }
     ensures read_fault { ReadFaultIsReported result (I.state input.old) (I.state input.new) }
     ensures write_fault { WriteFaultIsReported result (O.state output.old) (O.state output.new) }

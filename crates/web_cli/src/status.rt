@@ -5,10 +5,11 @@ ghost use Rattle.web_cli.specs.StatusCode.{status_code};
 /// How a run of the command ends.
 #[derive(Clone, Copy, Debug, PartialEq, Eq)]
 pub enum Status {
-    /// The whole text was written: the replies to a script, the script of a load, or the summary.
+    /// The whole text was written: the replies to a script, the script of a load, the summary, or
+    /// the answers of a connection.
     Done,
     /// The script was refused, and `line N: reason` was written: a line is faulty, or it is longer
-    /// than `SCRIPT_LIMIT`.
+    /// than `SCRIPT_LIMIT`. So is a connection of more bytes.
     Script,
     /// A read failed. Nothing was written.
     ReadFault,

@@ -7,12 +7,12 @@ use web_texts::{cut_at, read_digits};
 
 /// The text that is written where the arguments are no command.
 pub(crate) const USAGE: &[u8] =
-    b"usage: serve --pool=N | generate SEED COUNT | replay SEED COUNT\n";
+    b"usage: serve --pool=N | generate SEED COUNT | replay SEED COUNT | http1 --pool=N\n";
 
 /// The most exchanges of a load.
 const MAX_COUNT: u64 = 50_000;
 
-/// The most records that the pool of `serve` keeps.
+/// The most records that the pool of `serve` and of `http1` keeps.
 const MAX_CAPACITY: u64 = 1024;
 
 /// A command, as its arguments ask for it.
@@ -24,6 +24,9 @@ pub enum Command {
     Generate(Load),
     /// `replay SEED COUNT`: serves that script, and writes a summary.
     Replay(Load),
+    /// `http1 --pool=N`: reads the bytes of a connection of HTTP/1.1 and writes its answers, with a
+    /// pool that keeps up to N records.
+    Connect(u16),
 }
 
 /// How many records the pool keeps: `--pool=` and 0 to 1024, in digits.
@@ -68,6 +71,9 @@ pub fn command_of(words: &[String]) -> Option<Command>
     match words {
         [word, pool] if word.as_str() == "serve" => {
             Some(Command::Serve(capacity_of(pool.as_str())?))
+        }
+        [word, pool] if word.as_str() == "http1" => {
+            Some(Command::Connect(capacity_of(pool.as_str())?))
         }
         [word, seed, count] if word.as_str() == "generate" => {
             Some(Command::Generate(load_of(seed.as_str(), count.as_str())?))

@@ -69,3 +69,9 @@ returns-clause-replays g c = λ load words.
     c.run_over.result (g.I.Input.state c.args.input.now) (g.I.Input.state c.run_over.new.input)
     (g.O.Output.state c.args.output.now) (g.O.Output.state c.run_over.new.output)
     (c.run_over.ensures.replays load words)
+
+pub returns-clause-connects : goal.returns-clause-connects
+returns-clause-connects g c = λ capacity words. c.run_over.ensures.connects capacity words
+
+pub returns-clause-answered : goal.returns-clause-answered
+returns-clause-answered g c = λ capacity words. c.run_over.ensures.answered capacity words

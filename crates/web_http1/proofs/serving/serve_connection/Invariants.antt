@@ -1,0 +1,26 @@
+use Rattle.std.proofs.Common.{◌≡◌, ◌+◌, ◌-◌, ◌≤◌, List, length, None, Some}
+use Rattle.web_request.specs.declared.source.Mark.{Mark}
+use Rattle.web_worker.specs.HandlerPromises.{SamePromises}
+use Rattle.web_worker.specs.PlanPools.{with_records}
+use Rattle.web_worker.specs.Setting.{setting_of}
+use Rattle.web_http1.specs.Connections.{WaitsForMore}
+use Rattle.web_http1.proofs.ServingLemmas.{SoFar}
+use Rattle.web_http1.proofs.serving.serve_connection.Given as goal
+
+abbrev pub invariant-turns : goal.invariant-turns
+invariant-turns g l = record {
+  ready : g.H.Handler.ready l.handler;
+  same_promises : SamePromises (g.H.Handler.answers l.fn.handler) (g.H.Handler.answers l.handler);
+  unended : l.connection.ended ≡ None;
+  limits_are : l.connection.limits ≡ l.fn.limits;
+  waits : WaitsForMore l.connection;
+  given : (g.S.Source.feed l.fn.source).given ≤ (g.S.Source.feed l.source).given;
+  made : l.worker.made + length l.connection.left ≤ l.fn.worker.made + ((g.S.Source.feed l.source).given - (g.S.Source.feed l.fn.source).given);
+  kept : l.worker ≡ with_records l.worker.serials l.worker.made l.fn.worker;
+  faults : (g.S.Source.feed l.source).faults ≡ (g.S.Source.feed l.fn.source).faults;
+  so_far : (marks : List Mark) → (g.S.Source.feed l.fn.source).marks ≡ Some marks
+      → SoFar (setting_of g.Args.FromRequest.means g.Args.Error.Into.converts (g.H.Handler.answers l.fn.handler) g.H.Output.Responder.responds g.A.Source.Source.feed g.Args.Future.Poll.gives g.H.Future.Poll.gives l.fn.worker) l.fn.limits marks (g.S.Source.feed l.source) l.connection l.fn.out.items l.out.items;
+}
+
+abbrev pub decreases-turns : goal.decreases-turns
+decreases-turns g l = (g.S.Source.feed l.source).answers

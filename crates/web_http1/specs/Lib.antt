@@ -1,0 +1,7 @@
+pub mod ReplyBytes
+pub mod MessageExchanges
+pub mod Answers
+pub mod Connections
+pub mod ConnectionSteps
+pub mod Polls
+pub mod Serving

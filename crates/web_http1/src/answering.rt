@@ -1,0 +1,283 @@
+//! The replies to the messages of bytes that came.
+ghost use Rattle.std.specs.Prelude.{◌≡◌, ◌+◌, ◌++◌, ◌-◌, ◌<◌, ◌≤◌, ◌^◌, OnErr, OnOk, drop, length};
+ghost use Rattle.std.specs.Prelude.{List, ℕ};
+ghost use Rattle.web_worker.specs.HandlerPromises.{SamePromises};
+ghost use Rattle.web_worker.specs.PlanPools.{with_records};
+ghost use Rattle.web_messages.specs.Progress.{IsProgress, IsSettled, MayStand};
+ghost use Rattle.web_messages.specs.declared.limits.Limits.{Limits as LimitsOf};
+ghost use Rattle.web_http1.specs.Connections.{AllOpen, FinishesWith};
+ghost use Rattle.web_http1.specs.ConnectionSteps.{IsAnsweredRest, RefusedWith};
+ghost use Rattle.web_http1.specs.ConnectionSteps.{IsKnown, IsReplied, IsServed, IsTurned};
+ghost use Rattle.web_http1.specs.ConnectionSteps.{open_left, turned_left};
+ghost use Rattle.web_http1.specs.ReplyBytes.{sent_bytes};
+
+use crate::closing::{asks_end, is_head};
+use crate::ended::Ended;
+use crate::exchange::exchange_of;
+use crate::polled::reply_to;
+use crate::reply::{Sent, put_reply, refusal, sent_reply};
+use std::alloc::Global;
+use web_extract::FromRequest;
+use web_messages::{Limits, Message, Next, Progress, Step, Wrong, read_last, read_on};
+use web_reply::Responder;
+use web_request::App;
+use web_texts::NoMemory;
+use web_worker::{Handler, Serves, Worker};
+
+/// What one step over the bytes that are left came to.
+#[derive(Drop)]
+pub(crate) enum Turned {
+    /// The reply to a message of so many bytes was written.
+    Goes(usize),
+    /// More bytes have to come.
+    Waits(Progress),
+    /// The connection ended.
+    Ended(Ended),
+}
+
+/// Whether a connection is open behind its answers.
+#[derive(Drop)]
+pub(crate) enum Left {
+    /// So much of the next message was read.
+    Open(Progress),
+    /// It ended.
+    Ended(Ended),
+}
+
+/// What the answers to the bytes of a buffer came to.
+#[derive(Drop)]
+pub(crate) struct AnsweredRest {
+    /// The bytes before this place were answered.
+    pub(crate) place: usize,
+    pub(crate) left: Left,
+}
+
+/// Writes a reply: all of it, or nothing where an allocation failed.
+fn write_reply(
+    alloc: Global,
+    room: &mut Vec<u8>,
+    is_head: bool,
+    reply: &Sent,
+    out: &mut Vec<u8>,
+) -> Result<(), NoMemory>
+    ensures ok { OnOk result (out.new.items ≡ out.old.items ++ sent_bytes is_head reply.now) }
+    ensures err { OnErr result (out.new.items ≡ out.old.items) }
+{
+    room.clear();
+    put_reply(alloc, room, is_head, reply)?;
+    Ok(out.extend_from_slice(room.as_slice())?)
+}
+
+/// Writes the reply to a message, and returns whether it closes the connection.
+fn answer_message<A: App, Args: FromRequest<A>, H: Handler<Args>>(
+    alloc: Global,
+    worker: &mut Worker<A>,
+    handler: &mut H,
+    room: &mut Vec<u8>,
+    message: Message,
+    out: &mut Vec<u8>,
+) -> Result<bool, NoMemory>
+where
+    H::Output: Responder<A>,
+    requires ready { H.ready handler.old }
+    requires room { worker.old.made + 1 < 2 ^ 64 }
+    ensures ready { H.ready handler.new }
+    ensures same_promises { SamePromises (H.answers handler.old) (H.answers handler.new) }
+    ensures made { worker.new.made ≤ worker.old.made + 1 }
+    ensures kept { worker.new ≡ with_records worker.new.serials worker.new.made worker.old }
+    ensures reply { IsReplied (⟦<H as Serves<A, Args>>⟧.setting handler.old worker.old)
+        message out.old.items out.new.items result }
+{
+    let asked = asks_end(&message);
+    let is_head = is_head(&message);
+    let response = reply_to(alloc, worker, handler, exchange_of(alloc, message))?;
+    let reply = sent_reply(alloc, asked, response)?;
+    write_reply(alloc, room, is_head, &reply, out)?;
+    Ok(reply.closes())
+}
+
+/// Writes the reply of a refusal. Returns how the connection ended.
+fn refuse(alloc: Global, room: &mut Vec<u8>, wrong: Wrong, out: &mut Vec<u8>) -> Ended
+    ensures { RefusedWith wrong result out.old.items out.new.items }
+{
+    let reply = refusal(alloc, wrong);
+    match write_reply(alloc, room, false, &reply, out) {
+        Ok(()) => Ended::Refused(wrong),
+        Err(NoMemory) => Ended::NoMemory,
+    }
+}
+
+/// Writes the reply to the next message, of so many bytes.
+fn serve_message<A: App, Args: FromRequest<A>, H: Handler<Args>>(
+    alloc: Global,
+    worker: &mut Worker<A>,
+    handler: &mut H,
+    room: &mut Vec<u8>,
+    message: Message,
+    out: &mut Vec<u8>,
+) -> Turned
+where
+    H::Output: Responder<A>,
+    requires ready { H.ready handler.old }
+    requires room { worker.old.made + 1 < 2 ^ 64 }
+    ensures ready { H.ready handler.new }
+    ensures same_promises { SamePromises (H.answers handler.old) (H.answers handler.new) }
+    ensures made { worker.new.made ≤ worker.old.made + 1 }
+    ensures kept { worker.new ≡ with_records worker.new.serials worker.new.made worker.old }
+    ensures turned { IsServed (⟦<H as Serves<A, Args>>⟧.setting handler.old worker.old)
+        message out.old.items out.new.items result }
+{
+    let used = message.used;
+    match answer_message(alloc, worker, handler, room, message, out) {
+        Ok(true) => Turned::Ended(Ended::Closed),
+        Ok(false) => Turned::Goes(used),
+        Err(NoMemory) => Turned::Ended(Ended::NoMemory),
+    }
+}
+
+/// Writes what is next, which no byte that follows changes.
+fn serve_known<A: App, Args: FromRequest<A>, H: Handler<Args>>(
+    alloc: Global,
+    worker: &mut Worker<A>,
+    handler: &mut H,
+    next: Next,
+    room: &mut Vec<u8>,
+    out: &mut Vec<u8>,
+) -> Turned
+where
+    H::Output: Responder<A>,
+    requires ready { H.ready handler.old }
+    requires room { worker.old.made + 1 < 2 ^ 64 }
+    ensures ready { H.ready handler.new }
+    ensures same_promises { SamePromises (H.answers handler.old) (H.answers handler.new) }
+    ensures made { worker.new.made ≤ worker.old.made + 1 }
+    ensures kept { worker.new ≡ with_records worker.new.serials worker.new.made worker.old }
+    ensures known { IsKnown result }
+    ensures turned { (limits : LimitsOf) (rest : List ℕ) → MayStand next
+        → IsSettled limits rest next
+        → IsTurned (⟦<H as Serves<A, Args>>⟧.setting handler.old worker.old)
+        limits rest out.old.items out.new.items result }
+{
+    match next {
+        Next::Message(message) => serve_message(alloc, worker, handler, room, message, out),
+        Next::Refused(wrong) => Turned::Ended(refuse(alloc, room, wrong, out)),
+        Next::Closed => Turned::Ended(Ended::Closed),
+    }
+}
+
+/// Writes what is next at the front of the bytes, where it is known.
+fn serve_next<A: App, Args: FromRequest<A>, H: Handler<Args>>(
+    alloc: Global,
+    worker: &mut Worker<A>,
+    handler: &mut H,
+    limits: &Limits,
+    rest: &[u8],
+    progress: Progress,
+    room: &mut Vec<u8>,
+    out: &mut Vec<u8>,
+) -> Turned
+where
+    H::Output: Responder<A>,
+    requires progress { IsProgress limits.now rest.now progress }
+    requires ready { H.ready handler.old }
+    requires room { worker.old.made + length rest.now < 2 ^ 64 }
+    ensures ready { H.ready handler.new }
+    ensures same_promises { SamePromises (H.answers handler.old) (H.answers handler.new) }
+    ensures made { worker.new.made + turned_left result (length rest.now)
+        ≤ worker.old.made + length rest.now }
+    ensures kept { worker.new ≡ with_records worker.new.serials worker.new.made worker.old }
+    ensures turned { IsTurned (⟦<H as Serves<A, Args>>⟧.setting handler.old worker.old)
+        limits.now rest.now out.old.items out.new.items result }
+{
+    match read_on(alloc, limits, rest, progress) {
+        Ok(step) => match step {
+            Step::Next(next) => serve_known(alloc, worker, handler, next, room, out),
+            Step::Unfinished(progress) => Turned::Waits(progress),
+        },
+        Err(_) => Turned::Ended(Ended::NoMemory),
+    }
+}
+
+/// Writes the reply to each message that is whole, from a place in the buffer on.
+pub(crate) fn answer_rest<A: App, Args: FromRequest<A>, H: Handler<Args>>(
+    alloc: Global,
+    worker: &mut Worker<A>,
+    handler: &mut H,
+    limits: &Limits,
+    buffer: &[u8],
+    start: usize,
+    progress: Progress,
+    room: &mut Vec<u8>,
+    out: &mut Vec<u8>,
+) -> AnsweredRest
+where
+    H::Output: Responder<A>,
+    requires start { start ≤ length buffer.now }
+    requires progress { IsProgress limits.now (drop start buffer.now) progress }
+    requires ready { H.ready handler.old }
+    requires room { worker.old.made + (length buffer.now - start) < 2 ^ 64 }
+    ensures ready { H.ready handler.new }
+    ensures same_promises { SamePromises (H.answers handler.old) (H.answers handler.new) }
+    ensures place { (start ≤ result.place) × (result.place ≤ length buffer.now) }
+    ensures made { worker.new.made + open_left result.left (length buffer.now - result.place)
+        ≤ worker.old.made + (length buffer.now - start) }
+    ensures kept { worker.new ≡ with_records worker.new.serials worker.new.made worker.old }
+    ensures left { IsAnsweredRest (⟦<H as Serves<A, Args>>⟧.setting handler.old worker.old)
+        limits.now (drop start buffer.now) (drop result.place buffer.now)
+        out.old.items out.new.items result.left }
+{
+    let mut place = start;
+    let mut progress = progress;
+    'messages: loop {
+        match serve_next(
+            alloc,
+            worker,
+            handler,
+            limits,
+            &buffer[place..],
+            progress,
+            room,
+            out,
+        ) {
+            Turned::Goes(used) => {
+                place += used;
+                progress = Progress::start();
+            }
+            Turned::Waits(progress) => {
+                return AnsweredRest {
+                    place,
+                    left: Left::Open(progress),
+                };
+            }
+            Turned::Ended(ended) => {
+                return AnsweredRest {
+                    place,
+                    left: Left::Ended(ended),
+                };
+            }
+        }
+    }
+}
+
+/// Writes what is due for the bytes that are left, where no byte follows and no message is next.
+pub(crate) fn finish_rest(
+    alloc: Global,
+    limits: &Limits,
+    rest: &[u8],
+    progress: Progress,
+    room: &mut Vec<u8>,
+    out: &mut Vec<u8>,
+) -> Ended
+    requires progress { IsProgress limits.now rest.now progress }
+    requires waits { AllOpen limits.now rest.now }
+    ensures { FinishesWith limits.now rest.now result out.old.items out.new.items }
+{
+    match read_last(alloc, limits, rest, progress) {
+        Ok(next) => match next {
+            Next::Closed => Ended::Closed,
+            Next::Refused(wrong) => refuse(alloc, room, wrong, out),
+            Next::Message(_) => unreachable!(),
+        },
+        Err(_) => Ended::NoMemory,
+    }
+}
