@@ -5,3 +5,4 @@ pub mod Bookings
 pub mod Examples
 pub mod Relays
 pub mod SecondPoll
+pub mod Uploads

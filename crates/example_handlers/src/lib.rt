@@ -7,6 +7,7 @@
 //! (`booking`), a layer that configures how (`booking_layer`), its handlers (`booking_handlers`),
 //! the handler of a proxy (`relay`), and middlewares: one that asks for a host (`served_host`), and
 //! one that rewrites a request and keeps it as it came (`rewritten_request`).
+//! Forms with files are taken by two handlers (`upload`).
 #![tactic(auto)]
 
 mod booking;
@@ -21,6 +22,7 @@ mod rewritten_request;
 mod second_poll;
 mod served_host;
 mod serving;
+mod upload;
 
 pub use booking::Booking;
 pub use booking_handlers::{serve_form_bookings, serve_json_bookings};
@@ -34,3 +36,4 @@ pub use rewritten_request::rewrite_request;
 pub use second_poll::{Greeter, SecondPoll};
 pub use served_host::is_served;
 pub use serving::{Outcomes, serve_echo, serve_greeting};
+pub use upload::{PartByPart, PartSizes, Upload};
