@@ -12,7 +12,7 @@ help:
 	@echo "make gate                 the gate: the same, and everything proved, in an hour or more"
 	@echo "make prove                proves and builds the program, and prints its path"
 	@echo "make check CRATE=NAME     proves a crate, and what it stands on, and says which crate it is at"
-	@echo "make try CRATE=NAME       runs the tests of a crate without proof"
+	@echo "make try CRATE=NAME       runs a program without proof, or the tests of a library; of a program with WORDS=--test"
 	@echo "make lint                 checks layout, columns and the pages, in seconds"
 	@echo "make fmt                  lays out the sources of all crates"
 	@echo "make wrong-bodies CRATE=N tries all wrong bodies of a crate that was checked"
@@ -38,7 +38,7 @@ check:
 	@tools/prove $(or $(CRATE),nothing)
 
 try:
-	@cd crates/$(CRATE) && rt try $(CRATE) --test
+	@tools/try $(or $(CRATE),nothing) $(WORDS)
 
 lint:
 	@tools/check-sources

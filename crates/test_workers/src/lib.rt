@@ -20,4 +20,6 @@ mod replies;
 #[cfg(test)]
 mod requests;
 #[cfg(test)]
+mod testing;
+#[cfg(test)]
 mod workers;

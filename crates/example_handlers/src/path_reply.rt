@@ -1,0 +1,50 @@
+//! A handler whose reply is promised: with the path of its request.
+ghost use Rattle.std.specs.Prelude.{◌≡◌, IfOk, IsSome};
+ghost use Rattle.web_body.specs.Payload.{payload_feed};
+ghost use Rattle.web_reply.specs.Responders.{text_reply};
+ghost use Rattle.web_request.specs.Head.{head_path};
+ghost use Rattle.web_worker.specs.Outcomes.{OutcomeMeets, outcome_view};
+
+use crate::request_path::RequestPath;
+use std::alloc::Global;
+use web_extract::Ready;
+use web_request::{App, NoMemory, Text};
+use web_testing::serve_request;
+use web_worker::{Exchange, Handler, Outcome};
+
+/// Responds with the path of the request.
+#[derive(Drop)]
+pub struct PathReply;
+
+impl Handler<RequestPath> for PathReply {
+    ghost use Rattle.std.specs.Prelude.{◌≡◌, None};
+
+    type Output = Text;
+
+    type Future = Ready<Text>;
+
+    ghost answers = { λ h path n y. (n ≡ 0) × (y ≡ path.0) };
+
+    ghost calls = { λ h. None };
+
+    fn call(&mut self, _alloc: Global, path: RequestPath) -> Result<Ready<Text>, NoMemory> {
+        Ok(Ready::new(path.0))
+    }
+}
+
+/// Serves one request by it. The source of its body must state its marks.
+///
+/// The outcome is a reply with status 200 and the path as a plain text, unless an allocation fails.
+pub fn serve_path<A: App>(
+    alloc: Global,
+    root: A::Layer,
+    exchange: Exchange<A>,
+) -> Result<Outcome<A>, NoMemory>
+    requires root { A.Layer.ready root }
+    requires told { IsSome (payload_feed A.Source.feed exchange.body).marks }
+    ensures { IfOk result (λ o. OutcomeMeets
+        (λ reply. reply ≡ text_reply (head_path exchange.parts.head))
+        (outcome_view A.Source.feed o)) }
+{
+    serve_request(alloc, root, exchange, &mut PathReply)
+}

@@ -1,0 +1,152 @@
+//! A shop that serves three orders and prints the replies: the application that the page
+//! `docs/FIRST-APPLICATION.md` builds.
+#![tactic(auto)]
+
+ghost use Rattle.std.specs.Prelude.{◌≡◌, ◌+◌, ◌<◌, ◌^◌, length, IfOk};
+
+mod error;
+mod handler;
+mod item;
+mod layer;
+mod order;
+#[cfg(test)]
+mod tests;
+
+use crate::error::replied;
+use crate::handler::{Answer, OrderArguments, Reply, take_order};
+use crate::layer::{Shop, ShopLayer};
+use anyhow::Result;
+use bytes::Bytes;
+use http::{Method, Version};
+use http_header::{ACCEPT_LANGUAGE, CONTENT_TYPE, HeaderMap, HeaderValue, SERVER};
+use http_uri::Uri;
+use std::alloc::Global;
+use std::rc::Rc;
+use std::str;
+use web_body::{Mark, Marks, Payload};
+use web_extract::Ready;
+use web_reply::BoxBody;
+use web_request::{AppConfig, IpAddr, NoMemory, RequestHead, SocketAddr, Text};
+use web_worker::{Exchange, FnHandler, Outcome, Worker, serve_all};
+
+/// The most bytes of an item.
+const LIMIT: usize = 200;
+
+/// A worker, which keeps the record of one request for the next.
+fn new_worker(alloc: Global) -> Result<Worker<Shop>, NoMemory>
+    ensures { IfOk result (λ worker. worker.made ≡ 0) }
+{
+    let ip = IpAddr::V4([127, 0, 0, 1]);
+    let config = AppConfig {
+        host: Text::of(alloc, "localhost:8080")?,
+        secure: false,
+        local_addr: SocketAddr { ip, port: 8080 },
+    };
+    Worker::new(alloc, Rc::new(alloc, ShopLayer::new(LIMIT))?, config, 1)
+}
+
+/// A POST request for this target, with a body that is JSON.
+fn new_exchange(
+    alloc: Global,
+    target: &'static str,
+    body: Payload<Marks>,
+) -> Result<Exchange<Shop>> {
+    let mut headers = HeaderMap::new(alloc);
+    headers.insert(CONTENT_TYPE, HeaderValue::from_static("application/json"))?;
+    headers.insert(ACCEPT_LANGUAGE, HeaderValue::from_static("de, en;q=0.5"))?;
+    let head = RequestHead {
+        uri: Uri::from_static(target)?,
+        method: Method::POST,
+        version: Version::HTTP_11,
+        headers,
+        peer_addr: None,
+    };
+    Ok(Exchange {
+        head,
+        params: Vec::new(alloc),
+        layers: Vec::new(alloc),
+        conn: None,
+        local: None,
+        body,
+    })
+}
+
+/// An item in one piece.
+const TEA: &[u8] = b"{\"name\":\"tea\",\"price\":{\"cents\":250,\"currency\":\"EUR\"}}";
+
+fn whole_item() -> Payload<Marks> {
+    Payload::Whole(Bytes::from_static(TEA))
+}
+
+/// An item in two pieces, with a stall between.
+fn slow_item(alloc: Global) -> Result<Payload<Marks>> {
+    let marks = vec![in alloc;
+        Mark::Piece(Bytes::from_static(b"{\"name\":\"tea\",\"tags\":[\"hot\"],")),
+        Mark::Stall,
+        Mark::Piece(Bytes::from_static(b"\"price\":{\"cents\":250,\"currency\":\"EUR\"}}")),
+    ]?;
+    Ok(Payload::Stream(Marks::new(marks)))
+}
+
+/// The exchange with a limit of its own for its JSON body, in bytes.
+fn limited(alloc: Global, exchange: Exchange<Shop>, limit: usize) -> Result<Exchange<Shop>> {
+    let mut exchange = exchange;
+    exchange
+        .layers
+        .push(Rc::new(alloc, ShopLayer::new(limit))?)?;
+    Ok(exchange)
+}
+
+/// Serves orders by a plan.
+fn serve_orders(
+    alloc: Global,
+    worker: &mut Worker<Shop>,
+    exchanges: Vec<Exchange<Shop>>,
+    plan: &[usize],
+) -> Result<Vec<Outcome<Shop>>, NoMemory>
+    requires { worker.old.made + length exchanges.items < 2 ^ 64 }
+{
+    let mut handler = FnHandler(|arguments: OrderArguments| -> Result<Answer, NoMemory> {
+        Ok(Ready::new(replied(alloc, take_order(alloc, arguments))?))
+    });
+    serve_all(alloc, worker, exchanges, plan, &mut handler).map_err(|_| NoMemory)
+}
+
+/// Adds a header to a reply, also to one that refuses a request.
+fn add_server(reply: &mut Reply) -> Result<()> {
+    let value = HeaderValue::from_static("shop");
+    reply.headers_mut().insert(SERVER, value)?;
+    Ok(())
+}
+
+fn print_reply(rt: &impl Print, reply: &Reply) -> Result<()> {
+    println!(rt; "{}", reply.status())?;
+    for (name, value) in reply.headers().iter() {
+        println!(rt; "{name}: {}", value.to_str().unwrap_or("(no text)"))?;
+    }
+    if let BoxBody::Bytes(bytes) = reply.body() {
+        let text = str::from_utf8(bytes.as_slice()).unwrap_or("(no text)");
+        println!(rt; "{text}")?;
+    }
+    Ok(())
+}
+
+fn main(rt: HostRuntime) -> Result<()> {
+    let alloc = rt.alloc();
+    let first = new_exchange(alloc, "/orders?count=2", slow_item(alloc)?)?;
+    let second = new_exchange(alloc, "/orders?count=11", whole_item())?;
+    let third = new_exchange(alloc, "/orders", whole_item())?;
+    let exchanges = vec![in alloc; first, second, limited(alloc, third, 10)?]?;
+    let mut worker = new_worker(alloc)?;
+    for outcome in serve_orders(alloc, &mut worker, exchanges, &[0, 1, 2, 0])? {
+        match outcome {
+            Outcome::Reply(mut reply) => {
+                add_server(&mut reply)?;
+                print_reply(&rt, &reply)?;
+            }
+            Outcome::Unfinished => println!(rt; "unfinished")?,
+            Outcome::NoMemory => return Err(NoMemory.into()),
+        }
+    }
+    Ok(())
+}

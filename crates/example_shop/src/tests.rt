@@ -1,0 +1,53 @@
+//! Orders as the shop's handler takes them.
+use crate::error::replied;
+use crate::handler::{Answer, OrderArguments, take_order};
+use crate::layer::{Shop, ShopLayer};
+use std::alloc::Global;
+use std::process::Abort;
+use web_extract::Ready;
+use web_request::NoMemory;
+use web_testing::{TestReply, TestRequest, serve_request};
+use web_worker::FnHandler;
+
+/// The status and the text of the reply to an order.
+fn reply_text(rt: &impl Abort, alloc: Global, target: &str, item: &str) -> String {
+    let mut handler = FnHandler(|arguments: OrderArguments| -> Result<Answer, NoMemory> {
+        Ok(Ready::new(replied(alloc, take_order(alloc, arguments))?))
+    });
+    let request = TestRequest::post(alloc, target)
+        .header("content-type", "application/json")
+        .header("accept-language", "de")
+        .body(item.as_bytes());
+    let exchange = request.into_exchange::<Shop>().expect(rt, "a request");
+    let outcome = serve_request(alloc, ShopLayer::new(200), exchange, &mut handler);
+    let reply = TestReply::of(alloc, outcome.expect(rt, "memory")).expect(rt, "a reply");
+    let text = reply.text().unwrap_or("(no text)");
+    format!(in alloc; "{} {text}", reply.status().as_u16()).expect(rt, "memory")
+}
+
+const TEA: &str = "{\"name\":\"tea\",\"price\":{\"cents\":250,\"currency\":\"EUR\"}}";
+
+/// The target and the item of an order, and the reply to it.
+const ROWS: &[(&str, &str, &str)] = &[
+    (
+        "/orders",
+        TEA,
+        "201 {\"name\":\"tea\",\"note\":null,\
+         \"price\":{\"cents\":250,\"currency\":\"EUR\"},\"tags\":[]}",
+    ),
+    ("/orders?count=0", TEA, "422 order at least one"),
+    ("/orders?count=11", TEA, "409 only 10 left"),
+    (
+        "/orders?count=x",
+        TEA,
+        "400 Query deserialize error: count is no number",
+    ),
+];
+
+#[test]
+fn orders_are_taken_and_refused(rt: HostRuntime) {
+    for (target, item, expected) in ROWS {
+        let found = reply_text(&rt, rt.alloc(), *target, *item);
+        assert_eq!(rt; found.as_str(), *expected);
+    }
+}

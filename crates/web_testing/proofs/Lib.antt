@@ -1,0 +1,4 @@
+pub mod PromisedRepliesLemmas
+pub mod TestRepliesLemmas
+pub mod TestRequestsLemmas
+pub mod TestWorkersLemmas

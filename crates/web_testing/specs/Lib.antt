@@ -1,0 +1,4 @@
+pub mod TestErrors
+pub mod TestReplies
+pub mod TestRequests
+pub mod TestWorkers
