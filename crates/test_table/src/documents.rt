@@ -15,8 +15,8 @@ use web_docs::{Document, Store, answer_document};
 use web_entities::EntityTag;
 use web_reply::{HttpResponse, WholeBody};
 use web_request::{
-    AppConfig, HttpRequest, HttpRequestPool, IpAddr, NoData, PlainApp, RequestHead, RequestParts,
-    SocketAddr,
+    App, AppConfig, HttpRequest, HttpRequestPool, IpAddr, NoData, PlainApp, RequestHead,
+    RequestParts, SocketAddr,
 };
 use web_texts::{Mime, NoMemory, ReadText, Text};
 
@@ -96,16 +96,15 @@ fn reply_with(
     headers: HeaderMap<HeaderValue>,
 ) -> Answer {
     match head_of(alloc, request, headers) {
-        Some(head) => shown(alloc, answer_document(alloc, store, &started(alloc, head)?)?),
+        Some(head) => {
+            let reply = answered(alloc, store, head)?;
+            shown(alloc, &reply)
+        }
         None => text(alloc, "no request"),
     }
 }
 
-fn head_of(
-    alloc: Global,
-    request: &str,
-    headers: HeaderMap<HeaderValue>,
-) -> Option<RequestHead> {
+fn head_of(alloc: Global, request: &str, headers: HeaderMap<HeaderValue>) -> Option<RequestHead> {
     let (method, target) = request.split_once(' ')?;
     let method = Method::from_bytes(alloc, method.as_bytes()).ok()?;
     let uri = Uri::from_bytes(alloc, target.as_bytes()).ok()?;
@@ -118,7 +117,22 @@ fn head_of(
     })
 }
 
-fn started(alloc: Global, head: RequestHead) -> Result<HttpRequest<Site>, NoMemory> {
+fn answered(
+    alloc: Global,
+    store: &Store,
+    head: RequestHead,
+) -> Result<HttpResponse<WholeBody>, NoMemory> {
+    let mut pool = pool(alloc)?;
+    let req = started(alloc, &mut pool, head)?;
+    answer_document(alloc, store, &req)
+}
+
+/// The first request of a pool.
+fn started<A: App>(
+    alloc: Global,
+    pool: &mut HttpRequestPool<A>,
+    head: RequestHead,
+) -> Result<HttpRequest<A>, NoMemory> {
     let parts = RequestParts {
         head,
         params: Vec::new(alloc),
@@ -126,11 +140,13 @@ fn started(alloc: Global, head: RequestHead) -> Result<HttpRequest<Site>, NoMemo
         conn: None,
         local: None,
     };
-    let mut pool = pool(alloc)?;
     if pool.made() > 0 {
         return Err(NoMemory);
     }
-    pool.start(alloc, parts).map_err(|_| NoMemory)
+    match pool.start(alloc, parts) {
+        Ok(req) => Ok(req),
+        Err(_) => Err(NoMemory),
+    }
 }
 
 fn pool(alloc: Global) -> Result<HttpRequestPool<Site>, NoMemory> {
@@ -147,17 +163,26 @@ fn pool(alloc: Global) -> Result<HttpRequestPool<Site>, NoMemory> {
 }
 
 /// The status, the headers and the body.
-fn shown(alloc: Global, reply: HttpResponse<WholeBody>) -> Answer {
+fn shown(alloc: Global, reply: &HttpResponse<WholeBody>) -> Answer {
     let status = reply.status().as_u16();
     let mut shown = format!(in alloc; "{status}")?;
-    for (name, value) in reply.headers() {
-        add_part(&mut shown, name.as_str(), ": ", value.as_bytes())?;
-    }
-    match reply.body() {
-        WholeBody::Empty => add_part(&mut shown, "empty", "", b"")?,
-        WholeBody::Bytes(bytes) => add_part(&mut shown, "bytes ", "", bytes.as_slice())?,
-    }
+    add_headers(&mut shown, reply.headers())?;
+    add_body(&mut shown, reply.body())?;
     Ok(shown)
+}
+
+fn add_headers(shown: &mut String, headers: &HeaderMap<HeaderValue>) -> Result<(), NoMemory> {
+    for (name, value) in headers {
+        add_part(shown, name.as_str(), ": ", value.as_bytes())?;
+    }
+    Ok(())
+}
+
+fn add_body(shown: &mut String, body: &WholeBody) -> Result<(), NoMemory> {
+    match body {
+        WholeBody::Empty => add_part(shown, "empty", "", b""),
+        WholeBody::Bytes(bytes) => add_part(shown, "bytes ", "", bytes.as_slice()),
+    }
 }
 
 fn add_part(shown: &mut String, name: &str, between: &str, value: &[u8]) -> Result<(), NoMemory> {
@@ -249,14 +274,12 @@ fn add_reply(table: &mut Table, reply: String) -> Result<(), NoMemory> {
 
 /// The place of a reply among others, or their number where it is new.
 fn place_of(replies: &[String], reply: &str) -> usize {
-    let mut place = 0usize;
-    for other in replies {
+    for (place, other) in replies.iter().enumerate() {
         if other.as_str() == reply {
-            break;
+            return place;
         }
-        place += 1;
     }
-    place
+    replies.len()
 }
 
 fn letter_of(place: usize) -> char {
