@@ -21,7 +21,7 @@ use web_request::{
 use web_texts::{Mime, NoMemory, ReadText, Text};
 
 /// The application that is asked.
-type Site = PlainApp<Marks>;
+pub(crate) type Site = PlainApp<Marks>;
 
 /// What stands between the values of a condition.
 const OR: &str = " or ";
@@ -104,7 +104,11 @@ fn reply_with(
     }
 }
 
-fn head_of(alloc: Global, request: &str, headers: HeaderMap<HeaderValue>) -> Option<RequestHead> {
+pub(crate) fn head_of(
+    alloc: Global,
+    request: &str,
+    headers: HeaderMap<HeaderValue>,
+) -> Option<RequestHead> {
     let (method, target) = request.split_once(' ')?;
     let method = Method::from_bytes(alloc, method.as_bytes()).ok()?;
     let uri = Uri::from_bytes(alloc, target.as_bytes()).ok()?;
@@ -128,7 +132,7 @@ fn answered(
 }
 
 /// The first request of a pool.
-fn started<A: App>(
+pub(crate) fn started<A: App>(
     alloc: Global,
     pool: &mut HttpRequestPool<A>,
     head: RequestHead,
@@ -149,7 +153,7 @@ fn started<A: App>(
     }
 }
 
-fn pool(alloc: Global) -> Result<HttpRequestPool<Site>, NoMemory> {
+pub(crate) fn pool(alloc: Global) -> Result<HttpRequestPool<Site>, NoMemory> {
     let config = AppConfig {
         host: Text::of(alloc, "localhost:8080")?,
         secure: false,
@@ -163,7 +167,7 @@ fn pool(alloc: Global) -> Result<HttpRequestPool<Site>, NoMemory> {
 }
 
 /// The status, the headers and the body.
-fn shown(alloc: Global, reply: &HttpResponse<WholeBody>) -> Answer {
+pub(crate) fn shown(alloc: Global, reply: &HttpResponse<WholeBody>) -> Answer {
     let status = reply.status().as_u16();
     let mut shown = format!(in alloc; "{status}")?;
     add_headers(&mut shown, reply.headers())?;

@@ -1,5 +1,5 @@
 //! Rows of texts: what calls of `web_texts`, `web_headers`, `web_entities`, `web_negotiate`,
-//! `web_cookies`, `web_connection` and `web_docs` give for texts.
+//! `web_cookies`, `web_connection`, `web_docs` and `web_variants` give for texts.
 //!
 //! Standard input has a row a line, `CALL | FIELD | .. | WANTED`, which is written by hand; a line
 //! that is empty or begins with `#` is none. Each row whose call gives something else is printed
@@ -23,6 +23,7 @@ mod media_types;
 mod origins;
 mod rows;
 mod texts;
+mod variants;
 
 use std::io;
 use std::io::ErrorKind;
