@@ -75,7 +75,7 @@ fn document_with(
     })
 }
 
-fn body_of(alloc: Global, text: &str) -> Option<Bytes> {
+pub(crate) fn body_of(alloc: Global, text: &str) -> Option<Bytes> {
     let mut bytes = Vec::new(alloc);
     bytes.extend_from_slice(text.as_bytes()).ok()?;
     Bytes::from_vec(bytes).ok()
