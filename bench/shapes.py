@@ -5,19 +5,22 @@ import typing
 FORM = "header content-type application/x-www-form-urlencoded\n"
 JSON = "header content-type application/json\n"
 LIMITS = "layer payload=16777216 json=16777216 form=16777216\nparam limit 16777216\n"
-# The most headers that an exchange may have.
-MOST_HEADERS = 1024
+# The most headers that an exchange may have, and somewhat less than the bytes that a target may have.
+MOST_HEADERS, MOST_TARGET = 1_024, 65_000
+# The program of typed headers reads a value from its command line, of which one word is no longer than this.
+MOST_WORD = 131_000
 
 
 @dataclasses.dataclass(frozen=True)
 class Shape:
-    """A text that a reader reads. `text` makes one of about so many bytes. `header` is the typed header that reads it,
-    and empty where the text is a script."""
+    """A text that a reader reads. `text` makes one of about so many bytes, `most` at most. `header` is the typed header
+    that reads it, and empty where the text is a script."""
 
     reader: str
     name: str
     text: typing.Callable[[int], str]
     header: str = ""
+    most: int = 8_000_000
 
 
 def times(one, size):
@@ -45,13 +48,18 @@ def script(name, text):
     return Shape("script", name, text)
 
 
+def targeted(reader, name, target):
+    """A text within the target of an exchange."""
+    return Shape(reader, name, lambda size: exchange("", target(size)), most=MOST_TARGET)
+
+
 def served(reader, name, text, target, lines=""):
     """A text within one exchange of this target."""
     return Shape(reader, name, lambda size: exchange(lines + text(size), target))
 
 
 def typed(name, text, header):
-    return Shape(header, name, text, header)
+    return Shape(header, name, text, header, MOST_WORD)
 
 
 def body(reader, name, text, target, lines=""):
@@ -71,8 +79,9 @@ def hexadecimal(text):
     return "piece " + text.encode().hex() + "\n"
 
 
-def list_of_numbers(size):
-    return '{"name":"x","n":1,"l":[' + joined("1{}", size, ",") + "]}"
+def list_of(one, size):
+    """An item with a list of this value."""
+    return '{"name":"x","n":1,"l":[' + joined(one, size, ",") + "]}"
 
 
 def objects(size):
@@ -95,8 +104,9 @@ SHAPES = [
     script("settings of one layer", lambda size: exchange("layer " + joined("json=1{}", size, " ") + "\n")),
     script("a plan of one line", lambda size: exchange("") + "plan " + joined("1{}", size, " ") + "\n"),
     script("plans of many lines", lambda size: exchange("") + times("plan 1{}\n", size)),
-    script("a target of many segments", lambda size: exchange("", "/bytes/" + times("a{}/", size))),
+    targeted("target", "segments", lambda size: "/bytes/" + times("a{}/", size)),
     served("Accept", "items", lambda size: "header accept " + joined("a/b{}", size, ", ") + "\n", "/header"),
+    served("Accept", "shortest items", lambda size: "header accept " + joined("a/b", size, ",") + "\n", "/header"),
     served("Accept", "items of one type, with qualities",
            lambda size: "header accept " + joined("a/b;q=0.5", size, ",") + "\n", "/header"),
     served("Accept", "parameters of one item",
@@ -105,7 +115,9 @@ SHAPES = [
            lambda size: 'header accept a/b;p="' + times('\\"{}', size) + '"\n', "/header"),
     served("Accept", "many lines", lambda size: rising_headers(size, "accept", "a/b, c/d;q=0.5"), "/header"),
     served("Cookie", "cookies", lambda size: "header cookie " + joined("c{}=v", size, "; ") + "\n", "/cookies"),
-    served("Cookie", "one value in percent signs", lambda size: "header cookie c=" + times("%41{}", size) + "\n", "/cookies"),
+    served("Cookie", "shortest cookies", lambda size: "header cookie " + times("c=;", size) + "\n", "/cookies"),
+    served("Cookie", "one value in percent signs",
+           lambda size: "header cookie c=" + times("%41{}", size) + "\n", "/cookies"),
     served("Cookie", "what is no cookie", lambda size: "header cookie " + times(";x ", size) + "\n", "/cookies"),
     served("Forwarded", "elements",
            lambda size: "header forwarded " + joined("for=192.0.2.1;by=b{}", size, ", ") + "\n", "/who"),
@@ -119,34 +131,39 @@ SHAPES = [
     body("JSON", "members", lambda size: '{"name":"x","n":1,' + joined('"k{}":0', size, ",") + "}", "/json", JSON),
     body("JSON", "members of one name", lambda size: '{"n":1,' + joined('"name":"{}"', size, ",") + "}", "/json", JSON),
     body("JSON", "members with objects", objects, "/json", JSON),
-    body("JSON", "a list of numbers", list_of_numbers, "/json", JSON),
+    body("JSON", "a list of numbers", lambda size: list_of("1{}", size), "/json", JSON),
+    body("JSON", "a list of empty lists", lambda size: list_of("[]", size), "/json", JSON),
+    body("JSON", "a list of lists of a number", lambda size: list_of("[0]", size), "/json", JSON),
+    body("JSON", "a list of objects of a member", lambda size: list_of('{{"":0}}', size), "/json", JSON),
     body("JSON", "one text with escapes", lambda size: '{"n":1,"name":"' + times("\\n{}", size) + '"}', "/json", JSON),
     body("JSON", "blanks", lambda size: '{"name":"x","n":' + " " * size + "1}", "/json", JSON),
-    pieces("JSON", "pieces of one byte", list_of_numbers, "/json", JSON),
+    pieces("JSON", "pieces of one byte", lambda size: list_of("1{}", size), "/json", JSON),
     body("form", "pairs", lambda size: "name=x&n=1" + times("&k{}=v", size), "/form", FORM),
     body("form", "pairs of one name", lambda size: "name=x&n=1" + times("&k=v", size), "/form", FORM),
+    body("form", "shortest pairs", lambda size: "name=x&n=1" + times("&k", size), "/form", FORM),
     body("form", "one value in percent signs", lambda size: "n=1&name=" + times("%41{}", size), "/form", FORM),
     pieces("form", "pieces of one byte", lambda size: "n=1&name=" + times("a{}", size), "/form", FORM),
-    body("JSON or form", "members", lambda size: '{"name":"x","n":1,' + joined('"k{}":0', size, ",") + "}", "/either", FORM),
+    body("JSON or form", "pairs", lambda size: "name=x&n=1" + times("&k{}=v", size), "/either", FORM),
     served("lines", "short lines in one piece", lambda size: hexadecimal(times("{}\n", size)), "/lines", LIMITS),
     served("lines", "short lines in pieces of their own",
            lambda size: times("text {}\npiece 0a\n", size), "/lines", LIMITS),
     pieces("lines", "one line in pieces of one byte", lambda size: times("{}", size), "/lines"),
     pieces("body", "pieces of one byte", lambda size: times("{}", size), "/bytes"),
     pieces("text", "pieces of 64 bytes", lambda size: times("{}", size), "/text", size_of=64),
-    Shape("query", "pairs", lambda size: exchange("", "/query?name=x&n=1" + times("&k{}=v", size))),
-    Shape("query", "one value in percent signs", lambda size: exchange("", "/query?n=1&name=" + times("%41{}", size))),
+    targeted("query", "pairs", lambda size: "/query?name=x&n=1" + times("&k{}=v", size)),
+    targeted("query", "one value in percent signs", lambda size: "/query?n=1&name=" + times("%41{}", size)),
     Shape("path", "one value in percent signs",
           lambda size: exchange("param n 1\nparam name " + times("%41{}", size) + "\n", "/path")),
-    Shape("path", "parameters", lambda size: exchange("param n 1\nparam name x\n" + times("param k{} v\n", size), "/path")),
+    Shape("path", "parameters",
+          lambda size: exchange("param n 1\nparam name x\n" + times("param k{} v\n", size), "/path")),
     typed("ranges", lambda size: "bytes=" + joined("1{}-", size, ","), "range"),
     typed("parameters", lambda size: "attachment" + times("; p{}=v", size), "content-disposition"),
     typed("one quoted value with escapes",
           lambda size: 'attachment; filename="' + times('\\"{}', size) + '"', "content-disposition"),
-    typed("one extended value", lambda size: "attachment; filename*=UTF-8''" + times("%41{}", size), "content-disposition"),
+    typed("one extended value",
+          lambda size: "attachment; filename*=UTF-8''" + times("%41{}", size), "content-disposition"),
     typed("tags", lambda size: joined('W/"{}"', size, ", "), "if-none-match"),
     typed("directives", lambda size: joined("x{}=1", size, ", "), "cache-control"),
     typed("codings, negotiated", lambda size: joined("c{};q=0.5", size, ", "), "accept-encoding"),
     typed("parameters", lambda size: "text/html" + times("; p{}=1", size), "content-type"),
-    typed("items", lambda size: joined("a/b{}", size, ", "), "accept"),
 ]
