@@ -6,6 +6,9 @@ import typing
 
 LETTERS = "abcdefghijklmnopqrstuvwxyz"
 JSON_TYPE, FORM_TYPE = "header content-type application/json", "header content-type application/x-www-form-urlencoded"
+LANGUAGES, CODINGS = "de-DE,de;q=0.8,en-US;q=0.5,en;q=0.3", "gzip, deflate, br, zstd"
+BOUNDARY = "----WebKitFormBoundary7MA4YWxkTrZu0gW"
+PARTS = f"exchange POST /parts\nheader content-type multipart/form-data; boundary={BOUNDARY}\n"
 ACCEPT = ("text/html,application/xhtml+xml,application/xml;q=0.9,image/avif,image/webp,image/png,image/svg+xml,"
           "*/*;q=0.8")
 HEADERS = """host example.com:8080
@@ -203,6 +206,44 @@ def lines(size, a_line):
     return "exchange POST /lines\n" + line * (size // a_line) + "plan 0\n"
 
 
+def documents(count, *headers):
+    """A document, by these headers."""
+    return each(count, "exchange GET /doc/a", *headers)
+
+
+def variants(count):
+    """One of four variants, by the three headers of a browser."""
+    return each(count, "exchange GET /variant", "header accept " + ACCEPT, "header accept-language " + LANGUAGES,
+                "header accept-encoding " + CODINGS)
+
+
+def form_data(parts):
+    """The bytes of a form of these parts: their parameters and their contents."""
+    head = "--%s\r\nContent-Disposition: form-data; %s\r\n\r\n"
+    front = b"".join((head % (BOUNDARY, said)).encode() + content + b"\r\n" for said, content in parts)
+    return front + f"--{BOUNDARY}--\r\n".encode()
+
+
+def cut(body, piece):
+    """The lines of a body in pieces of `piece` bytes."""
+    return "".join(f"piece {body[at : at + piece].hex()}\n" for at in range(0, len(body), piece))
+
+
+def long_form(parts, size, piece):
+    """A form of so many files of `size` random bytes, in pieces of `piece` bytes."""
+    choose = random.Random(size)
+    files = [(f'name="file"; filename="{number}.bin"', choose.randbytes(size)) for number in range(parts)]
+    return PARTS + cut(form_data(files), piece) + "plan 0\n"
+
+
+def small_forms(count):
+    """Forms of three fields, each in one piece."""
+    choose = random.Random(count)
+    one = lambda: "".join(choose.choices(LETTERS, k=8)).encode()
+    made = [form_data([('name="user"', one()), ('name="note"', one() * 4), ('name="n"', b"%d" % number)])
+            for number in range(count)]
+    return planned("".join(PARTS + cut(form, len(form)) for form in made), list(range(count)))
+
 def long_plan(entries, exchanges=1000):
     """A few exchanges with three stalls, and a plan that mostly names those that are answered."""
     choose = random.Random(entries)
@@ -284,6 +325,14 @@ CASES = [
     Case("10,000 with ten cookies", lambda: cookies(10000)),
     Case("10,000 behind proxies", lambda: forwarded(10000)),
     Case("10 MB in lines of 80 bytes", lambda: lines(10000000, 80)),
+    Case("10,000 documents", lambda: documents(10000)),
+    Case("10,000 not modified", lambda: documents(10000, 'header if-none-match "v0", "v1"',
+                                                  "header if-modified-since Tue, 14 Nov 2023 22:13:20 GMT")),
+    Case("10,000 ranges of a document", lambda: documents(10000, "header range bytes=2-4", 'header if-range "v1"')),
+    Case("10,000 of four variants", lambda: variants(10000)),
+    Case("1 MB of parts, 64 kB a piece", lambda: long_form(16, 65536, 65536)),
+    Case("1 MB of parts, 64 bytes a piece", lambda: long_form(16, 65536, 64)),
+    Case("1,000 forms of three parts", lambda: small_forms(1000)),
     Case("plan of 2,000,000 entries", lambda: long_plan(2000000)),
     load("generate", "1", "50000"),
     load("replay", "1", "50000"),
