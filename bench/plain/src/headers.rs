@@ -17,9 +17,8 @@ impl<'a> Headers<'a> {
         self.0.len()
     }
 
-    /// Adds the header of a line: a name, and after one space a value, empty without a space.
-    pub fn add(&mut self, argument: &'a [u8]) -> Option<()> {
-        let (name, value) = text::split_word(argument);
+    /// Adds a header, `None` where none may have this name and this value.
+    pub fn add(&mut self, name: &'a [u8], value: &'a [u8]) -> Option<()> {
         is_header(name, value).then(|| self.0.push((name, value)))
     }
 

@@ -1,4 +1,4 @@
-//! Serves a script as the program rothveng does, in plain Rust, to measure against.
+//! Serves scripts and connections as the program rothveng does, in plain Rust, to measure against.
 mod accept;
 mod arguments;
 mod body;
@@ -8,6 +8,7 @@ mod date;
 mod disposition;
 mod documents;
 mod headers;
+mod http1;
 mod item;
 mod json;
 mod language;
@@ -15,6 +16,7 @@ mod layer;
 mod lines;
 mod load;
 mod media_type;
+mod messages;
 mod pairs;
 mod parts;
 mod printing;
@@ -33,8 +35,8 @@ use serving::Pool;
 use std::io::{Read, Write};
 use std::process::ExitCode;
 
-/// The most bytes that a script may have.
-const SCRIPT_LIMIT: u64 = 16_777_216;
+/// The most bytes that a script or a connection may have.
+const INPUT_LIMIT: u64 = 16_777_216;
 
 /// The most records that a pool may keep.
 const MOST_KEPT: usize = 1_024;
@@ -42,7 +44,8 @@ const MOST_KEPT: usize = 1_024;
 /// How many records `replay` keeps.
 const REPLAY_CAPACITY: usize = 128;
 
-const USAGE: &[u8] = b"usage: serve --pool=N | generate SEED COUNT | replay SEED COUNT\n";
+const USAGE: &[u8] =
+    b"usage: serve --pool=N | generate SEED COUNT | replay SEED COUNT | http1 --pool=N\n";
 
 fn main() -> ExitCode {
     let words: Vec<String> = std::env::args().skip(1).collect();
@@ -58,6 +61,10 @@ fn main() -> ExitCode {
         },
         ["replay", seed, count] => match Load::read(seed, count) {
             Some(load) => replay(&load),
+            None => say(USAGE, 64),
+        },
+        ["http1", pool] => match capacity(pool) {
+            Some(capacity) => connect(capacity),
             None => say(USAGE, 64),
         },
         _ => say(USAGE, 64),
@@ -76,18 +83,10 @@ fn capacity(word: &str) -> Option<usize> {
 
 /// Reads a script, serves it and writes the replies.
 fn serve(capacity: usize) -> ExitCode {
-    let mut bytes = Vec::new();
-    if std::io::stdin()
-        .lock()
-        .take(SCRIPT_LIMIT + 1)
-        .read_to_end(&mut bytes)
-        .is_err()
-    {
-        return ExitCode::from(3);
-    }
-    if bytes.len() as u64 > SCRIPT_LIMIT {
-        return say(b"line 0: too long\n", 2);
-    }
+    let bytes = match input() {
+        Ok(bytes) => bytes,
+        Err(status) => return status,
+    };
     match script::read(&bytes) {
         Ok(script) => {
             let mut pool = Pool::new(capacity);
@@ -96,6 +95,27 @@ fn serve(capacity: usize) -> ExitCode {
         }
         Err(fault) => refuse(&fault),
     }
+}
+
+/// Reads a connection of HTTP/1.1, and writes its answers.
+fn connect(capacity: usize) -> ExitCode {
+    match input() {
+        Ok(bytes) => say(&http1::answers(&bytes, &mut Pool::new(capacity)), 0),
+        Err(status) => status,
+    }
+}
+
+/// The whole input, or the status where it cannot be read or is too long.
+fn input() -> Result<Vec<u8>, ExitCode> {
+    let mut bytes = Vec::new();
+    let input = std::io::stdin().lock();
+    if input.take(INPUT_LIMIT + 1).read_to_end(&mut bytes).is_err() {
+        return Err(ExitCode::from(3));
+    }
+    if bytes.len() as u64 > INPUT_LIMIT {
+        return Err(say(b"line 0: too long\n", 2));
+    }
+    Ok(bytes)
 }
 
 /// Serves the script of a load, and writes the summary.

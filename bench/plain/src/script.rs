@@ -103,7 +103,10 @@ impl<'a> Reader<'a> {
         let request = &mut self.open()?.request;
         match word {
             b"header" if request.headers.len() == MOST_HEADERS => return Err("too many headers"),
-            b"header" => request.headers.add(argument).ok_or("bad header")?,
+            b"header" => {
+                let (name, value) = split_word(argument);
+                request.headers.add(name, value).ok_or("bad header")?;
+            }
             b"param" => request
                 .params
                 .push(read_param(argument).ok_or("bad param")?),

@@ -79,6 +79,21 @@ pub fn serve<'a>(script: Script<'a>, pool: &mut Pool) -> Vec<Flight<'a>> {
     flights
 }
 
+/// Polls one exchange until it is answered.
+pub fn answer<'a>(request: Request<'a>, marks: Vec<Mark<'a>>, pool: &mut Pool) -> Reply<'a> {
+    let mut flight = Flight {
+        request,
+        record: None,
+        stage: Stage::Waiting(marks),
+    };
+    loop {
+        flight.poll(pool);
+        if let Stage::Answered(reply) = flight.stage {
+            return reply;
+        }
+    }
+}
+
 impl<'a> Flight<'a> {
     /// Polls what the exchange waits for.
     fn poll(&mut self, pool: &mut Pool) {
