@@ -16,12 +16,9 @@ use web_entities::EntityTag;
 use web_reply::{HttpResponse, WholeBody};
 use web_request::{
     App, AppConfig, HttpRequest, HttpRequestPool, IpAddr, NoData, PlainApp, RequestHead,
-    RequestParts, SocketAddr,
+    RequestParts, SocketAddr, Source,
 };
 use web_texts::{Mime, NoMemory, ReadText, Text};
-
-/// The application that is asked.
-pub(crate) type Site = PlainApp<Marks>;
 
 /// What stands between the values of a condition.
 const OR: &str = " or ";
@@ -104,6 +101,7 @@ fn reply_with(
     }
 }
 
+/// The head of a request, `METHOD TARGET`, with these headers.
 pub(crate) fn head_of(
     alloc: Global,
     request: &str,
@@ -126,7 +124,7 @@ fn answered(
     store: &Store,
     head: RequestHead,
 ) -> Result<HttpResponse<WholeBody>, NoMemory> {
-    let mut pool = pool(alloc)?;
+    let mut pool = pool::<Marks>(alloc)?;
     let req = started(alloc, &mut pool, head)?;
     answer_document(alloc, store, &req)
 }
@@ -153,7 +151,7 @@ pub(crate) fn started<A: App>(
     }
 }
 
-pub(crate) fn pool(alloc: Global) -> Result<HttpRequestPool<Site>, NoMemory> {
+pub(crate) fn pool<S: Source>(alloc: Global) -> Result<HttpRequestPool<PlainApp<S>>, NoMemory> {
     let config = AppConfig {
         host: Text::of(alloc, "localhost:8080")?,
         secure: false,

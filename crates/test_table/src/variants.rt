@@ -1,12 +1,13 @@
 //! The choice among variants and its reply: first the fields of the variants, `MEDIA TYPE,
 //! LANGUAGE, CODING, BODY`, where `-` is no language, then the header fields, `NAME: VALUE`.
 use crate::answers::{Answer, no_such_call, shown, text};
-use crate::documents::{self, Site};
+use crate::documents;
 use crate::maps::{BETWEEN, headers_of};
 use http_header::{HeaderMap, HeaderValue};
 use std::alloc::Global;
+use web_body::Marks;
 use web_headers::Encoding;
-use web_request::HttpRequest;
+use web_request::{HttpRequest, PlainApp};
 use web_texts::{Fail, LanguageTag, Mime, NoMemory, ReadText};
 use web_variants::{Variant, Variants, answer_variant, choose};
 
@@ -53,7 +54,7 @@ fn chosen(alloc: Global, variants: &Variants, headers: &HeaderMap<HeaderValue>) 
 fn reply(alloc: Global, variants: &Variants, headers: HeaderMap<HeaderValue>) -> Answer {
     match documents::head_of(alloc, "GET /", headers) {
         Some(head) => {
-            let mut pool = documents::pool(alloc)?;
+            let mut pool = documents::pool::<Marks>(alloc)?;
             let req = documents::started(alloc, &mut pool, head)?;
             reply_to(alloc, variants, &req)
         }
@@ -61,7 +62,7 @@ fn reply(alloc: Global, variants: &Variants, headers: HeaderMap<HeaderValue>) ->
     }
 }
 
-fn reply_to(alloc: Global, variants: &Variants, req: &HttpRequest<Site>) -> Answer {
+fn reply_to(alloc: Global, variants: &Variants, req: &HttpRequest<PlainApp<Marks>>) -> Answer {
     let reply = answer_variant(alloc, variants, req)?;
     documents::shown(alloc, &reply)
 }
