@@ -18,8 +18,8 @@ const STALL: char = '…';
 /// Ends a piece, and stands for a fault.
 const FAULT: char = '✗';
 
-/// Gives marks in their order, and states none of them. It ends behind a fault, and where the pieces
-/// total more than 4 GB.
+/// Gives marks in their order, and states none of them. It ends behind a fault, and where the
+/// pieces total more than 4 GB.
 #[derive(Drop)]
 pub(crate) struct RowBody {
     left: VecDeque<Mark>,
@@ -78,8 +78,8 @@ fn total(given: u32, size: usize) -> Option<u32>
     given.checked_add(size)
 }
 
-/// The body that a text says. A character up to `ÿ` stands for its byte; `│` ends a piece, and so do
-/// `…`, which is a stall, and `✗`, which is a fault.
+/// The body that a text says. A character up to `ÿ` stands for its byte; `│` ends a piece, and so
+/// do `…`, which is a stall, and `✗`, which is a fault.
 pub(crate) fn body_of(alloc: Global, text: &str) -> Result<RowBody, NoMemory> {
     let mut left = VecDeque::new(alloc);
     let mut piece = Vec::new(alloc);
