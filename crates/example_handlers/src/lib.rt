@@ -43,7 +43,7 @@ pub use flight_rounds::poll_rounds;
 pub use hello::{Site, serve_hello};
 pub use logged::Logged;
 pub use parsed_request::exchange_of;
-pub use path_reply::{PathReply, serve_path};
+pub use path_reply::serve_path;
 pub use relay::{Relay, serve_relay};
 pub use request_path::RequestPath;
 pub use rewritten_request::rewrite_request;

@@ -10,29 +10,10 @@ use std::alloc::Global;
 use web_extract::Ready;
 use web_request::{App, NoMemory, Text};
 use web_testing::serve_request;
-use web_worker::{Exchange, Handler, Outcome};
+use web_worker::{Exchange, FnHandler, Outcome};
 
-/// Responds with the path of the request.
-#[derive(Drop)]
-pub struct PathReply;
-
-impl Handler<RequestPath> for PathReply {
-    ghost use Rattle.std.specs.Prelude.{◌≡◌, None};
-
-    type Output = Text;
-
-    type Future = Ready<Text>;
-
-    ghost answers = { λ h path n y. (n ≡ 0) × (y ≡ path.0) };
-
-    ghost calls = { λ h. None };
-
-    fn call(&mut self, _alloc: Global, path: RequestPath) -> Result<Ready<Text>, NoMemory> {
-        Ok(Ready::new(path.0))
-    }
-}
-
-/// Serves one request by it. The source of its body must state its marks.
+/// Serves one request by a handler that responds with its path. The source of its body must state
+/// its marks.
 ///
 /// The outcome is a reply with status 200 and the path as a plain text, unless an allocation fails.
 pub fn serve_path<A: App>(
@@ -46,5 +27,8 @@ pub fn serve_path<A: App>(
         (λ reply. reply ≡ text_reply (head_path exchange.parts.head))
         (outcome_view A.Source.feed o)) }
 {
-    serve_request(alloc, root, exchange, &mut PathReply)
+    let mut handler = FnHandler(|path: RequestPath| -> Result<Ready<Text>, NoMemory> {
+        Ok(Ready::new(path.0))
+    });
+    serve_request(alloc, root, exchange, &mut handler)
 }

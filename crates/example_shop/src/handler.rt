@@ -36,19 +36,24 @@ fn basket(alloc: Global, name: &str) -> Result<Cookie, NoMemory> {
     Ok(cookie)
 }
 
-/// Takes an order: responds with 201, the item as JSON, a cookie and a header.
-pub fn take_order(alloc: Global, arguments: OrderArguments) -> Result<Reply, Fail<ShopError>> {
-    let (Query(order), Json(item), Header(language)) = arguments;
-    if order.count == 0 {
-        return Err(Fail::Of(ShopError::Nothing));
-    }
-    if order.count > STOCK {
-        return Err(Fail::Of(ShopError::SoldOut { left: STOCK }));
-    }
+/// Responds with 201, the item as JSON, a cookie and a header.
+fn created(alloc: Global, item: &Item, language: &str) -> Result<Reply, NoMemory> {
     let cookie = basket(alloc, item.name.as_str())?;
-    let language = format!(in alloc; "{language}")?;
     let mut builder = HttpResponse::Created(alloc);
     builder.cookie(&cookie)?;
-    builder.try_insert_header("x-language", language.as_str())?;
-    Ok(builder.take().json(&item)?)
+    builder.try_insert_header("x-language", language)?;
+    builder.take().json(item)
+}
+
+/// Takes an order.
+pub fn take_order(alloc: Global, arguments: OrderArguments) -> Result<Reply, Fail<ShopError>> {
+    let (Query(order), Json(item), Header(language)) = arguments;
+    match order.count {
+        0 => Err(Fail::Of(ShopError::Nothing)),
+        1..=STOCK => {
+            let language = format!(in alloc; "{language}")?;
+            Ok(created(alloc, &item, language.as_str())?)
+        }
+        _ => Err(Fail::Of(ShopError::SoldOut { left: STOCK })),
+    }
 }

@@ -88,28 +88,38 @@ fn slow_item(alloc: Global) -> Result<Payload<Marks>> {
     Ok(Payload::Stream(Marks::new(marks)))
 }
 
-/// The exchange with a limit of its own for its JSON body, in bytes.
-fn limited(alloc: Global, exchange: Exchange<Shop>, limit: usize) -> Result<Exchange<Shop>> {
-    let mut exchange = exchange;
-    exchange
-        .layers
-        .push(Rc::new(alloc, ShopLayer::new(limit))?)?;
-    Ok(exchange)
+/// The layers of an exchange with a limit of its own for its JSON body, in bytes.
+fn limit_of(alloc: Global, limit: usize) -> Result<Vec<Rc<ShopLayer>>> {
+    let layer = Rc::new(alloc, ShopLayer::new(limit))?;
+    Ok(vec![in alloc; layer]?)
 }
 
-/// Serves orders by a plan.
+/// Three orders: one that comes slowly, one of too many, and one whose limit is too low.
+fn new_orders(alloc: Global) -> Result<Vec<Exchange<Shop>>>
+    ensures { IfOk result (λ orders. length orders.items ≡ 3) }
+{
+    let mut orders = Vec::new(alloc);
+    orders.push(new_exchange(alloc, "/orders?count=2", slow_item(alloc)?)?)?;
+    orders.push(new_exchange(alloc, "/orders?count=11", whole_item())?)?;
+    let mut last = new_exchange(alloc, "/orders", whole_item())?;
+    last.layers = limit_of(alloc, 10)?;
+    orders.push(last)?;
+    Ok(orders)
+}
+
+/// Serves orders by a plan, on a worker of their own.
 fn serve_orders(
     alloc: Global,
-    worker: &mut Worker<Shop>,
     exchanges: Vec<Exchange<Shop>>,
     plan: &[usize],
 ) -> Result<Vec<Outcome<Shop>>, NoMemory>
-    requires { worker.old.made + length exchanges.items < 2 ^ 64 }
+    requires { length exchanges.items < 2 ^ 64 }
 {
+    let mut worker = new_worker(alloc)?;
     let mut handler = FnHandler(|arguments: OrderArguments| -> Result<Answer, NoMemory> {
         Ok(Ready::new(replied(alloc, take_order(alloc, arguments))?))
     });
-    serve_all(alloc, worker, exchanges, plan, &mut handler).map_err(|_| NoMemory)
+    serve_all(alloc, &mut worker, exchanges, plan, &mut handler).map_err(|_| NoMemory)
 }
 
 /// Adds a header to a reply, also to one that refuses a request.
@@ -131,22 +141,21 @@ fn print_reply(rt: &impl Print, reply: &Reply) -> Result<()> {
     Ok(())
 }
 
-fn main(rt: HostRuntime) -> Result<()> {
-    let alloc = rt.alloc();
-    let first = new_exchange(alloc, "/orders?count=2", slow_item(alloc)?)?;
-    let second = new_exchange(alloc, "/orders?count=11", whole_item())?;
-    let third = new_exchange(alloc, "/orders", whole_item())?;
-    let exchanges = vec![in alloc; first, second, limited(alloc, third, 10)?]?;
-    let mut worker = new_worker(alloc)?;
-    for outcome in serve_orders(alloc, &mut worker, exchanges, &[0, 1, 2, 0])? {
-        match outcome {
-            Outcome::Reply(mut reply) => {
-                add_server(&mut reply)?;
-                print_reply(&rt, &reply)?;
-            }
-            Outcome::Unfinished => println!(rt; "unfinished")?,
-            Outcome::NoMemory => return Err(NoMemory.into()),
+fn print_outcome(rt: &impl Print, outcome: Outcome<Shop>) -> Result<()> {
+    match outcome {
+        Outcome::Reply(mut reply) => {
+            add_server(&mut reply)?;
+            print_reply(rt, &reply)
         }
+        Outcome::Unfinished => Ok(println!(rt; "unfinished")?),
+        Outcome::NoMemory => Err(NoMemory.into()),
+    }
+}
+
+fn main(rt: HostRuntime) -> Result<()> {
+    let exchanges = new_orders(rt.alloc())?;
+    for outcome in serve_orders(rt.alloc(), exchanges, &[0, 1, 2, 0])? {
+        print_outcome(&rt, outcome)?;
     }
     Ok(())
 }
