@@ -21,7 +21,7 @@ returns g c =
     c.args.exchange (λ v. v.0 ≡ path) (λ reply. reply ≡ text_reply path)
     (λ m rest n a means. (means.1, rw means.2 refl))
     (λ v k y known answer.
-        let now = held answer.0 v.0 k y (search rules) answer.2 in
-        (now.0, λ r response. response ∙ ap text_reply (now.1 ∙ known)))
+    let now = held answer.0 v.0 k y (search rules) answer.2 in
+    (now.0, λ r response. response ∙ ap text_reply (now.1 ∙ known)))
     c.requires.told c.serve_request.result (λ o. outcome_view g.A.Source.Source.feed o)
     c.serve_request.ensures.outcome
