@@ -9,6 +9,9 @@ use web_body::Mark;
 use web_request::{Source, Turn};
 use web_texts::NoMemory;
 
+/// Ends a piece.
+const CUT: char = '│';
+
 /// Ends a piece, and stands for a stall.
 const STALL: char = '…';
 
@@ -109,7 +112,7 @@ fn add_piece(left: &mut VecDeque<Mark>, bytes: Vec<u8>) -> Result<(), NoMemory> 
     Ok(())
 }
 
-/// Adds the mark that a character stands for. One that stands for none ends a piece alone, as `│`.
+/// Adds the mark that a character stands for. What stands for none cuts, as `CUT` does.
 fn add_mark(left: &mut VecDeque<Mark>, char: char) -> Result<(), NoMemory> {
     match char {
         STALL => left.push_back(Mark::Stall)?,
