@@ -156,17 +156,26 @@ fn read_chunks(bytes: &[u8]) -> Result<(Cow<'_, [u8]>, &[u8]), Wrong> {
 
 /// Takes a size line: hexadecimal digits, and an extension that is dropped.
 fn read_size(rest: &mut &[u8]) -> Option<u64> {
-    let line = text_line(rest, MOST_SIZE_LINE)?;
     let (mut size, mut digits) = (0, 0);
-    while let Some(digit) = line.get(digits).and_then(|byte| hex_value(*byte)) {
+    while let Some(digit) = rest.get(digits).and_then(|byte| hex_value(*byte)) {
         if digits == MOST_DIGITS {
             return None;
         }
         size = size << 4 | u64::from(digit);
         digits += 1;
     }
-    let is_size = digits > 0 && matches!(line.get(digits), None | Some(b';'));
-    is_size.then_some(size)
+    if digits == 0 {
+        return None;
+    }
+    *rest = &rest[digits..];
+    match rest {
+        [b'\r', b'\n', behind @ ..] => *rest = behind,
+        [b';', ..] => {
+            text_line(rest, MOST_SIZE_LINE - digits)?;
+        }
+        _ => return None,
+    }
+    Some(size)
 }
 
 /// Takes so many bytes and CRLF. Returns the bytes.
