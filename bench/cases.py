@@ -257,6 +257,33 @@ def shortest(size):
     return line * (size // len(line))
 
 
+def message(start, body="", headers=()):
+    """A message of HTTP/1.1."""
+    return "\r\n".join([f"{start} HTTP/1.1", *headers, "", body])
+
+
+def gets(count):
+    """A connection with small messages, one after the other."""
+    return message("GET /query?name=a&n=7", headers=["host: example.com"]) * count
+
+
+def browser_gets(count):
+    """The same with the headers of a browser."""
+    headers = [line.replace(" ", ": ", 1) for line in HEADERS.splitlines() if not line.startswith("content-")]
+    return message("GET /query?name=a&n=7", headers=headers) * count
+
+
+def posts(count, size):
+    """A connection with bodies of a length."""
+    return message("POST /bytes", LETTERS[:25] * (size // 25), ["host: example.com", f"content-length: {size}"]) * count
+
+
+def chunked_posts(count, size, chunk):
+    """A connection with bodies in chunks."""
+    body = "".join(f"{chunk:x}\r\n{LETTERS[:25] * (chunk // 25)}\r\n" for _ in range(size // chunk)) + "0\r\n\r\n"
+    return message("POST /bytes", body, ["host: example.com", "transfer-encoding: chunked"]) * count
+
+
 @dataclasses.dataclass(frozen=True)
 class Case:
     """A script with its name, the words that the programs are run with, and whether they are run under valgrind. Cases of
@@ -268,6 +295,11 @@ class Case:
     valgrind: bool = True
     family: str = ""
     exchanges: int = 0
+
+
+def connection(name, script):
+    """A connection of HTTP/1.1."""
+    return Case(name, script, ("http1", "--pool=128"))
 
 
 def load(*words):
@@ -333,6 +365,11 @@ CASES = [
     Case("1 MB of parts, 64 kB a piece", lambda: long_form(16, 65536, 65536)),
     Case("1 MB of parts, 64 bytes a piece", lambda: long_form(16, 65536, 64)),
     Case("1,000 forms of three parts", lambda: small_forms(1000)),
+    connection("20,000 messages without a body", lambda: gets(20000)),
+    connection("10,000 messages of a browser", lambda: browser_gets(10000)),
+    connection("10,000 bodies of 1 kB", lambda: posts(10000, 1000)),
+    connection("100 bodies of 64 kB in chunks of 8 kB", lambda: chunked_posts(100, 64000, 8000)),
+    connection("100 bodies of 64 kB in chunks of 50 bytes", lambda: chunked_posts(100, 64000, 50)),
     Case("plan of 2,000,000 entries", lambda: long_plan(2000000)),
     load("generate", "1", "50000"),
     load("replay", "1", "50000"),

@@ -34,7 +34,8 @@ const REPLAY_CAPACITY: usize = 128;
 /// The status where a script asks for a segment that is not written here.
 const LACKING: u8 = 70;
 
-const USAGE: &[u8] = b"usage: serve --pool=N | generate SEED COUNT | replay SEED COUNT\n";
+const USAGE: &[u8] =
+    b"usage: serve --pool=N | generate SEED COUNT | replay SEED COUNT | http1 --pool=N\n";
 
 fn main() -> ExitCode {
     let words: Vec<String> = std::env::args().skip(1).collect();
@@ -43,6 +44,8 @@ fn main() -> ExitCode {
         ["serve", pool] => capacity(pool).map(serve),
         ["generate", seed, count] => Load::read(seed, count).map(|load| say(&load.script(), 0)),
         ["replay", seed, count] => Load::read(seed, count).map(|load| replay(&load)),
+        // Connections are not known here.
+        ["http1", pool] => capacity(pool).map(|_| ExitCode::from(LACKING)),
         _ => None,
     };
     known.unwrap_or_else(|| say(USAGE, 64))
