@@ -27,6 +27,7 @@ mod script;
 mod serving;
 mod target;
 mod text;
+mod thousandths;
 mod variants;
 
 use load::Load;

@@ -2,9 +2,10 @@
 use crate::headers::Headers;
 use crate::language::{self, is_language};
 use crate::media_type::{self, MediaType};
-use crate::quality::{self, GREATEST};
+use crate::quality;
 use crate::reply::{Body, Reply};
 use crate::request::Request;
+use crate::thousandths::GREATEST;
 use std::array;
 use std::borrow::Cow;
 

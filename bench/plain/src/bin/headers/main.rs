@@ -13,6 +13,8 @@ mod quality;
 mod range;
 mod tags;
 mod text;
+#[path = "../../thousandths.rs"]
+mod thousandths;
 
 use map::{Header, Headers};
 use std::hint::black_box;
