@@ -1,5 +1,5 @@
 -- Every script of a load is valid.
-use Rattle.std.proofs.Common.{◌≡◌, ◌<◌, ◌≤◌, ◌==◌, ◌+◌, ◌^◌, ◌-◌, ℕ, zero, suc, Bool, true, false, ◌||◌, List, [], ◌∷◌, ◌++◌, length, refl, ap, sym, ◌∙◌, arith, append_assoc}
+use Rattle.std.proofs.Common.{◌≡◌, ◌<◌, ◌≤◌, ◌==◌, ◌+◌, ◌^◌, ◌-◌, ℕ, zero, suc, true, false, List, [], ◌∷◌, ◌++◌, length, refl, ap, sym, ◌∙◌, arith, append_assoc}
 use Rattle.std.specs.Prelude.{codes, decimal, flat_map, replicate, slice_index, Option, Some, None}
 use Rattle.std.specs.Option.{option_or}
 use Rattle.std.specs.List.{list_any, slice_split, range_with_len}
@@ -11,6 +11,7 @@ use Rattle.std.proofs.lemmas.List.Folds.{list_any-append}
 use Rattle.std.specs.Str.{is_utf8, chars}
 use Rattle.std.proofs.Math.Utf8.{encode}
 use Rattle.http_header.specs.Token.{is_token_byte}
+use Rattle.web_texts.specs.Bytes.{is_newline}
 use Rattle.web_texts.proofs.DecimalLemmas.{none_in, number_back}
 use Rattle.web_texts.proofs.LastCutLemmas.{or_false, after_last_at}
 use Rattle.cli_script.specs.Line.{Line, is_space, line_of}
@@ -18,7 +19,7 @@ use Rattle.cli_script.specs.LineKinds.{has}
 use Rattle.cli_script.specs.LineArguments.{is_field_name, is_field_value, is_method, is_request}
 use Rattle.cli_script.specs.LineFaults.{argument_fault, exchange_lines, fault_of, has_line, place_fault}
 use Rattle.cli_script.specs.PlanEntries.{entries_of, max_entry}
-use Rattle.cli_script.specs.Script.{fault_or, first_fault_after, is_newline, is_valid_script, script_lines}
+use Rattle.cli_script.specs.Script.{fault_or, first_fault_after, is_valid_script, script_lines}
 use Rattle.cli_script.specs.Targets.{is_origin, is_path_and_query, is_path_input, target_of}
 use Rattle.cli_script.specs.declared.line.Word.{Word}
 use Rattle.cli_script.specs.declared.line.Word.TheVariants as word
@@ -30,6 +31,7 @@ use Rattle.cli_load.specs.ScriptTexts.{plan_line, plan_round, script_text}
 use Rattle.cli_load.specs.declared.drawn.Drawn.{Drawn}
 use Rattle.cli_load.specs.declared.drawn.Route.{Route}
 use Rattle.cli_load.specs.declared.drawn.Route.TheVariants as route
+use Rattle.web_texts.proofs.TestLemmas.{or_true}
 
 abbrev with_word : Word → List ℕ → Line
 with_word w text = record { word = w; argument = text }
@@ -56,10 +58,6 @@ clear_both before (x ∷ block) rest none more =
     (clear_both (before ++ x ∷ []) block rest parts.1 (rw (append_assoc before (x ∷ []) block) more))
 
 -- ---- an exchange is judged by its own lines
-
-or_true : (b : Bool) → (b || true) ≡ true
-or_true true = refl
-or_true false = refl
 
 module _ (front : List Line) (unplanned : has_line word.Plan front ≡ false) (text : List ℕ) where
   abbrev first : Line

@@ -5,8 +5,9 @@ use Rattle.std.specs.List.{list_any, slice_split, position_or_len}
 use Rattle.std.specs.Option.{option_map, option_and_then}
 use Rattle.std.specs.Str.{is_utf8}
 use Rattle.std.proofs.lemmas.List.Folds.{list_any-append}
+use Rattle.web_texts.specs.Bytes.{is_equals}
 use Rattle.web_texts.specs.Cut.{IsCut}
-use Rattle.web_texts.specs.MediaTypes.{MediaType, is_equals, media_type_of}
+use Rattle.web_texts.specs.MediaTypes.{MediaType, media_type_of}
 use Rattle.web_texts.proofs.SplitLemmas.{split_cut, split_whole, cut_parts, no_cut}
 use Rattle.cli_script.specs.Line.{is_space}
 use Rattle.cli_script.specs.PlanEntries.{all_values}

@@ -1,12 +1,12 @@
 -- The arguments of `exchange`, `header` and `param` lines, cut at their first space.
-use Rattle.std.proofs.Common.{◌≡◌, ◌==◌, ℕ, zero, suc, ◌+◌, ◌-◌, ◌≤◌, Bool, true, false, not, ◌&&◌, List, [], ◌∷◌, length, drop, Option, Some, None, refl, ap, sym, ◌∙◌, arith}
+use Rattle.std.proofs.Common.{◌≡◌, ◌==◌, ℕ, zero, suc, ◌+◌, ◌-◌, ◌≤◌, true, false, not, ◌&&◌, List, [], ◌∷◌, length, drop, Option, Some, None, refl, ap, sym, ◌∙◌, arith}
 use Rattle.std.proofs.Math.Seq.{drop-append-add}
 use Rattle.std.proofs.lemmas.List.{length-append}
 use Rattle.std.specs.Prelude.{IsUtf8}
 use Rattle.std.specs.Bool.{Decides}
 use Rattle.std.specs.List.{position_or_len}
 use Rattle.std.specs.Str.{is_utf8}
-use Rattle.std.proofs.lemmas.Bool.Decides.{Decides-and, Decides-ltb, not_from_Decides}
+use Rattle.std.proofs.lemmas.Bool.Decides.{Decides-and, Decides-ltb}
 use Rattle.std.proofs.lemmas.List.Folds.{list_any-append}
 use Rattle.std.proofs.lemmas.Str.{is_utf8-from_IsUtf8}
 use Rattle.http_header.specs.FieldName.{IsFieldName}
@@ -27,20 +27,13 @@ use Rattle.cli_script.specs.declared.reason.Reason.TheVariants as reason
 use Rattle.cli_script.proofs.AcceptanceLemmas.{met, not_met}
 use Rattle.cli_script.proofs.TargetFormsLemmas.{reading, all_decides, le_decides, utf8_decides}
 use Rattle.cli_script.proofs.UniqueTargetLemmas.{form_unique}
+use Rattle.web_texts.proofs.TestLemmas.{refuted, stable}
 
 -- ---- a method, a target and a text
 
 token : (text : List ℕ) → Decides (is_method text) (IsToken text)
 unfolding is_method
 token text = Decides-and _ _ (Decides-ltb 0 (length text)) (all_decides is_token_byte text)
-
-stable : (b : Bool) {P : Type 0} → Decides b P → ¬ (¬ P) → b ≡ true
-stable true d h = refl
-stable false d h = absurd (h (not_from_Decides false d refl))
-
-refuted : (b : Bool) {P : Type 0} → Decides b P → ¬ P → b ≡ false
-refuted true d h = absurd (h (d.0 refl))
-refuted false d h = refl
 
 pub method_read : (text : List ℕ) → ¬ (¬ (IsToken text)) → is_method text ≡ true
 method_read text h = stable (is_method text) (token text) h

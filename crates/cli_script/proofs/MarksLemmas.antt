@@ -1,5 +1,5 @@
 -- The marks that the reader keeps are bodies.
-use Rattle.std.proofs.Common.{◌≡◌, ℕ, Bool, true, false, not, ◌&&◌, List, [], ◌∷◌, ◌++◌, Option, Some, None, refl, sym, ◌∙◌, cond, length, arith}
+use Rattle.std.proofs.Common.{◌≡◌, ℕ, Bool, true, false, not, List, [], ◌∷◌, ◌++◌, Option, Some, None, refl, sym, ◌∙◌, cond, length, arith}
 use Rattle.std.specs.Prelude.{⊤, is_some, nat_lt}
 use Rattle.std.specs.Option.{ForSome, option_map, option_or}
 use Rattle.std.specs.List.{AllPass}
@@ -26,12 +26,9 @@ use Rattle.cli_script.specs.declared.reason.Reason.TheVariants as reason
 use Rattle.cli_script.specs.declared.line.Word.{Word}
 use Rattle.cli_script.specs.declared.line.Word.TheVariants as word
 use Rattle.cli_script.proofs.ReaderLemmas.{line}
+use Rattle.web_texts.proofs.TestLemmas.{both}
 
 -- more marks behind a body that has no fault
-
-both : (a b : Bool) → (a && b) ≡ true → (a ≡ true) × (b ≡ true)
-both true b e = (refl, e)
-both false b e = absurd (cc)
 
 pub is_body_more : (m n : List Mark) → is_body m ≡ true → ends_in_fault m ≡ false → is_body n ≡ true → is_body (m ++ n) ≡ true
 is_body_more [] n body unfailed more = more

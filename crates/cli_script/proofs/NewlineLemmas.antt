@@ -7,7 +7,7 @@ use Rattle.std.proofs.lemmas.Bool.{false_from_ne_true}
 use Rattle.std.proofs.lemmas.List.{get_or-take, get_or_default, length-take-le}
 use Rattle.std.proofs.lemmas.List.Splits.{slice_split_at, slice_split_none}
 use Rattle.memchr.specs.Find.{Nowhere, NoneBefore, Passes, IsFirstByte, is_byte}
-use Rattle.cli_script.specs.Script.{is_newline}
+use Rattle.web_texts.specs.Bytes.{is_newline}
 
 none_there : (text : List ℕ) (end : ℕ) → Nowhere (Passes (is_byte 10) text) 0 end → (k d : ℕ) → k < end → k < length text → is_newline (get_or text k d) ≡ false
 none_there text end none k d small inside =

@@ -5,12 +5,14 @@ use Rattle.std.specs.Char.{is_ascii_digit}
 use Rattle.std.specs.List.{join_with_byte, list_all, position_or_len, slice_split}
 use Rattle.std.proofs.lemmas.Bool.Decides.{nat_tests}
 use Rattle.std.proofs.lemmas.List.Splits.{join_with_byte-slice_split}
+use Rattle.web_texts.specs.Bytes.{is_dot}
 use Rattle.web_texts.specs.Cut.{IsCut}
 use Rattle.web_texts.specs.Digits.{digits_up_to}
 use Rattle.web_texts.proofs.CutLemmas.{cut_is}
 use Rattle.web_texts.proofs.SplitLemmas.{split_cut, split_whole}
 use Rattle.web_request.specs.declared.address.IpAddr.TheVariants.{V4}
-use Rattle.cli_script.specs.Peers.{is_dot, octet_of, octets_of, peer_of}
+use Rattle.cli_script.specs.Peers.{octet_of, octets_of, peer_of}
+use Rattle.web_texts.proofs.TestLemmas.{both}
 
 -- fewer than four parts
 
@@ -27,10 +29,6 @@ three_parts text a rest b rest2 cut cut2 whole = rw (split_cut 46 text a rest cu
 
 no_dot : (b : ℕ) → is_ascii_digit b ≡ true → (b == 46) ≡ false
 no_dot b digit = grind (arith, nat_tests, digit)
-
-both : (a b : Bool) → (a && b) ≡ true → (a ≡ true) × (b ≡ true)
-both true b e = (refl, e)
-both false b e = absurd (cc)
 
 undotted : (d : List ℕ) → list_all is_ascii_digit d ≡ true → slice_split is_dot d ≡ d ∷ []
 undotted [] digits = refl

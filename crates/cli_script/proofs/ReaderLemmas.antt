@@ -23,6 +23,7 @@ use Rattle.cli_script.specs.declared.reason.Reason.TheVariants as reason
 use Rattle.cli_script.specs.declared.line.Word.{Word}
 use Rattle.cli_script.specs.declared.line.Word.TheVariants as word
 use Rattle.web_texts.proofs.LastCutLemmas.{or_false, after_last_at, before_first_at, before_first_none}
+use Rattle.web_texts.proofs.TestLemmas.{or_true}
 
 abbrev pub line : Word → List ℕ → Line
 line w text = record { word = w; argument = text }
@@ -52,15 +53,11 @@ or-false : (b : Bool) → (b || false) ≡ b
 or-false true = refl
 or-false false = refl
 
-or-true : (b : Bool) → (b || true) ≡ true
-or-true true = refl
-or-true false = refl
-
 came_other : (v : Word) (before : List Line) (x : Line) → has v x ≡ false → has_line v (before ++ x ∷ []) ≡ has_line v before
 came_other v before x other = list_any-append (has v) before (x ∷ []) ∙ rw other (or-false (has_line v before))
 
 came_this : (v : Word) (before : List Line) (x : Line) → has v x ≡ true → has_line v (before ++ x ∷ []) ≡ true
-came_this v before x this = list_any-append (has v) before (x ∷ []) ∙ rw this (or-true (has_line v before))
+came_this v before x this = list_any-append (has v) before (x ∷ []) ∙ rw this (or_true (has_line v before))
 
 plan_more : (before : List Line) (x : Line) → plan (before ++ x ∷ []) ≡ plan before ++ line_entries x.word x.argument
 plan_more before x =
@@ -393,7 +390,7 @@ tests_kept : (before : List Line) (whole : List ScriptedExchangeView) (o : Optio
 tests_kept before whole None p f v k = rw k.0 (not_begun p f (has_line word.Fault (exchange_lines before)) (nat_le max_headers 0) (nat_le max_headers (header_lines (exchange_lines before))) v)
 tests_kept before whole (Some e) p f v (first, front, rest, at) =
     let last_block : exchange_lines before ≡ rest = rw at.before_is (after_last_at (has word.Exchange) front first rest at.begins at.none_later) in
-    let begun : has_line word.Exchange before ≡ true = rw (at.before_is, list_any-append (has word.Exchange) front (first ∷ rest), at.begins) (or-true (has_line word.Exchange front)) in
+    let begun : has_line word.Exchange before ≡ true = rw (at.before_is, list_any-append (has word.Exchange) front (first ∷ rest), at.begins) (or_true (has_line word.Exchange front)) in
     let count : header_count (Some e) ≡ header_lines rest = rw at.open_is (headers_counted first.argument rest) in
     rw (last_block, begun, at.fault_is, count) refl
 

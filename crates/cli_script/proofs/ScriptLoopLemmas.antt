@@ -6,6 +6,7 @@ use Rattle.std.specs.Str.Lines.{strip_carriage_return}
 use Rattle.std.specs.List.{AllPass, slice_split}
 use Rattle.std.proofs.Math.Seq.{take-length}
 use Rattle.std.proofs.lemmas.List.{append-nil, length-drop}
+use Rattle.web_texts.specs.Bytes.{is_newline}
 use Rattle.web_texts.specs.declared.memory.Fail.{Fail}
 use Rattle.web_texts.specs.declared.memory.Fail.TheVariants as fail
 use Rattle.web_request.specs.Body.{is_body, piece_bytes}
@@ -13,7 +14,7 @@ use Rattle.cli_script.specs.Acceptance.{Accepts, Refuses}
 use Rattle.cli_script.specs.ExchangeSinks.{Adds}
 use Rattle.cli_script.specs.Line.{Line, line_of}
 use Rattle.cli_script.specs.LineFaults.{fault_of}
-use Rattle.cli_script.specs.Script.{is_newline, script_lines, first_fault_after, first_fault}
+use Rattle.cli_script.specs.Script.{script_lines, first_fault_after, first_fault}
 use Rattle.cli_script.specs.ScriptExchanges.{exchanges}
 use Rattle.cli_script.specs.ScriptReading.{IsWholeRead, with_line}
 use Rattle.cli_script.specs.ScriptedView.{ScriptedExchangeView}

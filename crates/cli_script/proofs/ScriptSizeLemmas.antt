@@ -16,11 +16,12 @@ use Rattle.cli_script.specs.Line.{Line, line_of, is_space, word_of}
 use Rattle.cli_script.specs.ScriptedView.{ScriptedExchangeView}
 use Rattle.cli_script.specs.LineKinds.{has}
 use Rattle.cli_script.specs.ScriptExchanges.{line_marks, exchange_of, exchanges}
-use Rattle.cli_script.specs.Script.{is_newline, script_lines}
+use Rattle.cli_script.specs.Script.{script_lines}
 use Rattle.cli_script.specs.declared.line.Word.{Word}
 use Rattle.cli_script.specs.declared.line.Word.TheVariants as word
 use Rattle.cli_script.specs.Reader.{ReaderView}
 use Rattle.cli_script.proofs.ReaderLemmas.{Keeps, IsRead}
+use Rattle.web_texts.specs.Bytes.{is_newline}
 use Rattle.web_texts.proofs.LastCutLemmas.{before_first-cons}
 
 -- the bytes that a line and that lines give

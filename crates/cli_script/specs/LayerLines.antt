@@ -4,9 +4,10 @@ use Rattle.std.specs.Prelude.{Option, None, Some, is_some, unwrap_or, ifâ—Œthenâ
 use Rattle.std.specs.List.{list_any, fold, before_first, after_first, slice_split}
 use Rattle.std.specs.Option.{option_map}
 use Rattle.std.specs.Str.{bytes_eq, is_utf8}
-use Rattle.web_texts.specs.MediaTypes.{MediaType, is_equals, media_type_of}
+use Rattle.web_texts.specs.Bytes.{is_equals}
+use Rattle.web_texts.specs.MediaTypes.{MediaType, media_type_of}
 use Rattle.cli_script.specs.Line.{is_space}
-use Rattle.cli_script.specs.Numbers.{number_of}
+use Rattle.web_texts.specs.Digits.{number_of}
 use Rattle.cli_script.specs.PlanEntries.{all_values}
 use Rattle.cli_script.specs.declared.layer.LayerSettings.{LayerSettings}
 use Rattle.cli_script.specs.declared.layer.Setting.{Setting}

@@ -9,7 +9,7 @@ use Rattle.cli_script.specs.Line.{Line}
 use Rattle.cli_script.specs.LineKinds.{has, is_mark}
 use Rattle.cli_script.specs.LayerLines.{is_layer}
 use Rattle.cli_script.specs.LineArguments.{is_header, is_param, request_fault}
-use Rattle.cli_script.specs.Numbers.{number_of}
+use Rattle.web_texts.specs.Digits.{number_of}
 use Rattle.cli_script.specs.Peers.{peer_of}
 use Rattle.cli_script.specs.PlanEntries.{entries_of}
 use Rattle.cli_script.specs.declared.line.Word.{Word}

@@ -1,15 +1,13 @@
 -- The address that a `peer` line says.
-use Rattle.std.specs.Prelude.{ℕ, ◌==◌, ◌&&◌, Bool, List, [], ◌∷◌, length, map, Option, None, Some}
+use Rattle.std.specs.Prelude.{ℕ, ◌==◌, ◌&&◌, List, [], ◌∷◌, length, map, Option, None, Some}
 use Rattle.std.specs.Prelude.{is_some, unwrap_or, if◌then◌else◌}
 use Rattle.std.specs.List.{list_all, slice_split}
 use Rattle.std.specs.Option.{option_and_then, option_map}
 use Rattle.web_request.specs.declared.address.IpAddr.TheVariants.{V4}
 use Rattle.web_request.specs.declared.address.SocketAddr.{SocketAddr}
+use Rattle.web_texts.specs.Bytes.{is_dot}
 use Rattle.web_texts.specs.Cut.{split_once}
 use Rattle.web_texts.specs.Digits.{digits_up_to}
-
-abbrev pub is_dot : ℕ → Bool
-is_dot b = b == 46
 
 -- a number of at most 255, in digits
 abbrev pub octet_of : List ℕ → Option ℕ

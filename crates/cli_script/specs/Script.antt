@@ -1,17 +1,15 @@
 -- The lines of a script, whether it is valid, and what it asks for.
-use Rattle.std.specs.Prelude.{◌≡◌, ℕ, ◌+◌, ◌==◌, Bool, not, List, [], ◌∷◌, ◌++◌, map, length}
+use Rattle.std.specs.Prelude.{◌≡◌, ℕ, ◌+◌, Bool, not, List, [], ◌∷◌, ◌++◌, map, length}
 use Rattle.std.specs.Prelude.{Option, None, Some, is_some}
 use Rattle.std.specs.List.{slice_split}
 use Rattle.std.specs.Str.Lines.{strip_carriage_return}
+use Rattle.web_texts.specs.Bytes.{is_newline}
 use Rattle.cli_script.specs.ScriptedView.{ScriptedExchangeView}
 use Rattle.cli_script.specs.Line.{Line, line_of}
 use Rattle.cli_script.specs.LineFaults.{fault_of}
 use Rattle.cli_script.specs.ScriptExchanges.{exchanges, plan}
 use Rattle.cli_script.specs.declared.reason.Reason.{Reason}
 use Rattle.cli_script.specs.declared.script.InvalidScript.{InvalidScript}
-
-abbrev pub is_newline : ℕ → Bool
-is_newline b = b == 10
 
 -- Lines end at a newline, and one carriage return at a line's end is dropped.
 abbrev pub script_lines : List ℕ → List Line

@@ -2,7 +2,8 @@
 ghost use Rattle.std.specs.Prelude.{◌≡◌, is_some};
 ghost use Rattle.cli_script.specs.Acceptance.{Accepts};
 ghost use Rattle.cli_script.specs.LineFaults.{unless};
-ghost use Rattle.cli_script.specs.Numbers.{line_number, number_of};
+ghost use Rattle.web_texts.specs.Digits.{number_of};
+ghost use Rattle.cli_script.specs.Numbers.{line_number};
 ghost use Rattle.cli_script.specs.declared.reason.Reason.TheVariants.{BadNumber};
 
 use crate::reason::Reason;

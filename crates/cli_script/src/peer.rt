@@ -1,9 +1,10 @@
 //! The address of a `peer` line.
 ghost use Rattle.std.specs.Prelude.{◌≡◌, is_some};
 ghost use Rattle.std.specs.List.{slice_split};
+ghost use Rattle.web_texts.specs.Bytes.{is_dot};
 ghost use Rattle.cli_script.specs.Acceptance.{Accepts};
 ghost use Rattle.cli_script.specs.LineFaults.{unless};
-ghost use Rattle.cli_script.specs.Peers.{is_dot, line_peer, octet_of, octets_of, peer_of};
+ghost use Rattle.cli_script.specs.Peers.{line_peer, octet_of, octets_of, peer_of};
 ghost use Rattle.cli_script.specs.declared.reason.Reason.TheVariants.{BadPeer};
 
 use crate::reason::Reason;

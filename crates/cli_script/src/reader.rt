@@ -68,7 +68,8 @@ impl Reader {
     ghost use Rattle.cli_script.specs.Line.{line_of};
     ghost use Rattle.cli_script.specs.LineArguments.{header_of, is_header, is_param, param_of};
     ghost use Rattle.cli_script.specs.LineArguments.{request_fault};
-    ghost use Rattle.cli_script.specs.Numbers.{line_number, number_of};
+    ghost use Rattle.web_texts.specs.Digits.{number_of};
+    ghost use Rattle.cli_script.specs.Numbers.{line_number};
     ghost use Rattle.cli_script.specs.Peers.{line_peer, peer_of};
     ghost use Rattle.web_request.specs.Body.{is_body, piece_bytes, whole};
 

@@ -2,11 +2,12 @@
 ghost use Rattle.std.specs.Prelude.{◌≡◌, ◌+◌, ◌<◌, ◌≤◌, ◌^◌, ◌∷◌, [], length, take, drop};
 ghost use Rattle.std.specs.Prelude.{IfOk, OnOk, IfSome, IfNone};
 ghost use Rattle.std.specs.List.{All, AllPass, flat_map, slice_split};
+ghost use Rattle.web_texts.specs.Bytes.{is_newline};
 ghost use Rattle.web_request.specs.Body.{is_body, piece_bytes};
 ghost use Rattle.cli_script.specs.Acceptance.{Accepts};
 ghost use Rattle.cli_script.specs.ExchangeSinks.{Adds};
 ghost use Rattle.cli_script.specs.Reader.{new_reader};
-ghost use Rattle.cli_script.specs.Script.{first_fault, is_newline, script_lines, script_view};
+ghost use Rattle.cli_script.specs.Script.{first_fault, script_lines, script_view};
 ghost use Rattle.cli_script.specs.ScriptExchanges.{exchanges, plan as plan_of};
 ghost use Rattle.cli_script.specs.ScriptReading.{IsWholeRead, with_line};
 

@@ -13,7 +13,7 @@ use Rattle.web_body.specs.declared.poll.Step.TheVariants as step
 use Rattle.web_body.specs.PollSteps.{GivesSome}
 use Rattle.web_lines.specs.Lines.{Answer}
 use Rattle.web_lines.specs.LineReader.{LineReader}
-use Rattle.web_lines.specs.LineReading.{default_limit}
+use Rattle.web_body.specs.MessageBody.{default_limit}
 use Rattle.web_lines.specs.LineSchedules.{Due, Schedule, error_due, schedule}
 use Rattle.web_reply.specs.declared.cause.Cause.TheVariants as cause
 use Rattle.web_reply.specs.Replies.{Fault, fault_of}

@@ -1,22 +1,16 @@
 -- The text before the first `]:`.
 use Rattle.std.proofs.Common.{◌≡◌, ◌<◌, ◌≤◌, ◌==◌, ℕ, zero, suc, Bool, true, false, ◌&&◌, List, [], ◌∷◌, drop, take, length, refl, ap, ◌∙◌, arith}
-use Rattle.std.proofs.lemmas.Bool.Decides.{nat_tests}
-use Rattle.web_connection.specs.Addresses.{before_port, starts_with_byte}
+use Rattle.web_texts.specs.Bytes.{starts_with_byte}
+use Rattle.web_connection.specs.Addresses.{before_port}
+use Rattle.web_texts.proofs.TestLemmas.{both, same_byte}
 
 -- a closing bracket and a colon stand in front
 abbrev Ends : List ℕ → Type 0
 Ends text = (rest : List ℕ) × (text ≡ 93 ∷ 58 ∷ rest)
 
-same_byte : (a b : ℕ) → (a == b) ≡ true → a ≡ b
-same_byte a b e = grind (arith, nat_tests)
-
 colon : (text : List ℕ) → starts_with_byte 58 text ≡ true → (rest : List ℕ) × (text ≡ 58 ∷ rest)
 colon [] e = absurd (cc)
 colon (b ∷ rest) e = (rest, ap (λ c. c ∷ rest) (same_byte b 58 e))
-
-both : (a b : Bool) → (a && b) ≡ true → (a ≡ true) × (b ≡ true)
-both true b e = (refl, e)
-both false b e = absurd (cc)
 
 ends : (b : ℕ) (text : List ℕ) → (b == 93 && starts_with_byte 58 text) ≡ true → Ends (b ∷ text)
 ends b text e =

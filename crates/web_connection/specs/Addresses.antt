@@ -1,12 +1,9 @@
 -- The address of a node without its port (RFC 7239, section 6).
-use Rattle.std.specs.Prelude.{ℕ, ◌-◌, ◌==◌, ◌&&◌, Bool, false, List, [], ◌∷◌, drop, take, length}
+use Rattle.std.specs.Prelude.{ℕ, ◌-◌, ◌==◌, ◌&&◌, List, [], ◌∷◌, drop, take, length}
 use Rattle.std.specs.Prelude.{if◌then◌else◌}
 use Rattle.std.specs.List.{prefix_len, suffix_len}
+use Rattle.web_texts.specs.Bytes.{starts_with_byte}
 use Rattle.web_connection.specs.FirstItems.{before_byte}
-
-abbrev pub starts_with_byte : ℕ → List ℕ → Bool
-starts_with_byte byte [] = false
-starts_with_byte byte (b ∷ rest) = b == byte
 
 -- the text before the first `]:`, or all of it where there is none
 abbrev pub before_port : List ℕ → List ℕ

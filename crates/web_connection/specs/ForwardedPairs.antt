@@ -1,32 +1,14 @@
 -- What the header Forwarded says (RFC 7239, section 4).
-use Rattle.std.specs.Prelude.{ℕ, ◌-◌, ◌==◌, Bool, List, [], ◌∷◌, drop, take, length}
-use Rattle.std.specs.Prelude.{Option, None, Some, codes, if◌then◌else◌}
-use Rattle.std.specs.List.{filter_map, flat_map, prefix_len, slice_split, suffix_len}
+use Rattle.std.specs.Prelude.{◌≡◌, ℕ, List, [], ◌∷◌, ◌++◌, Option, None, Some, codes}
+use Rattle.std.specs.Prelude.{if◌then◌else◌}
+use Rattle.std.specs.List.{filter_map, flat_map, slice_split}
 use Rattle.std.specs.Option.{option_or}
 use Rattle.std.specs.Str.{str_eq_ignore_ascii_case}
 use Rattle.http_header.specs.FieldValue.{FieldValue}
+use Rattle.web_texts.specs.Bytes.{is_comma, is_semicolon, unquoted}
 use Rattle.web_texts.specs.Blanks.{trimmed}
 use Rattle.web_texts.specs.Cut.{split_once}
 use Rattle.web_texts.specs.HeaderTexts.{header_text}
-
-abbrev pub is_semicolon : ℕ → Bool
-is_semicolon b = b == 59
-
-abbrev pub is_comma : ℕ → Bool
-is_comma b = b == 44
-
-abbrev pub is_quote : ℕ → Bool
-is_quote b = b == 34
-
-abbrev pub unquoted_front : List ℕ → List ℕ
-unquoted_front text = drop (prefix_len is_quote text) text
-
-abbrev pub unquoted_end : List ℕ → List ℕ
-unquoted_end text = take (length text - suffix_len is_quote text) text
-
--- without all double quotes at both ends
-abbrev pub unquoted : List ℕ → List ℕ
-unquoted text = unquoted_end (unquoted_front text)
 
 -- The pairs of a text, which is cut at semicolons and at commas, also in quotes.
 abbrev pub pairs_of : List ℕ → List (List ℕ)
@@ -74,23 +56,11 @@ fields_by find = record {
   scheme = find (codes "proto");
 }
 
-abbrev pub nothing_said : ForwardedFields
-nothing_said = fields_by (λ wanted. None)
-
--- of each name the first of both
-abbrev pub or_said : ForwardedFields → ForwardedFields → ForwardedFields
-or_said first second = record {
-  client = option_or first.client second.client;
-  host = option_or first.host second.host;
-  scheme = option_or first.scheme second.scheme;
-}
-
-abbrev pub said_under : List ℕ → List ℕ → ForwardedFields
-said_under name value = fields_by (λ wanted. value_under wanted name value)
-
-abbrev pub said_by_pair : List ℕ → ForwardedFields
-said_by_pair pair = fields_by (λ wanted. value_of_pair wanted pair)
-
 -- of each name the value of its first pair
 abbrev pub said_by : List (List ℕ) → ForwardedFields
 said_by pairs = fields_by (λ wanted. first_said (value_of_pair wanted) pairs)
+
+-- Where the first is what some pairs say, the second is what they say with these behind them.
+abbrev pub GoesOn : ForwardedFields → List (List ℕ) → ForwardedFields → Type 0
+GoesOn said pairs next = (front : List (List ℕ)) → said ≡ said_by front
+    → next ≡ said_by (front ++ pairs)

@@ -1,16 +1,15 @@
 //! Reading the header Forwarded.
-ghost use Rattle.std.specs.Prelude.{◌≡◌, codes, option_copied};
+ghost use Rattle.std.specs.Prelude.{◌≡◌, [], ◌∷◌, codes, option_copied};
 ghost use Rattle.std.specs.List.{slice_split};
 ghost use Rattle.std.specs.Option.{option_or};
 ghost use Rattle.http_header.specs.HeaderMap.{get_all};
-ghost use Rattle.web_connection.specs.ForwardedPairs.{forwarded_pairs, is_comma, nothing_said};
-ghost use Rattle.web_connection.specs.ForwardedPairs.{or_said, pairs_of, said_by, said_by_pair};
-ghost use Rattle.web_connection.specs.ForwardedPairs.{said_under, unquoted, unquoted_end};
-ghost use Rattle.web_connection.specs.ForwardedPairs.{unquoted_front, value_under};
+ghost use Rattle.web_texts.specs.Bytes.{is_comma};
+ghost use Rattle.web_connection.specs.ForwardedPairs.{GoesOn, forwarded_pairs, pairs_of, said_by};
+ghost use Rattle.web_connection.specs.ForwardedPairs.{value_under};
 
 use http_header::{FORWARDED, HeaderMap, HeaderValue};
 use std::marker::Model;
-use web_texts::{cut_at, first_part, header_text, trim};
+use web_texts::{cut_at, first_part, header_text, trim, unquoted};
 
 /// What the header Forwarded says (RFC 7239, section 4): of each name the value of its first pair.
 #[derive(Drop)]
@@ -38,7 +37,7 @@ impl<'a> Model for Forwarded<'a> {
 
 impl<'a> Forwarded<'a> {
     fn nothing() -> Forwarded<'a>
-        ensures { result ≡ nothing_said }
+        ensures { result ≡ said_by [] }
     {
         Forwarded {
             client: None,
@@ -62,7 +61,7 @@ impl<'a> Forwarded<'a> {
 
     /// What is said so far, else by a text of the header.
     fn or_text(self, text: &'a str) -> Forwarded<'a>
-        ensures { result ≡ or_said self.entry (said_by (pairs_of text.now)) }
+        ensures { GoesOn self.entry (pairs_of text.now) result }
     {
         let mut said = self;
         let mut rest = text;
@@ -78,7 +77,7 @@ impl<'a> Forwarded<'a> {
 
     /// What is said so far, else by a part of the header without semicolons.
     fn or_part(self, text: &'a str) -> Forwarded<'a>
-        ensures { result ≡ or_said self.entry (said_by (slice_split is_comma text.now)) }
+        ensures { GoesOn self.entry (slice_split is_comma text.now) result }
     {
         let mut said = self;
         let mut rest = text;
@@ -94,21 +93,18 @@ impl<'a> Forwarded<'a> {
 
     /// What is said so far, else by a pair.
     fn or_pair(self, pair: &'a str) -> Forwarded<'a>
-        ensures { result ≡ or_said self.entry (said_by_pair pair.now) }
+        ensures { GoesOn self.entry (pair.now ∷ []) result }
     {
         match cut_at(pair, b'=') {
-            Some((name, value)) => self.or_named(trim(name), value),
+            Some((name, value)) => {
+                let name = trim(name);
+                Forwarded {
+                    client: or_named(self.client, "for", name, value),
+                    host: or_named(self.host, "host", name, value),
+                    scheme: or_named(self.scheme, "proto", name, value),
+                }
+            }
             None => self,
-        }
-    }
-
-    fn or_named(self, name: &str, value: &'a str) -> Forwarded<'a>
-        ensures { result ≡ or_said self.entry (said_under name.now value.now) }
-    {
-        Forwarded {
-            client: or_named(self.client, "for", name, value),
-            host: or_named(self.host, "host", name, value),
-            scheme: or_named(self.scheme, "proto", name, value),
         }
     }
 }
@@ -123,31 +119,4 @@ fn or_named<'a>(found: Option<&'a str>, wanted: &str, name: &str, value: &'a str
         None if name.eq_ignore_ascii_case(wanted) => Some(unquoted(trim(value))),
         None => None,
     }
-}
-
-/// The text without all double quotes at both ends.
-fn unquoted(text: &str) -> &str
-    ensures { result.now ≡ unquoted text.now }
-{
-    unquoted_end(unquoted_front(text))
-}
-
-fn unquoted_front(text: &str) -> &str
-    ensures { result.now ≡ unquoted_front text.now }
-{
-    let mut rest = text;
-    'quotes: while rest.starts_with('"') {
-        rest = &rest[1..];
-    }
-    rest
-}
-
-fn unquoted_end(text: &str) -> &str
-    ensures { result.now ≡ unquoted_end text.now }
-{
-    let mut rest = text;
-    'quotes: while rest.ends_with('"') {
-        rest = &rest[..rest.len() - 1];
-    }
-    rest
 }

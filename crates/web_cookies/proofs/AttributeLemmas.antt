@@ -1,18 +1,15 @@
 -- One more attribute, and the date that a text shows.
-use Rattle.std.proofs.Common.{◌≡◌, ℕ, ◌||◌, Bool, true, false, List, [], ◌∷◌, Option, None, Some, refl, sym, ◌∙◌, ap, map}
+use Rattle.std.proofs.Common.{◌≡◌, ℕ, ◌||◌, Bool, true, false, List, [], ◌∷◌, Some, refl, sym, ◌∙◌, ap, map}
 use Rattle.std.specs.List.{list_any, slice_split}
-use Rattle.std.specs.Option.{option_or}
 use Rattle.httpdate.specs.declared.date.HttpDate.{HttpDate}
 use Rattle.httpdate.specs.Date.{IsDateText}
 use Rattle.httpdate.specs.Valid.{IsValid}
 use Rattle.httpdate.proofs.FormatLemmas.{parse_complete}
 use Rattle.httpdate.proofs.ValidLemmas.{is_valid_complete}
+use Rattle.web_texts.specs.Bytes.{is_semicolon}
 use Rattle.web_cookies.specs.CookieFields.{CookieFields}
-use Rattle.web_cookies.specs.Attributes.{Attribute, age_in, attribute_of, attributes_of, date_of, domain_in, expires_in, is_http_only, is_semicolon, last_said, path_in, secure_in, site_in, with_attributes}
-
-or_assoc : {T : Type 0} (a b c : Option T) → option_or a (option_or b c) ≡ option_or (option_or a b) c
-or_assoc None b c = refl
-or_assoc (Some x) b c = refl
+use Rattle.web_cookies.specs.Attributes.{Attribute, age_in, attribute_of, attributes_of, date_of, domain_in, expires_in, is_http_only, last_said, path_in, secure_in, site_in, with_attributes}
+use Rattle.web_texts.proofs.TestLemmas.{or_assoc}
 
 any_assoc : (a b c : Bool) → (a || ((b || false) || c)) ≡ ((b || a) || c)
 any_assoc true true c = refl

@@ -6,10 +6,10 @@ use Rattle.std.specs.Str.{IsUtf8, is_utf8}
 use Rattle.std.proofs.lemmas.List.{append-nil}
 use Rattle.std.proofs.lemmas.Str.{is_utf8-from_IsUtf8}
 use Rattle.http_header.specs.FieldValue.{FieldValue}
+use Rattle.web_texts.specs.Bytes.{is_semicolon}
 use Rattle.web_cookies.specs.declared.cookie_parse_error.CookieParseError.{CookieParseError}
 use Rattle.web_cookies.specs.declared.cookie_parse_error.CookieParseError.TheVariants.{Utf8}
 use Rattle.web_cookies.specs.CookieFields.{CookieFields}
-use Rattle.web_cookies.specs.Attributes.{is_semicolon}
 use Rattle.web_cookies.specs.HeaderCookies.{cookie_of_part, cookies_in, cookies_said}
 use Rattle.web_cookies.proofs.ReaderLemmas.{not_utf8}
 

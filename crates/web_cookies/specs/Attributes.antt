@@ -1,5 +1,5 @@
 -- What the parts behind the first one say of a cookie (RFC 6265, section 5.2).
-use Rattle.std.specs.Prelude.{ℕ, ◌==◌, ◌||◌, Bool, true, false, List, [], ◌∷◌, codes, drop, map}
+use Rattle.std.specs.Prelude.{ℕ, ◌||◌, Bool, true, false, List, [], ◌∷◌, codes, drop, map}
 use Rattle.std.specs.Prelude.{min, Option, None, Some, if◌then◌else◌}
 use Rattle.std.specs.List.{list_any, slice_split}
 use Rattle.std.specs.Option.{option_and_then, option_map_or, option_or}
@@ -7,6 +7,7 @@ use Rattle.std.specs.Str.{str_eq_ignore_ascii_case}
 use Rattle.httpdate.specs.declared.parts.Parts.{Parts}
 use Rattle.httpdate.specs.Reader.{parse}
 use Rattle.httpdate.specs.Valid.{is_valid}
+use Rattle.web_texts.specs.Bytes.{is_semicolon, starts_with_byte}
 use Rattle.web_texts.specs.Blanks.{trimmed}
 use Rattle.web_texts.specs.Cut.{split_once}
 use Rattle.web_texts.specs.Digits.{are_digits, digits_value}
@@ -25,13 +26,6 @@ pub data Attribute : Type 0 where
   MaxAge : ℕ → Attribute
   Expires : Parts → Attribute
   Other : Attribute
-
-abbrev pub is_semicolon : ℕ → Bool
-is_semicolon b = b == 59
-
-abbrev pub starts_with_byte : ℕ → List ℕ → Bool
-starts_with_byte byte [] = false
-starts_with_byte byte (b ∷ rest) = b == byte
 
 abbrev pub site_of : List ℕ → Option SameSite
 site_of value =

@@ -4,11 +4,11 @@ use Rattle.std.specs.List.{flat_map, list_all, slice_split}
 use Rattle.std.specs.Result.{result_ok}
 use Rattle.std.specs.Str.{is_utf8}
 use Rattle.http_header.specs.FieldValue.{FieldValue}
+use Rattle.web_texts.specs.Bytes.{is_semicolon}
 use Rattle.web_texts.specs.PieceItems.{item_of_piece}
 use Rattle.web_cookies.specs.declared.cookie_parse_error.CookieParseError.{CookieParseError}
 use Rattle.web_cookies.specs.declared.cookie_parse_error.CookieParseError.TheVariants.{Utf8}
 use Rattle.web_cookies.specs.CookieFields.{CookieFields}
-use Rattle.web_cookies.specs.Attributes.{is_semicolon}
 use Rattle.web_cookies.specs.CookieReaders.{cookie_said}
 
 -- the cookie that a part says, if it says one

@@ -6,7 +6,7 @@ use Rattle.std.specs.Str.{bytes_eq}
 use Rattle.std.proofs.lemmas.Bool.Decides.{nat_tests}
 use Rattle.std.proofs.lemmas.List.Folds.{list_any-append}
 use Rattle.web_texts.proofs.CutLemmas.{split_once_back}
-use Rattle.web_entities.specs.ByteRanges.{number}
+use Rattle.web_texts.specs.Digits.{number_of}
 use Rattle.web_entities.specs.ContentRanges.{star_or, positions_of, bytes_range_of, content_range_of, positions_text, length_text, content_range_text}
 use Rattle.web_entities.specs.EntityLaws.{IsSmall, IsUpward, IsPlain}
 use Rattle.web_entities.specs.declared.content_range.ContentRangeSpec.{ContentRangeSpec}
@@ -49,7 +49,7 @@ no_slash (Some p) up =
     let first : p.0 ≤ 18446744073709551615 = omega (arith, up.0, up.1) in
     none_in_two 47 p.0 p.1 (none_in 47 p.0 refl first) (none_in 47 p.1 refl up.1) refl
 
-length_back : (len : Option ℕ) → IsSmall len → star_or number (length_text len) ≡ Some len
+length_back : (len : Option ℕ) → IsSmall len → star_or number_of (length_text len) ≡ Some len
 length_back None small = refl
 length_back (Some n) small =
     let star : bytes_eq (decimal n) (42 ∷ []) ≡ false = no_star (decimal n) (none_in 42 n refl small) in

@@ -4,9 +4,7 @@ use Rattle.std.proofs.lemmas.Bool.Decides.{nat_tests}
 use Rattle.std.specs.List.{fold}
 use Rattle.web_texts.specs.Pieces.{Rule, ends_piece, pieces}
 use Rattle.web_entities.specs.CutPlaces.{CutsBehind, HasNoCut, IsFirstCut}
-
-pub same_byte : (a b : ℕ) → (a == b) ≡ true → a ≡ b
-same_byte a b e = grind (arith, nat_tests)
+use Rattle.web_texts.proofs.TestLemmas.{same_byte}
 
 pub tests_same : (a b : ℕ) → a ≡ b → (a == b) ≡ true
 tests_same a b e = grind (arith, nat_tests)

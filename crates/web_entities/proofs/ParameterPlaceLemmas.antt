@@ -4,14 +4,16 @@ use Rattle.std.proofs.lemmas.Bool.{false≢true}
 use Rattle.std.proofs.lemmas.List.{append-nil, reverse-append}
 use Rattle.std.specs.Prelude.{slice_index}
 use Rattle.std.specs.List.{after_first, before_first, fold, list_any, prefix_len}
+use Rattle.web_texts.specs.Bytes.{is_equals}
 use Rattle.web_texts.specs.Blanks.{is_blank, without_front}
 use Rattle.web_texts.specs.QuotedText.{is_closed}
-use Rattle.web_entities.specs.CutPlaces.{CutsBehind, HasClosingQuote, IsNoOpenQuote, IsWholeParameter, is_equals}
+use Rattle.web_entities.specs.CutPlaces.{CutsBehind, HasClosingQuote, IsNoOpenQuote, IsWholeParameter}
 use Rattle.web_entities.specs.DispositionPlaces.{ends_parameter, in_parameters, next_place}
 use Rattle.web_entities.specs.declared.disposition_places.Place.{Place}
 use Rattle.web_entities.specs.declared.disposition_places.Place.TheVariants as place
-use Rattle.web_entities.proofs.CutPlaceLemmas.{cuts_behind, other_byte, same_byte}
+use Rattle.web_entities.proofs.CutPlaceLemmas.{cuts_behind, other_byte}
 use Rattle.web_entities.proofs.QuotedPlaceLemmas.{closed_at, closed_kept, closed_more, through}
+use Rattle.web_texts.proofs.TestLemmas.{same_byte}
 
 -- it cuts in this mode exactly where this holds
 record Cuts (p : Place) (holds : Type 0) : Type 0 where

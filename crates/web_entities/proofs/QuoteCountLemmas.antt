@@ -3,14 +3,16 @@ use Rattle.std.proofs.Common.{◌≡◌, ℕ, ◌+◌, ◌%◌, ◌==◌, Bool, 
 use Rattle.std.proofs.lemmas.List.{append-nil, reverse-append}
 use Rattle.std.proofs.lemmas.List.Sums.{sum_by-cons}
 use Rattle.std.specs.List.{count_by, fold, prefix_len, suffix_len}
-use Rattle.web_entities.specs.CutPlaces.{CutsBehind, EndsUnkept, HasEvenQuotes, is_backslash, is_quote}
+use Rattle.web_texts.specs.Bytes.{is_quote}
+use Rattle.web_entities.specs.CutPlaces.{CutsBehind, EndsUnkept, HasEvenQuotes, is_backslash}
 use Rattle.web_entities.specs.DispositionPlaces.{ends_quoted, in_quotes, next_inside}
 use Rattle.web_entities.specs.TagLists.{is_even, next_quotes, outside_quotes}
 use Rattle.web_entities.specs.declared.disposition_places.Inside.{Inside}
 use Rattle.web_entities.specs.declared.disposition_places.Inside.TheVariants.{Plain, Escaped}
 use Rattle.web_entities.specs.declared.tag_list.Quotes.{Quotes}
 use Rattle.web_entities.specs.declared.tag_list.Quotes.TheVariants.{Even, Odd}
-use Rattle.web_entities.proofs.CutPlaceLemmas.{cuts_behind, other_byte, same_byte}
+use Rattle.web_entities.proofs.CutPlaceLemmas.{cuts_behind, other_byte}
+use Rattle.web_texts.proofs.TestLemmas.{same_byte}
 
 abbrev is_even_number : ℕ → Bool
 is_even_number n = n % 2 == 0

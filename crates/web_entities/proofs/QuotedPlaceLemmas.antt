@@ -8,7 +8,8 @@ use Rattle.web_texts.specs.QuotedText.{is_closed}
 use Rattle.web_texts.specs.declared.parameters.Place.{Place}
 use Rattle.web_texts.specs.declared.parameters.Place.TheVariants.{Outside, Quoted, Escaped}
 use Rattle.web_entities.specs.CutPlaces.{CutsBehind, IsOutsideQuotes, is_part}
-use Rattle.web_entities.proofs.CutPlaceLemmas.{cuts_behind, same_byte}
+use Rattle.web_entities.proofs.CutPlaceLemmas.{cuts_behind}
+use Rattle.web_texts.proofs.TestLemmas.{same_byte}
 
 -- ---- what closes
 

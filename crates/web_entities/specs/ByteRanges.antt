@@ -4,29 +4,26 @@ use Rattle.std.specs.Prelude.{Option, None, Some, if◌then◌else◌}
 use Rattle.std.specs.Option.{option_map, option_and_then}
 use Rattle.std.specs.List.{slice_split, join_by}
 use Rattle.std.specs.Str.{bytes_eq}
+use Rattle.web_texts.specs.Bytes.{is_comma}
 use Rattle.web_texts.specs.Cut.{split_once}
-use Rattle.web_texts.specs.Digits.{digits_up_to}
-use Rattle.web_texts.specs.PieceItems.{is_comma, is_empty, item_of_piece}
+use Rattle.web_texts.specs.Digits.{number_of}
+use Rattle.web_texts.specs.PieceItems.{is_empty, item_of_piece}
 use Rattle.web_entities.specs.declared.ranges.ByteRangeSpec.{ByteRangeSpec}
 use Rattle.web_entities.specs.declared.ranges.ByteRangeSpec.TheVariants as spec
 use Rattle.web_entities.specs.declared.ranges.Range.{Range}
 use Rattle.web_entities.specs.declared.ranges.Range.TheVariants as kind
 
--- digits alone, up to 2^64 - 1
-abbrev pub number : List ℕ → Option ℕ
-number text = digits_up_to 18446744073709551615 text
-
 -- two numbers, the second not less
 abbrev pub pair_of : List ℕ → List ℕ → Option (ℕ × ℕ)
 pair_of first last =
     option_and_then (λ a. option_and_then (λ b. if nat_le a b then Some (a, b) else None)
-    (number last)) (number first)
+    (number_of last)) (number_of first)
 
 -- `-n`, `a-`, or `a-b` with a at most b, split at the first dash
 abbrev pub byte_range_of : List ℕ → Option ByteRangeSpec
 byte_range_of text = option_and_then (λ parts.
-    if is_empty parts.0 then option_map spec.Last (number parts.1)
-    else if is_empty parts.1 then option_map spec.From (number parts.0)
+    if is_empty parts.0 then option_map spec.Last (number_of parts.1)
+    else if is_empty parts.1 then option_map spec.From (number_of parts.0)
     else option_map (λ p. spec.FromTo p.0 p.1) (pair_of parts.0 parts.1)) (split_once 45 text)
 
 -- some byte range

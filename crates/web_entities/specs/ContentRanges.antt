@@ -4,7 +4,8 @@ use Rattle.std.specs.Prelude.{Option, None, Some, if◌then◌else◌}
 use Rattle.std.specs.Option.{option_map, option_and_then}
 use Rattle.std.specs.Str.{bytes_eq}
 use Rattle.web_texts.specs.Cut.{split_once}
-use Rattle.web_entities.specs.ByteRanges.{number, pair_of}
+use Rattle.web_texts.specs.Digits.{number_of}
+use Rattle.web_entities.specs.ByteRanges.{pair_of}
 use Rattle.web_entities.specs.declared.content_range.ContentRangeSpec.{ContentRangeSpec}
 use Rattle.web_entities.specs.declared.content_range.ContentRangeSpec.TheVariants as kind
 
@@ -19,7 +20,7 @@ positions_of text = option_and_then (λ parts. pair_of parts.0 parts.1) (split_o
 -- a range and a length, split at the first slash; `*/*` too, which the RFC does not have
 abbrev pub bytes_range_of : List ℕ → Option ContentRangeSpec
 bytes_range_of text = option_and_then (λ parts. option_and_then (λ range.
-    option_map (λ len. kind.Bytes range len) (star_or number parts.1))
+    option_map (λ len. kind.Bytes range len) (star_or number_of parts.1))
     (star_or positions_of parts.0)) (split_once 47 text)
 
 -- a unit, which may be empty, and the rest, split at the first space

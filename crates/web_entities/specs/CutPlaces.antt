@@ -3,6 +3,7 @@ use Rattle.std.specs.Prelude.{◌≡◌, ◌⊎◌, ◌<◌, ℕ, ◌+◌, ◌%�
 use Rattle.std.specs.Prelude.{List, [], ◌∷◌, ◌++◌, length, take, drop, slice_index, reverse}
 use Rattle.std.specs.List.{after_first, before_first, concat, count_by, list_all, list_any}
 use Rattle.std.specs.List.{suffix_len}
+use Rattle.web_texts.specs.Bytes.{is_equals, is_quote}
 use Rattle.web_texts.specs.Blanks.{without_front}
 use Rattle.web_texts.specs.PieceItems.{is_empty}
 use Rattle.web_texts.specs.Pieces.{Rule, pieces}
@@ -28,14 +29,8 @@ pub record CutsBehind {M : Type 0} (rule : Rule M) (cuts : List ℕ → Type 0) 
   pub whole : (text : List ℕ) → HasNoCut rule.mark cuts text
       → pieces rule rule.start text ≡ text ∷ []
 
-abbrev pub is_quote : ℕ → Bool
-is_quote b = b == 34
-
 abbrev pub is_backslash : ℕ → Bool
 is_backslash b = b == 92
-
-abbrev pub is_equals : ℕ → Bool
-is_equals b = b == 61
 
 -- an even number of double quotes
 abbrev pub HasEvenQuotes : List ℕ → Type 0

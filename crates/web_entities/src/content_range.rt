@@ -1,6 +1,6 @@
 //! Content-Range.
 ghost use Rattle.std.specs.Prelude.{◌≡◌};
-ghost use Rattle.web_entities.specs.ByteRanges.{number};
+ghost use Rattle.web_texts.specs.Digits.{number_of};
 ghost use Rattle.web_entities.specs.ContentRanges.{star_or, positions_of, bytes_range_of};
 
 use crate::ranges::{read_number, read_pair};
@@ -40,7 +40,7 @@ pub enum ContentRangeSpec {
 pub struct ContentRange(pub ContentRangeSpec);
 
 fn read_length(text: &str) -> Option<Option<u64>>
-    ensures { result ≡ star_or number text.now }
+    ensures { result ≡ star_or number_of text.now }
 {
     if text == "*" {
         return Some(None);

@@ -2,7 +2,8 @@
 ghost use Rattle.std.specs.Prelude.{◌≡◌, ◌∷◌, [], IfOk, flat_map};
 ghost use Rattle.std.specs.List.{join_by};
 ghost use Rattle.std.specs.Fmt.{WritesOnOk};
-ghost use Rattle.web_entities.specs.ByteRanges.{number, pair_of, bytes_of, byte_range_text};
+ghost use Rattle.web_texts.specs.Digits.{number_of};
+ghost use Rattle.web_entities.specs.ByteRanges.{pair_of, bytes_of, byte_range_text};
 ghost use Rattle.web_entities.specs.ByteRanges.{from_pairs};
 ghost use Rattle.web_entities.specs.declared.ranges.ByteRangeSpec.TheVariants as spec;
 ghost use Rattle.web_entities.specs.declared.ranges.Range.TheVariants as kind;
@@ -42,7 +43,7 @@ pub enum Range {
 
 /// Reads digits alone, up to 2^64 - 1.
 pub fn read_number(text: &str) -> Option<u64>
-    ensures { result ≡ number text.now }
+    ensures { result ≡ number_of text.now }
 {
     read_digits(text, u64::MAX)
 }

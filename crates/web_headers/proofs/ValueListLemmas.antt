@@ -7,9 +7,10 @@ use Rattle.std.proofs.lemmas.List.Elements.{filter-append, filter_map-append}
 use Rattle.std.proofs.lemmas.List.Sums.{AllPass-from_list_all, list_all-from_AllPass}
 use Rattle.http_header.specs.Token.{is_visible_or_blank}
 use Rattle.http_header.specs.FieldValue.{FieldValue, IsVisibleAscii, is_visible_text}
+use Rattle.web_texts.specs.Bytes.{is_comma}
 use Rattle.web_texts.specs.Blanks.{trimmed}
 use Rattle.web_texts.specs.Pieces.{Rule, pieces}
-use Rattle.web_texts.specs.PieceItems.{is_comma, is_empty, one_or_none, item_of_piece}
+use Rattle.web_texts.specs.PieceItems.{is_empty, one_or_none, item_of_piece}
 use Rattle.web_texts.specs.HeaderTexts.{value_bytes, header_text_of, first_text_of}
 use Rattle.web_headers.specs.HeaderReaders.{items_of_value, comma_list_of, piece_list_of, each_comma, comma_items}
 

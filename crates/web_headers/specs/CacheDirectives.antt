@@ -1,9 +1,9 @@
 -- Cache directives (RFC 9111, section 5.2).
-use Rattle.std.specs.Prelude.{ℕ, ◌-◌, ◌==◌, Bool, List, ◌∷◌, ◌++◌, length, take, drop, codes}
-use Rattle.std.specs.Prelude.{decimal, Option, None, Some, if◌then◌else◌}
+use Rattle.std.specs.Prelude.{ℕ, List, ◌∷◌, ◌++◌, codes, decimal, Option, None, Some}
+use Rattle.std.specs.Prelude.{if◌then◌else◌}
 use Rattle.std.specs.Option.{option_map}
-use Rattle.std.specs.List.{prefix_len, suffix_len}
 use Rattle.std.specs.Str.{bytes_eq}
+use Rattle.web_texts.specs.Bytes.{unquoted}
 use Rattle.web_texts.specs.Cut.{split_once}
 use Rattle.web_texts.specs.Digits.{digits_up_to}
 use Rattle.web_texts.specs.PieceItems.{is_empty}
@@ -37,24 +37,12 @@ argument_directive name argument =
     else if bytes_eq name (codes "s-maxage") then option_map directive.SMaxAge (seconds_of argument)
     else Some (directive.Extension name (Some argument))
 
-abbrev pub is_quote : ℕ → Bool
-is_quote b = b == 34
-
-abbrev pub behind_quotes : List ℕ → List ℕ
-behind_quotes text = drop (prefix_len is_quote text) text
-
-abbrev pub before_quotes : List ℕ → List ℕ
-before_quotes text = take (length text - suffix_len is_quote text) text
-
 -- The double quotes at both ends of an argument are taken off, however many there are. The RFC has
 -- one pair of them, and backslashes within.
-abbrev pub without_quotes : List ℕ → List ℕ
-without_quotes text = before_quotes (behind_quotes text)
-
 abbrev pub named_directive : List ℕ → Option (List ℕ × List ℕ) → Option CacheDirective
 named_directive text None = Some (directive.Extension text None)
 named_directive text (Some parts) =
-    if is_empty parts.1 then None else argument_directive parts.0 (without_quotes parts.1)
+    if is_empty parts.1 then None else argument_directive parts.0 (unquoted parts.1)
 
 abbrev pub plain_or_named : List ℕ → Option CacheDirective → Option CacheDirective
 plain_or_named text (Some plain) = Some plain

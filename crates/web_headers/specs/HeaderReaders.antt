@@ -4,10 +4,11 @@ use Rattle.std.specs.Prelude.{Option, None, Some, if◌then◌else◌}
 use Rattle.std.specs.Option.{option_and_then}
 use Rattle.std.specs.List.{list_all, filter_map, slice_split}
 use Rattle.http_header.specs.FieldValue.{is_visible_text}
+use Rattle.web_texts.specs.Bytes.{is_comma}
 use Rattle.web_texts.specs.Blanks.{trimmed}
 use Rattle.web_texts.specs.HeaderTexts.{first_text_of}
 use Rattle.web_texts.specs.Pieces.{Rule, pieces}
-use Rattle.web_texts.specs.PieceItems.{is_comma, is_empty, item_of_piece}
+use Rattle.web_texts.specs.PieceItems.{is_empty, item_of_piece}
 use Rattle.web_headers.specs.declared.value_readers.EachComma.{EachComma}
 
 -- a text that is there and is not empty

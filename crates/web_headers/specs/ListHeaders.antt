@@ -41,8 +41,9 @@ accept_text items = comma_joined (quality_item_text media_type_text) items
 abbrev pub accept_charset_of : List (List ℕ) → Option (List (QualityItem (List ℕ)))
 accept_charset_of values = comma_list_of (quality_item_of charset_name_of) values
 
-abbrev pub accept_charset_text : List (QualityItem (List ℕ)) → List ℕ
-accept_charset_text items = comma_joined (quality_item_text text_as_it_is) items
+-- the value of Accept-Charset, and that of Content-Language
+abbrev pub quality_texts : List (QualityItem (List ℕ)) → List ℕ
+quality_texts items = comma_joined (quality_item_text text_as_it_is) items
 
 -- Accept-Encoding (section 12.5.3)
 
@@ -82,9 +83,6 @@ cache_control_text directives = comma_joined cache_directive_text directives
 
 abbrev pub content_language_of : List (List ℕ) → Option (List (QualityItem (List ℕ)))
 content_language_of values = some_list_of (quality_item_of language_tag_of) values
-
-abbrev pub content_language_text : List (QualityItem (List ℕ)) → List ℕ
-content_language_text items = comma_joined (quality_item_text text_as_it_is) items
 
 -- the one item of the media type of a text, with the greatest quality
 abbrev pub IsOne : List ℕ → List (QualityItem MediaType) → Type 0

@@ -37,9 +37,9 @@ impl Header for AcceptCharset {
 
 impl fmt::Display for AcceptCharset {
     ghost use Rattle.std.specs.Prelude.{Some};
-    ghost use Rattle.web_headers.specs.ListHeaders.{accept_charset_text};
+    ghost use Rattle.web_headers.specs.ListHeaders.{quality_texts};
 
-    ghost output = { λ header. Some (accept_charset_text header.0) };
+    ghost output = { λ header. Some (quality_texts header.0) };
 
     fn fmt<W: fmt::Write>(&self, f: &mut fmt::Formatter<W>) -> fmt::Result {
         fmt_comma_delimited(f, self.0.as_slice())
@@ -48,9 +48,9 @@ impl fmt::Display for AcceptCharset {
 
 impl TryIntoHeaderValue for AcceptCharset {
     ghost use Rattle.http_header.specs.FieldValue.{plain_value};
-    ghost use Rattle.web_headers.specs.ListHeaders.{accept_charset_text};
+    ghost use Rattle.web_headers.specs.ListHeaders.{quality_texts};
 
-    ghost value = { λ header. plain_value (accept_charset_text header.0) };
+    ghost value = { λ header. plain_value (quality_texts header.0) };
 
     fn try_into_value(self, alloc: Global) -> Result<HeaderValue, Fail<InvalidHeaderValue>> {
         printed_value(alloc, &self)

@@ -5,7 +5,6 @@ ghost use Rattle.std.specs.Str.{bytes_eq};
 ghost use Rattle.web_texts.specs.Cut.{split_once};
 ghost use Rattle.web_texts.specs.TextReaders.{Reads};
 ghost use Rattle.web_headers.specs.CacheDirectives.{plain_directive as plain_spec, seconds_of};
-ghost use Rattle.web_headers.specs.CacheDirectives.{behind_quotes, before_quotes, without_quotes};
 ghost use Rattle.web_headers.specs.CacheDirectives.{argument_directive, named_directive};
 ghost use Rattle.web_headers.specs.CacheDirectives.{extension_text};
 ghost use Rattle.web_headers.specs.declared.cache_control.CacheDirective.TheVariants as directive;
@@ -20,7 +19,7 @@ use std::fmt;
 use std::ops::{Deref, DerefMut};
 use web_texts::{
     Duplicate, Fail, InvalidHeaderValue, Items, NoMemory, ParseError, ReadText, Text, cut_at,
-    number_of,
+    number_of, unquoted,
 };
 
 /// Cache-Control (RFC 9111, section 5.2): directives for caches. Where it is read, at least one
@@ -98,33 +97,6 @@ fn read_seconds(text: &str) -> Option<u32>
     }
 }
 
-/// The text without the double quotes at its ends.
-fn strip_quotes(text: &str) -> &str
-    ensures { result.now ≡ without_quotes text.now }
-{
-    strip_end(strip_front(text))
-}
-
-fn strip_front(text: &str) -> &str
-    ensures { result.now ≡ behind_quotes text.now }
-{
-    let mut rest = text;
-    'quotes: while rest.starts_with('"') {
-        rest = &rest[1..];
-    }
-    rest
-}
-
-fn strip_end(text: &str) -> &str
-    ensures { result.now ≡ before_quotes text.now }
-{
-    let mut rest = text;
-    'quotes: while rest.ends_with('"') {
-        rest = &rest[..rest.len() - 1];
-    }
-    rest
-}
-
 fn extension(alloc: Global, name: &str, argument: &str) -> Result<CacheDirective, Fail<ParseError>>
     ensures { Reads result (Some (directive.Extension name.now (Some argument.now))) }
 {
@@ -159,7 +131,7 @@ fn read_named(alloc: Global, text: &str) -> Result<CacheDirective, Fail<ParseErr
 {
     match cut_at(text, b'=') {
         Some((_, argument)) if argument.is_empty() => Err(Fail::Of(ParseError::Header)),
-        Some((name, argument)) => read_argument(alloc, name, strip_quotes(argument)),
+        Some((name, argument)) => read_argument(alloc, name, unquoted(argument)),
         None => Ok(CacheDirective::Extension(Text::of(alloc, text)?, None)),
     }
 }

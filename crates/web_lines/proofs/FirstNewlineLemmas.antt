@@ -5,12 +5,12 @@ use Rattle.std.proofs.lemmas.Bool.{false_from_ne_true}
 use Rattle.std.proofs.lemmas.List.{length-take-le}
 use Rattle.std.proofs.lemmas.List.Sums.{position_or_len_is}
 use Rattle.memchr.specs.Find.{IsFirstByte, Nowhere, NoneBefore, Passes, is_byte}
+use Rattle.web_texts.specs.Bytes.{is_newline}
 use Rattle.web_texts.specs.Cut.{IsCut}
 use Rattle.web_texts.proofs.SplitLemmas.{no_cut}
 use Rattle.web_body.specs.declared.lines_error.ReadlinesError.TheVariants.{LimitOverflow}
 use Rattle.web_lines.specs.declared.line_cut.LineCut.{LineCut}
 use Rattle.web_lines.specs.LineCuts.{Cuts, GivesError, IsTooLong, IsUnfinished, TakesLine}
-use Rattle.web_lines.specs.Lines.{is_newline}
 use Rattle.web_lines.proofs.LineCutLemmas.{has_line, line_cuts, line_too_long, not_long, taken_front}
 
 none_at : (piece : List ℕ) (end : ℕ) → Nowhere (Passes (is_byte 10) piece) 0 end → (k : ℕ) → k < end → (get_or piece k 0 == 10) ≡ false

@@ -5,11 +5,9 @@ use Rattle.std.specs.List.{list_any}
 use Rattle.std.proofs.lemmas.List.{length-append}
 use Rattle.std.proofs.lemmas.List.Folds.{list_any-append}
 use Rattle.std.proofs.lemmas.Bool.Decides.{nat_tests}
-use Rattle.web_lines.specs.Lines.{AfterBytes, and_then, answers_from, is_newline, line_answer, line_answers, lines_of, onto_line, rest_answer, text_answer, too_long}
-
-pub or_false : (a b : Bool) → (a || b) ≡ false → (a ≡ false) × (b ≡ false)
-or_false true b e = absurd (cc)
-or_false false b e = (refl, e)
+use Rattle.web_texts.specs.Bytes.{is_newline}
+use Rattle.web_lines.specs.Lines.{AfterBytes, and_then, answers_from, line_answer, line_answers, lines_of, onto_line, rest_answer, text_answer, too_long}
+use Rattle.web_texts.proofs.LastCutLemmas.{or_false}
 
 pub or_right : (a : Bool) → (a || true) ≡ true
 or_right true = refl

@@ -1,11 +1,11 @@
 -- Polls of lines that take no memory.
 use Rattle.std.proofs.Common.{◌≡◌, inl, inr, ◌≤◌, ℕ, false, List, [], ◌∷◌, ◌++◌, Option, None, Some, refl, length, subst, arith}
 use Rattle.std.specs.List.{list_any}
+use Rattle.web_texts.specs.Bytes.{is_newline}
 use Rattle.web_request.specs.declared.source.Mark.{Mark}
 use Rattle.web_request.specs.declared.source.Mark.TheVariants.{Piece, Stall, Fault}
 use Rattle.web_request.specs.Feed.{Takes, NoneLeft}
 use Rattle.web_lines.specs.declared.line_cut.LineCut.TheVariants as cut
-use Rattle.web_lines.specs.Lines.{is_newline}
 use Rattle.web_lines.specs.LineCuts.{IsTooLong, IsUnfinished, LeavesFront, RefusesLong}
 use Rattle.web_lines.specs.LineMemory.{NeedsNoMemory, NextNeedsNoMemory}
 use Rattle.web_lines.proofs.LineLemmas.{lines_first, one_line}

@@ -3,10 +3,11 @@ use Rattle.std.proofs.Common.{◌≡◌, ◌<◌, ◌≤◌, ◌+◌, ◌-◌, �
 use Rattle.std.specs.Prelude.{nat_lt}
 use Rattle.std.specs.List.{list_any}
 use Rattle.std.proofs.lemmas.List.{length-append}
+use Rattle.web_texts.specs.Bytes.{is_newline}
 use Rattle.web_request.specs.declared.source.Mark.{Mark}
 use Rattle.web_request.specs.declared.source.Mark.TheVariants.{Piece, Stall}
 use Rattle.web_request.specs.Body.{ends_in_fault, piece_bytes, stalls}
-use Rattle.web_lines.specs.Lines.{AfterBytes, Answer, AtEnd, LineAnswer, Moment, and_then, answers_from, fault_answers, goes_on, is_newline, line_answer, line_answers, lines_of, rest_answer}
+use Rattle.web_lines.specs.Lines.{AfterBytes, Answer, AtEnd, LineAnswer, Moment, and_then, answers_from, fault_answers, goes_on, line_answer, line_answers, lines_of, rest_answer}
 use Rattle.web_lines.specs.LineSchedules.{Due, delay_of, due, end_of, ends_at, later, one_later, schedule, stalls_before}
 use Rattle.web_lines.specs.LineCuts.{IsUnfinished}
 use Rattle.web_lines.proofs.LineLemmas.{begins, none-append}

@@ -14,6 +14,7 @@ use Rattle.web_body.specs.declared.poll.Step.{Step}
 use Rattle.web_body.specs.declared.poll.Step.TheVariants as step
 use Rattle.web_body.specs.PollSteps.{IsPending, NeverNoMemory, OnPending}
 use Rattle.web_body.specs.Collector.{StallsNext}
+use Rattle.web_body.specs.MessageBody.{default_limit}
 use Rattle.web_body.specs.Payload.{KeepsPayload, bytes_between, payload_feed}
 use Rattle.web_lines.specs.declared.lines_collector.Progress.{Progress}
 use Rattle.web_lines.specs.declared.lines_collector.Progress.TheVariants.{Over, Reading, Refused}
@@ -24,9 +25,6 @@ use Rattle.web_lines.specs.LineMemory.{NeedsNoMemory}
 use Rattle.web_lines.specs.LineReader.{LineReader}
 use Rattle.web_lines.specs.LineSchedules.{Schedule, error_due, line_due, nothing_due, one_later}
 use Rattle.web_lines.specs.LineSchedules.{schedule}
-
-abbrev pub default_limit : ℕ
-default_limit = 262144
 
 -- The payload of a message is taken, unless its content type is refused.
 abbrev pub new_reader : {S : Type 0} → Result (Unit {0}) ContentTypeError → Payload S

@@ -1,15 +1,13 @@
 -- The lines of a body, what is answered of each, and from which byte on that is known.
-use Rattle.std.specs.Prelude.{ℕ, ◌+◌, ◌==◌, Bool, true, false, List, [], ◌∷◌, length, nat_lt}
+use Rattle.std.specs.Prelude.{ℕ, ◌+◌, Bool, true, false, List, [], ◌∷◌, length, nat_lt}
 use Rattle.std.specs.Prelude.{Result, Ok, Err, if◌then◌else◌}
 use Rattle.std.specs.List.{list_any}
 use Rattle.std.specs.Str.{is_utf8}
+use Rattle.web_texts.specs.Bytes.{is_newline}
 use Rattle.web_body.specs.declared.message_body.PayloadError.TheVariants.{Io}
 use Rattle.web_body.specs.declared.lines_error.ReadlinesError.{ReadlinesError}
 use Rattle.web_body.specs.declared.lines_error.ReadlinesError.TheVariants.{EncodingError}
 use Rattle.web_body.specs.declared.lines_error.ReadlinesError.TheVariants.{LimitOverflow, Payload}
-
-abbrev pub is_newline : ℕ → Bool
-is_newline b = b == 10
 
 abbrev pub onto_line : ℕ → List (List ℕ) → List (List ℕ)
 onto_line b [] = (b ∷ []) ∷ []

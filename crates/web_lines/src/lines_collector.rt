@@ -11,7 +11,8 @@ ghost use Rattle.web_lines.specs.LineReading.{Buffers, IsReading, IsUnpolled, On
 ghost use Rattle.web_lines.specs.LastPieces.{LastTaken};
 ghost use Rattle.web_lines.specs.LineMemory.{NeedsNoMemory};
 ghost use Rattle.web_lines.specs.LineReading.{OnLine, OnRefused, OnTooLong, ReadsLine, StepGives};
-ghost use Rattle.web_lines.specs.LineReading.{default_limit, new_reader, progress_after};
+ghost use Rattle.web_body.specs.MessageBody.{default_limit};
+ghost use Rattle.web_lines.specs.LineReading.{new_reader, progress_after};
 ghost use Rattle.web_lines.specs.LineReading.{schedule_of, taken_from, work_left};
 ghost use Rattle.web_lines.specs.NextLines.{BuffersLine, LastLine, MayGoOn, NextLine};
 ghost use Rattle.web_body.specs.declared.lines_error.ReadlinesError.TheVariants as readlines;

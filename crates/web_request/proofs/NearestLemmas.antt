@@ -5,10 +5,7 @@ use Rattle.std.specs.declared.rc.Rc.{Rc}
 use Rattle.std.proofs.lemmas.List.{map-append}
 use Rattle.web_request.specs.Shared.{values, values_behind}
 use Rattle.web_request.specs.Nearest.{nearest}
-
-or_assoc : {T : Type 0} (a b c : Option T) → option_or a (option_or b c) ≡ option_or (option_or a b) c
-or_assoc None b c = refl
-or_assoc (Some x) b c = refl
+use Rattle.web_texts.proofs.TestLemmas.{or_assoc}
 
 or_none : {T : Type 0} (a : Option T) → option_or a None ≡ a
 or_none None = refl

@@ -1,5 +1,5 @@
 -- The digits of a number read back, and no other byte stands in them.
-use Rattle.std.proofs.Common.{◌≡◌, ◌<◌, ◌≤◌, ◌==◌, ◌+◌, ◌-◌, ◌*◌, ◌^◌, ℕ, Bool, true, false, ◌&&◌, List, [], ◌∷◌, length, Some, refl, arith}
+use Rattle.std.proofs.Common.{◌≡◌, ◌<◌, ◌≤◌, ◌==◌, ◌+◌, ◌-◌, ◌*◌, ◌^◌, ℕ, true, false, List, [], ◌∷◌, length, Some, refl, arith}
 use Rattle.std.specs.Prelude.{nat_le, decimal, fold}
 use Rattle.std.specs.List.{list_all, list_any}
 use Rattle.std.specs.Char.{is_ascii_digit}
@@ -7,13 +7,10 @@ use Rattle.std.proofs.lemmas.Bool.Decides.{nat_tests}
 use Rattle.std.proofs.lemmas.Fmt.{digits_decimal, digits_value-decimal, decimal_nonempty}
 use Rattle.std.proofs.lemmas.Str.Parse.{IsDigitsTest, IsNumeralModel, FoldsDigits, numerals_by_fold}
 use Rattle.web_texts.specs.Digits.{digits_value, digits_up_to}
+use Rattle.web_texts.proofs.TestLemmas.{both}
 
 abbrev AreDigits : List ℕ → Type 0
 AreDigits ds = list_all is_ascii_digit ds ≡ true
-
-split : (a b : Bool) → (a && b) ≡ true → (a ≡ true) × (b ≡ true)
-split true b e = (refl, e)
-split false b e = absurd (cc)
 
 low : (c : ℕ) → is_ascii_digit c ≡ true → 48 ≤ c
 low c e = grind (arith, nat_tests)
@@ -27,7 +24,7 @@ is_digit c l h = grind (arith, nat_tests)
 digits_test : IsDigitsTest AreDigits
 digits_test = record {
   empty = refl;
-  parts = λ c cs e. let k = split (is_ascii_digit c) (list_all is_ascii_digit cs) e in ((low c k.0, high c k.0), k.1);
+  parts = λ c cs e. let k = both (is_ascii_digit c) (list_all is_ascii_digit cs) e in ((low c k.0, high c k.0), k.1);
   more = λ c cs k e. rw (is_digit c k.0 k.1) e;
 }
 
@@ -54,7 +51,7 @@ other_byte byte d unfit fits = grind (arith, nat_tests)
 away : (byte : ℕ) (ds : List ℕ) → is_ascii_digit byte ≡ false → AreDigits ds → list_any (λ b. b == byte) ds ≡ false
 away byte [] unfit e = refl
 away byte (d ∷ ds) unfit e =
-    let k = split (is_ascii_digit d) (list_all is_ascii_digit ds) e in
+    let k = both (is_ascii_digit d) (list_all is_ascii_digit ds) e in
     rw (other_byte byte d unfit k.0, away byte ds unfit k.1) refl
 
 -- no byte but a digit stands in them

@@ -1,5 +1,5 @@
 -- The parts of an essence, put together again.
-use Rattle.std.proofs.Common.{◌≡◌, ◌<◌, ◌==◌, ℕ, suc, ◌+◌, Bool, true, false, not, ◌&&◌, ◌||◌, List, [], ◌∷◌, ◌++◌, cond, length, refl, ap, sym, ◌∙◌, arith}
+use Rattle.std.proofs.Common.{◌≡◌, ◌<◌, ◌==◌, ℕ, suc, ◌+◌, Bool, true, false, not, ◌||◌, List, [], ◌∷◌, ◌++◌, cond, length, refl, ap, sym, ◌∙◌, arith}
 use Rattle.std.specs.List.{list_any, position_or_len, before_first, after_first, before_last, after_last}
 use Rattle.std.specs.Str.{str_to_ascii_lowercase}
 use Rattle.std.specs.Char.{to_ascii_lowercase}
@@ -9,6 +9,7 @@ use Rattle.web_texts.specs.declared.text.Pair.{Pair}
 use Rattle.web_texts.specs.MediaTypes.{is_slash, is_plus, has_suffix, subtype_of, suffix_of, suffix_text, of_essence, essence_of}
 use Rattle.web_texts.proofs.LastCutLemmas.{before_last_at, after_last_at}
 use Rattle.web_texts.proofs.SplitLemmas.{cut_parts}
+use Rattle.web_texts.proofs.TestLemmas.{and_left}
 
 place_step : (b any : Bool) (n len : ℕ) → (b || any) ≡ true → (any ≡ true → n < len) → cond (not b) (1 + n) 0 < suc len
 place_step true any n len e rest = omega arith
@@ -56,10 +57,6 @@ plus_back second has =
     let before : before_last is_plus second ≡ last.front = ap (before_last is_plus) last.parts ∙ before_last_at is_plus last.front last.x last.rest last.passes last.none in
     let after : after_last is_plus second ≡ last.rest = ap (after_last is_plus) last.parts ∙ after_last_at is_plus last.front last.x last.rest last.passes last.none in
     rw (before, after, ← plus_is last.x last.passes) (sym last.parts)
-
-and_left : (a b : Bool) → (a && b) ≡ true → a ≡ true
-and_left true b e = refl
-and_left false b e = absurd (cc)
 
 second_step : (second : List ℕ) (b : Bool) → has_suffix second ≡ b → subtype_of second ++ suffix_text (suffix_of second) ≡ second
 second_step second true e = rw e (plus_back second (and_left (list_any is_plus second) _ e))

@@ -9,30 +9,20 @@ use Rattle.std.proofs.Math.Seq.{drop-append-add, take-append_seam}
 use Rattle.std.proofs.lemmas.Bool.Decides.{nat_tests}
 use Rattle.std.proofs.lemmas.List.{take-map, drop-map, length-map}
 use Rattle.std.proofs.lemmas.List.Folds.{list_any-append}
+use Rattle.web_texts.specs.Bytes.{is_equals}
 use Rattle.web_texts.specs.Blanks.{trimmed, without_front}
 use Rattle.web_texts.specs.PieceItems.{is_empty}
 use Rattle.web_texts.specs.Tokens.{is_token, is_token_byte}
-use Rattle.web_texts.specs.MediaTypes.{and_parameters, is_equals, is_essence, is_slash, of_essence, essence_of}
+use Rattle.web_texts.specs.MediaTypes.{and_parameters, is_essence, is_slash, of_essence, essence_of}
 use Rattle.web_texts.specs.MediaTypes.{parameter, parameter_of, parameter_value, parameters_of}
 use Rattle.web_texts.specs.WrittenMediaTypes.{AreKeptParameters, IsKept, IsKeptParameter}
 use Rattle.web_texts.specs.declared.text.Pair.{Pair}
-use Rattle.web_texts.proofs.CutLemmas.{or-true}
 use Rattle.web_texts.proofs.EssenceLemmas.{essence_back, has_slash_lowered, slash_lowered}
 use Rattle.web_texts.proofs.LastCutLemmas.{stop}
-
-pub and_left : (a b : Bool) → (a && b) ≡ true → a ≡ true
-and_left true b e = refl
-and_left false b e = absurd (cc)
-
-pub and_right : (a b : Bool) → (a && b) ≡ true → b ≡ true
-and_right true b e = e
-and_right false b e = absurd (cc)
-
-same_number : (a b : ℕ) → (a == b) ≡ true → a ≡ b
-same_number a b e = grind (arith, nat_tests)
+use Rattle.web_texts.proofs.TestLemmas.{and_left, and_right, same_byte, or_true}
 
 differs_step : (b c : ℕ) (t : Bool) → (b == c) ≡ t → is_token_byte b ≡ true → is_token_byte c ≡ false → t ≡ false
-differs_step b c true e inside outside = let here = rw (same_number b c e) at inside in absurd (true≢false (sym here ∙ outside))
+differs_step b c true e inside outside = let here = rw (same_byte b c e) at inside in absurd (true≢false (sym here ∙ outside))
 differs_step b c false e inside outside = refl
 
 -- a byte of a token is none that may not stand in one
@@ -131,7 +121,7 @@ reads_back : (name value : List ℕ) → is_token name ≡ true → str_to_ascii
     → parameter_of (name ++ 61 ∷ value) ≡ Some (parameter name value)
 reads_back name value is_name lower is_value =
     let none : list_any is_equals name ≡ false = none_in 61 name no_equals (token_bytes name is_name) in
-    let there : list_any is_equals (name ++ 61 ∷ value) ≡ true = rw (list_any-append is_equals name (61 ∷ value)) (or-true (list_any is_equals name)) in
+    let there : list_any is_equals (name ++ 61 ∷ value) ≡ true = rw (list_any-append is_equals name (61 ∷ value)) (or_true (list_any is_equals name)) in
     let place : position_or_len is_equals (name ++ 61 ∷ value) ≡ length name = stop is_equals name 61 value none refl in
     rw (there, place, take-append_seam name (61 ∷ value), drop-append-add name (61 ∷ value) 1, is_name, is_value, lower) refl
 

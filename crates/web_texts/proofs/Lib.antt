@@ -10,6 +10,7 @@ pub mod ParameterLemmas
 pub mod PieceLemmas
 pub mod TextPartLemmas
 pub mod TagLemmas
+pub mod TestLemmas
 pub mod DecimalLemmas
 pub mod HeaderTextLemmas
 pub mod KeptMediaLemmas

@@ -1,12 +1,13 @@
 -- Which texts are methods.
-use Rattle.std.proofs.Common.{◌≡◌, ◌<◌, ◌==◌, ℕ, Bool, true, false, not, List, [], ◌∷◌, length, Some, None, refl, arith}
+use Rattle.std.proofs.Common.{◌≡◌, ◌<◌, ◌==◌, ℕ, false, not, List, [], ◌∷◌, length, Some, None, refl, arith}
 use Rattle.std.specs.Bool.{Decides}
 use Rattle.std.specs.List.{list_all}
-use Rattle.std.proofs.lemmas.Bool.Decides.{Decides-and, not_from_Decides, nat_tests}
+use Rattle.std.proofs.lemmas.Bool.Decides.{Decides-and, nat_tests}
 use Rattle.std.proofs.lemmas.List.Sums.{AllPass-from_list_all, list_all-from_AllPass}
 use Rattle.http_header.specs.Token.{IsToken, AllPass, is_token_byte as is_header_byte}
 use Rattle.web_texts.specs.Methods.{method_of}
 use Rattle.web_texts.specs.Tokens.{is_token, is_token_byte}
+use Rattle.web_texts.proofs.TestLemmas.{refuted, stable}
 
 some_bytes : (text : List ℕ) → Decides (not (length text == 0)) (0 < length text)
 some_bytes [] = (λ e. absurd (cc), λ some. absurd (omega (arith, some)))
@@ -20,14 +21,6 @@ token_bytes text = (AllPass-from_list_all is_header_byte text, list_all-from_All
 
 token : (text : List ℕ) → Decides (is_token text) (IsToken text)
 token text = Decides-and _ _ (some_bytes text) (token_bytes text)
-
-stable : (b : Bool) {P : Type 0} → Decides b P → ¬ (¬ P) → b ≡ true
-stable true d h = refl
-stable false d h = absurd (h (not_from_Decides false d refl))
-
-refuted : (b : Bool) {P : Type 0} → Decides b P → ¬ P → b ≡ false
-refuted true d h = absurd (h (d.0 refl))
-refuted false d h = refl
 
 pub method_read : (text : List ℕ) → ¬ (¬ (IsToken text)) → method_of text ≡ Some text
 method_read text h = rw (stable (is_token text) (token text) h) refl

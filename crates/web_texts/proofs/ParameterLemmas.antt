@@ -10,10 +10,7 @@ use Rattle.web_texts.specs.ParameterPlaces.{semicolons}
 use Rattle.web_texts.specs.MediaTypes.{parameter_of, and_parameters, parameters_of, with_parameters, media_type_of_pieces, media_type_of}
 use Rattle.web_texts.specs.declared.parameters.Place.TheVariants.{Outside}
 use Rattle.web_texts.proofs.PieceLemmas.{IsCons, pieces_cons}
-
-and_right : (a b : Bool) → (a && b) ≡ true → b ≡ true
-and_right true b e = e
-and_right false b e = absurd (cc)
+use Rattle.web_texts.proofs.TestLemmas.{and_right}
 
 abbrev EndsInQuote : List ℕ → Type 0
 EndsInQuote text = (0 < length text) × (get_or text (length text - 1) 0 ≡ 34)

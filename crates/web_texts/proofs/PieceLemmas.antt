@@ -1,10 +1,10 @@
 -- Pieces with more put before the first.
-use Rattle.std.proofs.Common.{◌≡◌, ◌<◌, ◌≤◌, ◌==◌, ℕ, ◌+◌, Bool, true, false, ◌&&◌, List, [], ◌∷◌, ◌++◌, length, take, drop, get_or, cond, refl, ap, sym, ◌∙◌, arith, append_assoc, add-one, drop-cons}
+use Rattle.std.proofs.Common.{◌≡◌, ◌<◌, ◌≤◌, ℕ, ◌+◌, true, false, List, [], ◌∷◌, ◌++◌, length, take, drop, get_or, cond, refl, ap, sym, ◌∙◌, arith, append_assoc, add-one, drop-cons}
 use Rattle.std.specs.List.{onto_first}
 use Rattle.std.proofs.lemmas.List.{take_more, append-nil}
 use Rattle.std.proofs.Math.Seq.{take-length, drop-length}
-use Rattle.std.proofs.lemmas.Bool.Decides.{nat_tests}
 use Rattle.web_texts.specs.Pieces.{Rule, pieces, ends_piece, IsFirstPlace}
+use Rattle.web_texts.proofs.TestLemmas.{and_right, same_byte}
 
 abbrev pub behind_front : List ℕ → List (List ℕ) → List (List ℕ)
 behind_front front [] = front ∷ []
@@ -30,13 +30,6 @@ more_within rule text i mode inside goes_on at =
       inside = omega (arith, inside);
       same = rw (take_more text i 0 inside, ← onto_more (take i text) (get_or text i 0) (pieces rule (rule.next mode (get_or text i 0)) (drop (i + 1) text))) (rw goes_on at now);
     }
-
-and_right : (a b : Bool) → (a && b) ≡ true → b ≡ true
-and_right true b e = e
-and_right false b e = absurd (cc)
-
-same_byte : (a b : ℕ) → (a == b) ≡ true → a ≡ b
-same_byte a b e = grind (arith, nat_tests)
 
 pub first_place : {M : Type 0} (rule : Rule M) (text : List ℕ) (i : ℕ) (mode : M) → i < length text → ends_piece rule mode (get_or text i 0) ≡ true → IsWithin rule i mode text → IsFirstPlace rule i text
 first_place rule text i mode inside ends at =

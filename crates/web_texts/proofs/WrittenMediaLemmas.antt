@@ -18,10 +18,11 @@ use Rattle.web_texts.specs.WrittenMediaTypes.{AreKeptParameters, ArePlain, IsKep
 use Rattle.web_texts.specs.declared.text.Pair.{Pair}
 use Rattle.web_texts.specs.declared.parameters.Place.TheVariants.{Outside}
 use Rattle.web_texts.proofs.EssenceLemmas.{slash_back}
-use Rattle.web_texts.proofs.KeptMediaLemmas.{and_left, and_right, differs, kept_essence, token_bytes}
+use Rattle.web_texts.proofs.KeptMediaLemmas.{differs, kept_essence, token_bytes}
 use Rattle.web_texts.proofs.LastCutLemmas.{list_any-reverse, or_false}
 use Rattle.web_texts.proofs.ParameterLemmas.{parameters_more, pieces_more}
 use Rattle.web_texts.proofs.PieceLemmas.{at_front, behind_front, pieces_cons}
+use Rattle.web_texts.proofs.TestLemmas.{and_left, and_right}
 
 -- a text that begins with a front
 pub behind_is : (text front : List ℕ) → bytes_eq (take (length front) text) front ≡ true → text ≡ front ++ drop (length front) text

@@ -1,4 +1,5 @@
 pub mod Blanks
+pub mod Bytes
 pub mod Charsets
 pub mod ContentTypeTexts
 pub mod Counts

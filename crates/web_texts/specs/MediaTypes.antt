@@ -7,6 +7,7 @@ use Rattle.std.specs.List.{list_any, before_first, after_first, before_last, aft
 use Rattle.std.specs.Ordering.{on, eq_of_both}
 use Rattle.std.specs.Cmp.Lexicographic.{pointwise}
 use Rattle.std.specs.Str.{bytes_eq, str_to_ascii_lowercase, str_eq_ignore_ascii_case}
+use Rattle.web_texts.specs.Bytes.{is_equals}
 use Rattle.web_texts.specs.Blanks.{trimmed, without_front, without_end}
 use Rattle.web_texts.specs.PieceItems.{is_empty, with_front}
 use Rattle.web_texts.specs.Pieces.{pieces}
@@ -23,9 +24,6 @@ pub record MediaType : Type 0 where
   pub subtype : List ℕ
   pub suffix : Option (List ℕ)
   pub params : List Pair
-
-abbrev pub is_equals : ℕ → Bool
-is_equals b = b == 61
 
 abbrev pub is_slash : ℕ → Bool
 is_slash b = b == 47

@@ -51,7 +51,7 @@ pub use piece_items::{push_items, push_pieces, read_each};
 pub use pieces::{Mode, first_piece};
 pub use quality_item::QualityItem;
 pub use quality_value::{Quality, q};
-pub use quoted_text::unescape;
+pub use quoted_text::{unescape, unquoted};
 pub use readers::ReadText;
 pub use text::{Pair, Text};
 pub use text_parts::first_part;

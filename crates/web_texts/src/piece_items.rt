@@ -1,8 +1,9 @@
 //! Lists of items that stand in the pieces of a text.
 ghost use Rattle.std.specs.Prelude.{◌≡◌, ◌++◌, OnOk, flat_map};
 ghost use Rattle.std.specs.List.{slice_split};
+ghost use Rattle.web_texts.specs.Bytes.{is_comma};
 ghost use Rattle.web_texts.specs.Pieces.{pieces};
-ghost use Rattle.web_texts.specs.PieceItems.{is_comma, item_of_piece, all_items, AddsPiece};
+ghost use Rattle.web_texts.specs.PieceItems.{item_of_piece, all_items, AddsPiece};
 ghost use Rattle.web_texts.specs.TextReaders.{ReadsBy};
 
 use crate::blanks::trim;

@@ -1,5 +1,6 @@
 //! Quoted text (RFC 9110, section 5.6.4).
 ghost use Rattle.std.specs.Prelude.{◌≡◌, IfOk};
+ghost use Rattle.web_texts.specs.Bytes.{unquoted, unquoted_end, unquoted_front};
 ghost use Rattle.web_texts.specs.QuotedText.{is_closed as closed_test, unescaped};
 
 use crate::cut::split_str_once;
@@ -47,4 +48,31 @@ pub fn unescape(alloc: Global, text: &str) -> Result<Text, NoMemory>
             }
         }
     }
+}
+
+/// The text without all double quotes at both ends.
+pub fn unquoted(text: &str) -> &str
+    ensures { result.now ≡ unquoted text.now }
+{
+    unquoted_end(unquoted_front(text))
+}
+
+fn unquoted_front(text: &str) -> &str
+    ensures { result.now ≡ unquoted_front text.now }
+{
+    let mut rest = text;
+    'quotes: while rest.starts_with('"') {
+        rest = &rest[1..];
+    }
+    rest
+}
+
+fn unquoted_end(text: &str) -> &str
+    ensures { result.now ≡ unquoted_end text.now }
+{
+    let mut rest = text;
+    'quotes: while rest.ends_with('"') {
+        rest = &rest[..rest.len() - 1];
+    }
+    rest
 }

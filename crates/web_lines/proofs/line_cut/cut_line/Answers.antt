@@ -1,6 +1,6 @@
 use Rattle.std.proofs.Common.{arith, ◌≡◌, ◌+◌, false, take, refl}
 use Rattle.std.specs.List.{list_any}
-use Rattle.web_lines.specs.Lines.{is_newline}
+use Rattle.web_texts.specs.Bytes.{is_newline}
 use Rattle.web_lines.proofs.FirstNewlineLemmas.{newline_cuts, newline_too_far, newline_within, no_newline, not_unfinished}
 use Rattle.web_lines.proofs.LineCutLemmas.{front_too_long, front_within}
 use Rattle.web_lines.proofs.LineMemoryLemmas.{not_too_long}

@@ -2,7 +2,8 @@ use denote.Shadow.{shadow}
 use denote.Text.{Utf8}
 use Rattle.std.proofs.Common.{◌≡◌, ◌++◌, length}
 use Rattle.std.specs.List.{flat_map, slice_split}
-use Rattle.web_texts.specs.PieceItems.{is_comma, item_of_piece}
+use Rattle.web_texts.specs.Bytes.{is_comma}
+use Rattle.web_texts.specs.PieceItems.{item_of_piece}
 use Rattle.web_texts.proofs.piece_items.push_items.Given as goal
 
 abbrev pub invariant-parts : goal.invariant-parts

@@ -1,12 +1,12 @@
 use denote.Shadow.{shadow}
 use denote.Text.{Utf8}
 use Rattle.std.proofs.Common.{◌≡◌, length}
-use Rattle.web_headers.specs.CacheDirectives.{before_quotes}
-use Rattle.web_headers.proofs.cache_control.strip_end.Given as goal
+use Rattle.web_texts.specs.Bytes.{unquoted_front}
+use Rattle.web_texts.proofs.quoted_text.unquoted_front.Given as goal
 
 abbrev pub invariant-quotes : goal.invariant-quotes
 invariant-quotes l = record {
-  same : before_quotes l.rest ≡ before_quotes l.text;
+  same : unquoted_front l.rest ≡ unquoted_front l.text;
   text : shadow (Utf8 l.rest);
 }
 

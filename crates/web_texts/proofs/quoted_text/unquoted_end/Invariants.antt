@@ -1,12 +1,12 @@
 use denote.Shadow.{shadow}
 use denote.Text.{Utf8}
 use Rattle.std.proofs.Common.{◌≡◌, length}
-use Rattle.web_headers.specs.CacheDirectives.{behind_quotes}
-use Rattle.web_headers.proofs.cache_control.strip_front.Given as goal
+use Rattle.web_texts.specs.Bytes.{unquoted_end}
+use Rattle.web_texts.proofs.quoted_text.unquoted_end.Given as goal
 
 abbrev pub invariant-quotes : goal.invariant-quotes
 invariant-quotes l = record {
-  same : behind_quotes l.rest ≡ behind_quotes l.text;
+  same : unquoted_end l.rest ≡ unquoted_end l.text;
   text : shadow (Utf8 l.rest);
 }
 
