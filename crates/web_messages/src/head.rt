@@ -5,6 +5,7 @@ ghost use Rattle.httparse.specs.Spans.{IsHeaderWithin, IsWithin, header_bytes, s
 ghost use Rattle.web_messages.specs.Heads.{HeadOf, TookField, TookFields, version_of};
 ghost use Rattle.web_messages.specs.HeadReadings.{IsHeadRead, ParsesHead, head_read};
 
+use crate::head_room::{HeadRoom, empty_map, make_room};
 use crate::limits::Limits;
 use http::method::MethodError;
 use http::{Method, Version};
@@ -13,8 +14,9 @@ use http_header::{
 };
 use http_uri::{Uri, UriError};
 use httparse::Status;
-use httparse::spans::{EMPTY_HEADER_SPAN, HeaderSpan, RequestSpans, parse_request};
+use httparse::spans::{HeaderSpan, RequestSpans, parse_request};
 use std::alloc::Global;
+use std::hash::RandomState;
 use web_texts::NoMemory;
 
 /// The head of a message: its request line and its header fields (RFC 7230, sections 3.1.1
@@ -116,6 +118,7 @@ fn version_of(minor: u8) -> Version
 /// The head whose parts lie there, if `http`, `http_uri` and `http_header` take them.
 fn head_of(
     alloc: Global,
+    keys: Option<RandomState>,
     bytes: &[u8],
     found: RequestSpans,
     spans: &[HeaderSpan],
@@ -137,7 +140,7 @@ fn head_of(
         Err(UriError::Invalid(_)) => return Ok(None),
         Err(UriError::OutOfMemory) => return Err(NoMemory),
     };
-    let mut headers = HeaderMap::empty(alloc);
+    let mut headers = empty_map(alloc, keys);
     let taken = add_fields(alloc, bytes, spans, &mut headers)?;
     if taken {
         Ok(Some(Head {
@@ -176,6 +179,7 @@ fn head_read(found: Option<Head>) -> HeadRead
 /// As `read_head`, with as many spans as fields are allowed.
 fn find_head(
     alloc: Global,
+    keys: Option<RandomState>,
     limits: &Limits,
     bytes: &[u8],
     spans: &mut [HeaderSpan],
@@ -186,7 +190,7 @@ fn find_head(
     let (front, _) = bytes.split_at(bytes.len().min(limits.head));
     match parse_head(front, spans) {
         Parsed::Head(found) => {
-            let head = head_of(alloc, front, found, &spans[..found.headers])?;
+            let head = head_of(alloc, keys, front, found, &spans[..found.headers])?;
             Ok(head_read(head))
         }
         Parsed::Never => Ok(HeadRead::Refused),
@@ -200,9 +204,14 @@ fn find_head(
 }
 
 /// The head at the front of the bytes, behind empty lines. `NoMemory` where an allocation failed.
-pub fn read_head(alloc: Global, limits: &Limits, bytes: &[u8]) -> Result<HeadRead, NoMemory>
+pub fn read_head(
+    alloc: Global,
+    limits: &Limits,
+    bytes: &[u8],
+    room: &mut HeadRoom,
+) -> Result<HeadRead, NoMemory>
     ensures { IfOk result (IsHeadRead limits.now bytes.now) }
 {
-    let mut spans = vec![in alloc; EMPTY_HEADER_SPAN; limits.headers]?;
-    find_head(alloc, limits, bytes, spans.as_mut_slice())
+    make_room(&mut room.spans, limits.headers)?;
+    find_head(alloc, room.keys, limits, bytes, room.spans.as_mut_slice())
 }

@@ -12,6 +12,7 @@ use crate::chunked::{Chunked, Place, read_chunked};
 use crate::empty_line::{blank_front, has_empty_line};
 use crate::framing::{Framing, framing_of};
 use crate::head::{Head, HeadRead, read_head};
+use crate::head_room::HeadRoom;
 use crate::limits::{Limits, Wrong};
 use crate::message::{BodyRead, Next, message_of, read_sized};
 use bytes::Bytes;
@@ -170,6 +171,7 @@ fn read_head_on(
     limits: &Limits,
     bytes: &[u8],
     search: Search,
+    room: &mut HeadRoom,
 ) -> Result<Step, NoMemory>
     requires { IsSearch bytes.now search }
     ensures { IfOk result (ReadsOn limits.now bytes.now) }
@@ -185,7 +187,7 @@ fn read_head_on(
     if has_no_head(limits, bytes, blank, search.searched) {
         return Ok(Step::Unfinished(progress));
     }
-    match read_head(alloc, limits, bytes)? {
+    match read_head(alloc, limits, bytes, room)? {
         HeadRead::Head(head) => read_body(alloc, limits, bytes, head),
         HeadRead::Refused => Ok(Step::Next(Next::Refused(Wrong::Head))),
         HeadRead::Unfinished => Ok(Step::Unfinished(progress)),
@@ -201,12 +203,13 @@ pub fn read_on(
     limits: &Limits,
     bytes: &[u8],
     progress: Progress,
+    room: &mut HeadRoom,
 ) -> Result<Step, NoMemory>
     requires { IsProgress limits.now bytes.now progress }
     ensures { IfOk result (ReadsOn limits.now bytes.now) }
 {
     match progress {
-        Progress::Head(search) => read_head_on(alloc, limits, bytes, search),
+        Progress::Head(search) => read_head_on(alloc, limits, bytes, search, room),
         Progress::Sized(head, length) => read_sized_on(alloc, limits, bytes, head, length),
         Progress::Chunked(head, place, body) => read_chunked_on(limits, bytes, head, place, body),
     }
@@ -219,20 +222,34 @@ pub fn read_last(
     limits: &Limits,
     bytes: &[u8],
     progress: Progress,
+    room: &mut HeadRoom,
 ) -> Result<Next, NoMemory>
     requires { IsProgress limits.now bytes.now progress }
     ensures { IfOk result (IsNext limits.now bytes.now) }
 {
-    match read_on(alloc, limits, bytes, progress)? {
+    match read_on(alloc, limits, bytes, progress, room)? {
         Step::Next(next) => Ok(next),
         Step::Unfinished(progress) => Ok(progress.at_end(bytes.len())),
     }
 }
 
-/// The next message of the bytes, which are all that are left. `NoMemory` where an allocation
-/// failed.
+/// The next message of the bytes, which are all that are left, with header maps of the keys that
+/// `room` has. `NoMemory` where an allocation failed.
+pub fn next_message_with(
+    alloc: Global,
+    limits: &Limits,
+    bytes: &[u8],
+    room: &mut HeadRoom,
+) -> Result<Next, NoMemory>
+    ensures { IfOk result (IsNext limits.now bytes.now) }
+{
+    read_last(alloc, limits, bytes, Progress::start(), room)
+}
+
+/// As `next_message_with`, with keys of zero: for senders that do not choose names that collide.
 pub fn next_message(alloc: Global, limits: &Limits, bytes: &[u8]) -> Result<Next, NoMemory>
     ensures { IfOk result (IsNext limits.now bytes.now) }
 {
-    read_last(alloc, limits, bytes, Progress::start())
+    let mut room = HeadRoom::new(alloc);
+    next_message_with(alloc, limits, bytes, &mut room)
 }
