@@ -1,17 +1,20 @@
 -- The head within the first bytes, and fields that are taken one after the other.
-use Rattle.std.proofs.Common.{Result, Ok, Err, inl, inr, ◌≡◌, ℕ, ◌+◌, ◌-◌, ◌≤◌, Bool, true, false, List, [], ◌∷◌, ◌++◌, length, take, drop, map, refl, sym, ap, ◌∙◌, subst, arith, length-append, length-take, take-append-drop, append-nil, Option, None, Some}
+use Rattle.std.proofs.Common.{Result, Ok, Err, inl, inr, ◌≡◌, ℕ, ◌+◌, ◌-◌, ◌≤◌, Bool, true, false, List, [], ◌∷◌, ◌++◌, length, take, drop, map, refl, sym, ap, ◌∙◌, subst, arith, length-append, length-take, take-append-drop, append-nil, take-take, ap₂, Option, None, Some}
+use Rattle.std.specs.List.{All}
 use Rattle.std.specs.Prelude.{IfOk, slice_index_or}
 use Rattle.std.proofs.Math.Seq.{take-append-add}
-use Rattle.std.proofs.lemmas.List.{length-map, drop_at}
+use Rattle.std.proofs.lemmas.List.{length-map, drop_at, drop-take}
+use Rattle.std.proofs.lemmas.List.Elements.{All-head, All-tail}
 use Rattle.std.proofs.lemmas.Bool.{cases_lt, false≢true}
 use Rattle.http_header.specs.Token.{AllPass, IsToken, is_token_byte, lowercase}
 use Rattle.http_header.specs.FieldName.{IsFieldName}
 use Rattle.http_header.specs.FieldValue.{FieldValue, plain_value}
 use Rattle.http_header.specs.HeaderMap.{Entries, append}
 use Rattle.httparse.specs.declared.spans.HeaderSpan.{HeaderSpan}
+use Rattle.httparse.specs.declared.spans.Span.{Span}
 use Rattle.httparse.specs.declared.spans.RequestSpans.{RequestSpans}
 use Rattle.httparse.specs.Grammar.{RequestHead, print_request, ReadsRequest, HasNoRequest}
-use Rattle.httparse.specs.Spans.{name_and_value, span_bytes, header_bytes, IsRequestOf, IsRequestAt, RequestOverflows}
+use Rattle.httparse.specs.Spans.{name_and_value, span_bytes, header_bytes, IsWithin, IsHeaderWithin, IsRequestOf, IsRequestAt, RequestOverflows}
 use Rattle.httparse.proofs.GrammarLemmas.{request_unique, ReadsRequest-append}
 use Rattle.web_messages.specs.declared.head.Head.{Head}
 use Rattle.web_messages.specs.declared.limits.Limits.{Limits}
@@ -107,3 +110,24 @@ stable_name xs nn = (
     | inr short ↦ short
   ],
 )
+
+-- a part of the first n bytes is that part of all
+part_in : (n a b : ℕ) (xs : List ℕ) → a ≤ b → b ≤ n → take (b - a) (drop a (take n xs)) ≡ take (b - a) (drop a xs)
+part_in n a b xs ab bn =
+    let sum : a + (n - a) ≡ n = omega (arith, ab, bn) in
+    ap (λ (k : ℕ). take (b - a) (drop a (take k xs))) (sym sum)
+    ∙ ap (take (b - a)) (drop-take a (n - a) xs)
+    ∙ take-take (b - a) (n - a) (drop a xs) (omega (arith, ab, bn))
+
+pub span_in : (n : ℕ) (xs : List ℕ) (s : Span) → IsWithin n s → span_bytes (take n xs) s ≡ span_bytes xs s
+span_in n xs s w = part_in n s.start s.end xs w.0 w.1
+
+pub header_in : (n : ℕ) (xs : List ℕ) (h : HeaderSpan) → IsHeaderWithin n h → header_bytes (take n xs) h ≡ header_bytes xs h
+header_in n xs h w = ap₂ (λ (a b : List ℕ). (a, b)) (span_in n xs h.name w.0) (span_in n xs h.value w.1)
+
+pub headers_in : (n : ℕ) (xs : List ℕ) (spans : List HeaderSpan) → All (IsHeaderWithin n) spans
+    → map (header_bytes (take n xs)) spans ≡ map (header_bytes xs) spans
+headers_in n xs [] within = refl
+headers_in n xs (h ∷ spans) within =
+    ap₂ (λ (f : FieldPair) (fields : List FieldPair). f ∷ fields) (header_in n xs h (All-head (IsHeaderWithin n) h spans within))
+    (headers_in n xs spans (All-tail (IsHeaderWithin n) h spans within))

@@ -1,15 +1,16 @@
 -- What the parser found at the front of the bytes, and what that says of all of them.
 use Rattle.std.proofs.Common.{◌≡◌, ℕ, ◌<◌, ◌≤◌, List, ◌++◌, length, take, drop, map, refl, sym, ap, ◌∙◌, subst, arith, append_assoc, length-append, length-take, take-append-drop, Option, None, Some}
 use Rattle.std.proofs.lemmas.List.{length-map, take_all}
+use Rattle.std.specs.List.{All}
 use Rattle.httparse.specs.declared.spans.HeaderSpan.{HeaderSpan}
 use Rattle.httparse.specs.declared.spans.RequestSpans.{RequestSpans}
 use Rattle.httparse.specs.Grammar.{RequestHead, print_request, HasNoRequest}
-use Rattle.httparse.specs.Spans.{name_and_value, span_bytes, header_bytes, IsRequestOf, IsRequestAt, RequestOverflows}
+use Rattle.httparse.specs.Spans.{name_and_value, span_bytes, header_bytes, IsWithin, IsHeaderWithin, IsRequestOf, IsRequestAt, RequestOverflows}
 use Rattle.web_messages.specs.declared.head.Head.{Head}
 use Rattle.web_messages.specs.declared.limits.Limits.{Limits}
 use Rattle.web_messages.specs.Heads.{FieldPair, HeadOf, HasHead, HasNoHead}
 use Rattle.web_messages.specs.HeadReadings.{IsHeadRead, NeverHasHead, head_read}
-use Rattle.web_messages.proofs.HeadLemmas.{IsFront, from_front, no_head}
+use Rattle.web_messages.proofs.HeadLemmas.{IsFront, from_front, headers_in, no_head, span_in}
 use Rattle.web_messages.proofs.FinalHeadLemmas.{broken_head, full_head, refused_head}
 
 same_head : (a b : List ℕ) (c : ℕ) (d : List FieldPair) (e : ℕ) (a' b' : List ℕ) (c' : ℕ) (d' : List FieldPair) (e' : ℕ) (o : Option Head)
@@ -20,6 +21,15 @@ same_head a b c d e a' b' c' d' e' o pa pb pc pd pe h =
     (subst (λ (z : ℕ). HeadOf a' b' z d e o) pc
     (subst (λ (z : List ℕ). HeadOf a' z c d e o) pb
     (subst (λ (z : List ℕ). HeadOf z b c d e o) pa h))))
+
+-- the head of these parts of a copy of its bytes alone is that of the same parts of all
+pub head_of_copy : (part text : List ℕ) (spans : List HeaderSpan) (r : RequestSpans) (o : Option Head) → text ≡ take r.len part
+    → IsWithin r.len r.method → IsWithin r.len r.path → All (IsHeaderWithin r.len) spans
+    → HeadOf (span_bytes text r.method) (span_bytes text r.path) r.version (map (header_bytes text) spans) r.len o
+    → HeadOf (span_bytes part r.method) (span_bytes part r.path) r.version (map (header_bytes part) spans) r.len o
+head_of_copy part text spans r o text_is method path fit head =
+    same_head _ _ _ _ _ _ _ _ _ _ o (span_in r.len part r.method method) (span_in r.len part r.path path) refl (headers_in r.len part spans fit) refl
+    (subst (λ (t : List ℕ). HeadOf (span_bytes t r.method) (span_bytes t r.path) r.version (map (header_bytes t) spans) r.len o) text_is head)
 
 module _ (limits : Limits) (bytes : List ℕ) (n : ℕ) (headers : List HeaderSpan) (r : RequestSpans)
     (front : IsFront limits.head bytes n) (room : length headers ≡ limits.headers) where

@@ -7,11 +7,10 @@ ghost use Rattle.web_messages.specs.HeadReadings.{IsHeadRead, ParsesHead, head_r
 
 use crate::head_room::{HeadRoom, empty_map, make_room};
 use crate::limits::Limits;
+use bytes::Bytes;
 use http::method::MethodError;
 use http::{Method, Version};
-use http_header::{
-    HeaderMap, HeaderMapError, HeaderName, HeaderNameError, HeaderValue, HeaderValueError,
-};
+use http_header::{HeaderMap, HeaderMapError, HeaderName, HeaderNameError, HeaderValue};
 use http_uri::{Uri, UriError};
 use httparse::Status;
 use httparse::spans::{HeaderSpan, RequestSpans, parse_request};
@@ -60,22 +59,20 @@ enum Parsed {
 /// Adds the field of a span, and returns whether `http_header` takes it.
 fn add_field(
     alloc: Global,
-    bytes: &[u8],
+    text: &Bytes,
     span: HeaderSpan,
     headers: &mut HeaderMap<HeaderValue>,
 ) -> Result<bool, NoMemory>
-    requires { IsHeaderWithin (length bytes.now) span }
-    ensures { IfOk result (TookField headers.old (header_bytes bytes.now span) headers.new) }
+    requires { IsHeaderWithin (length text.now) span }
+    ensures { IfOk result (TookField headers.old (header_bytes text.now span) headers.new) }
 {
-    let name = match HeaderName::from_bytes(alloc, span.name.of(bytes)) {
+    let name = match HeaderName::from_bytes(alloc, span.name.of(text.as_slice())) {
         Ok(name) => name,
         Err(HeaderNameError::Invalid) => return Ok(false),
         Err(HeaderNameError::OutOfMemory) => return Err(NoMemory),
     };
-    let value = match HeaderValue::from_bytes(alloc, span.value.of(bytes)) {
-        Ok(value) => value,
-        Err(HeaderValueError::Invalid) => return Ok(false),
-        Err(HeaderValueError::OutOfMemory) => return Err(NoMemory),
+    let Ok(value) = HeaderValue::from_shared(text.slice(span.value.start..span.value.end)?) else {
+        return Ok(false);
     };
     match headers.append(name, value) {
         Ok(_) => Ok(true),
@@ -87,17 +84,17 @@ fn add_field(
 /// Adds the fields of the spans, and returns whether `http_header` takes all of them.
 fn add_fields(
     alloc: Global,
-    bytes: &[u8],
+    text: &Bytes,
     spans: &[HeaderSpan],
     headers: &mut HeaderMap<HeaderValue>,
 ) -> Result<bool, NoMemory>
-    requires { All (IsHeaderWithin (length bytes.now)) spans.now }
+    requires { All (IsHeaderWithin (length text.now)) spans.now }
     ensures { IfOk result
-        (TookFields headers.old (map (header_bytes bytes.now) spans.now) headers.new) }
+        (TookFields headers.old (map (header_bytes text.now) spans.now) headers.new) }
 {
     let mut rest = spans;
     'fields: while let [span, after @ ..] = rest {
-        if !add_field(alloc, bytes, *span, headers)? {
+        if !add_field(alloc, text, *span, headers)? {
             return Ok(false);
         }
         rest = after;
@@ -119,29 +116,29 @@ fn version_of(minor: u8) -> Version
 fn head_of(
     alloc: Global,
     keys: Option<RandomState>,
-    bytes: &[u8],
+    text: &Bytes,
     found: RequestSpans,
     spans: &[HeaderSpan],
 ) -> Result<Option<Head>, NoMemory>
-    requires method { IsWithin (length bytes.now) found.method }
-    requires path { IsWithin (length bytes.now) found.path }
-    requires spans { All (IsHeaderWithin (length bytes.now)) spans.now }
-    ensures { IfOk result (HeadOf (span_bytes bytes.now found.method)
-        (span_bytes bytes.now found.path) found.version
-        (map (header_bytes bytes.now) spans.now) found.len) }
+    requires method { IsWithin (length text.now) found.method }
+    requires path { IsWithin (length text.now) found.path }
+    requires spans { All (IsHeaderWithin (length text.now)) spans.now }
+    ensures { IfOk result (HeadOf (span_bytes text.now found.method)
+        (span_bytes text.now found.path) found.version
+        (map (header_bytes text.now) spans.now) found.len) }
 {
-    let method = match Method::from_bytes(alloc, found.method.of(bytes)) {
+    let method = match Method::from_bytes(alloc, found.method.of(text.as_slice())) {
         Ok(method) => method,
         Err(MethodError::Invalid) => return Ok(None),
         Err(MethodError::OutOfMemory) => return Err(NoMemory),
     };
-    let uri = match Uri::from_bytes(alloc, found.path.of(bytes)) {
+    let uri = match Uri::from_shared(text.slice(found.path.start..found.path.end)?) {
         Ok(uri) => uri,
         Err(UriError::Invalid(_)) => return Ok(None),
         Err(UriError::OutOfMemory) => return Err(NoMemory),
     };
     let mut headers = empty_map(alloc, keys);
-    let taken = add_fields(alloc, bytes, spans, &mut headers)?;
+    let taken = add_fields(alloc, text, spans, &mut headers)?;
     if taken {
         Ok(Some(Head {
             method,
@@ -190,7 +187,9 @@ fn find_head(
     let (front, _) = bytes.split_at(bytes.len().min(limits.head));
     match parse_head(front, spans) {
         Parsed::Head(found) => {
-            let head = head_of(alloc, keys, front, found, &spans[..found.headers])?;
+            // One copy of the head, of which the target and the values are parts.
+            let text = Bytes::copy_from_slice(alloc, &front[..found.len])?;
+            let head = head_of(alloc, keys, &text, found, &spans[..found.headers])?;
             Ok(head_read(head))
         }
         Parsed::Never => Ok(HeadRead::Refused),

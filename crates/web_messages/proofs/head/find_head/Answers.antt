@@ -1,7 +1,7 @@
 use Rattle.std.proofs.Common.{◌≡◌, length, take, refl, sym, subst, arith}
 use Rattle.web_messages.specs.HeadReadings.{IsHeadRead}
 use Rattle.web_messages.proofs.HeadLemmas.{IsFront}
-use Rattle.web_messages.proofs.HeadReadLemmas.{found_head_in, full_read}
+use Rattle.web_messages.proofs.HeadReadLemmas.{found_head_in, full_read, head_of_copy}
 use Rattle.web_messages.proofs.head.find_head.Goals as goal
 
 pub returns-in_ok-head-in-Head : goal.returns-in_ok-head-in-Head
@@ -12,7 +12,9 @@ returns-in_ok-head-in-Head c =
     subst (IsHeadRead c.args.limits.now c.args.bytes.now) (sym c.head_read.ensures)
     (found_head_in c.args.limits.now c.args.bytes.now c.min.result c.parse_head.new.spans c.in-Head.found front room c.in_ok-head-in-Head.head
     c.split_at.result.0.now (take c.in-Head.found.headers c.parse_head.new.spans) c.split_at.ensures.front refl c.in-Head.ensures.1
-    c.in_ok-head-in-Head.ensures)
+    (head_of_copy c.split_at.result.0.now c.in_ok-text-in-Head.text (take c.in-Head.found.headers c.parse_head.new.spans) c.in-Head.found
+    c.in_ok-head-in-Head.head c.in_ok-text-in-Head.ensures c.in-Head.ensures.0.method c.in-Head.ensures.0.path
+    c.in-Head.ensures.0.section.headers_fit c.in_ok-head-in-Head.ensures))
 
 pub returns-else-bytes-limits : goal.returns-else-bytes-limits
 returns-else-bytes-limits c =
