@@ -1,5 +1,5 @@
 -- What bytes begin with where a head should stand.
-use Rattle.std.specs.Prelude.{ℕ, ◌<◌, List, ◌++◌, length, Option, None, Some}
+use Rattle.std.specs.Prelude.{ℕ, ◌<◌, List, ◌++◌, length}
 use Rattle.httparse.specs.Grammar.{HasNoRequest}
 use Rattle.httparse.specs.Spans.{IsRequestOf, IsRequestWithin, RequestOverflows}
 use Rattle.httparse.specs.declared.spans.HeaderSpan.{HeaderSpan}
@@ -17,10 +17,6 @@ ParsesHead bytes room spans (parsed.Head r) =
     IsRequestWithin bytes spans r × IsRequestOf bytes spans r
 ParsesHead bytes room spans parsed.Never = RequestOverflows room bytes
 ParsesHead bytes room spans parsed.Unfinished = HasNoRequest bytes
-
-abbrev pub head_read : Option Head → HeadRead
-head_read (Some head) = read.Head head
-head_read None = read.Refused
 
 -- whatever bytes follow, there is no head within the limits whose parts are taken
 abbrev pub NeverHasHead : Limits → List ℕ → Type 0

@@ -1,6 +1,6 @@
 -- The head at the front of the bytes of a connection (RFC 7230, sections 3.1.1 and 3.2).
-use Rattle.std.specs.Prelude.{◌≡◌, ℕ, ◌≤◌, Bool, true, false, List, [], ◌∷◌, length, map, Option}
-use Rattle.std.specs.Prelude.{None, Some, if◌then◌else◌, ◌==◌}
+use Rattle.std.specs.Prelude.{◌≡◌, ℕ, ◌≤◌, Bool, true, false, List, [], ◌∷◌, length, map}
+use Rattle.std.specs.Prelude.{if◌then◌else◌, ◌==◌}
 use Rattle.http.specs.declared.version.Version.{Version}
 use Rattle.http.specs.declared.version.TheConstants.Version.{HTTP_10, HTTP_11}
 use Rattle.http_header.specs.Token.{IsToken, lowercase}
@@ -13,6 +13,8 @@ use Rattle.httparse.specs.Grammar.{RequestHead, print_request, ReadsRequest}
 use Rattle.httparse.specs.Spans.{name_and_value}
 use Rattle.web_messages.specs.declared.limits.Limits.{Limits}
 use Rattle.web_messages.specs.declared.head.Head.{Head}
+use Rattle.web_messages.specs.declared.head.HeadRead.{HeadRead}
+use Rattle.web_messages.specs.declared.head.HeadRead.TheVariants as read
 
 -- a name and a value
 abbrev pub FieldPair : Type 0
@@ -63,9 +65,12 @@ pub record Takes (name target : List ℕ) (fields : List FieldPair) : Type 0 whe
   pub headers : Entries FieldValue
   pub takes : TakesFields [] fields headers
 
-abbrev pub HeadOf : List ℕ → List ℕ → ℕ → List FieldPair → ℕ → Option Head → Type 0
-HeadOf name target minor fields size (Some head) = IsHeadOf name target minor fields size head
-HeadOf name target minor fields size None = ¬ (Takes name target fields)
+-- the head of these parts, or that they do not take all of them
+abbrev pub HeadOf : List ℕ → List ℕ → ℕ → List FieldPair → ℕ → HeadRead → Type 0
+HeadOf name target minor fields size (read.Head head) =
+    IsHeadOf name target minor fields size head
+HeadOf name target minor fields size read.Refused = ¬ (Takes name target fields)
+HeadOf name target minor fields size read.Unfinished = ⊥
 
 -- the bytes are that head of httparse's grammar, within the limits, and then rest
 pub record HasHead

@@ -3,7 +3,7 @@ ghost use Rattle.std.specs.Prelude.{◌≡◌, length, map, IfOk};
 ghost use Rattle.std.specs.List.{All};
 ghost use Rattle.httparse.specs.Spans.{IsHeaderWithin, IsWithin, header_bytes, span_bytes};
 ghost use Rattle.web_messages.specs.Heads.{HeadOf, TookField, TookFields, version_of};
-ghost use Rattle.web_messages.specs.HeadReadings.{IsHeadRead, ParsesHead, head_read};
+ghost use Rattle.web_messages.specs.HeadReadings.{IsHeadRead, ParsesHead};
 
 use crate::head_room::{HeadRoom, empty_map, make_room};
 use crate::limits::Limits;
@@ -119,7 +119,7 @@ fn head_of(
     text: &Bytes,
     found: RequestSpans,
     spans: &[HeaderSpan],
-) -> Result<Option<Head>, NoMemory>
+) -> Result<HeadRead, NoMemory>
     requires method { IsWithin (length text.now) found.method }
     requires path { IsWithin (length text.now) found.path }
     requires spans { All (IsHeaderWithin (length text.now)) spans.now }
@@ -129,18 +129,20 @@ fn head_of(
 {
     let method = match Method::from_bytes(alloc, found.method.of(text.as_slice())) {
         Ok(method) => method,
-        Err(MethodError::Invalid) => return Ok(None),
+        Err(MethodError::Invalid) => return Ok(HeadRead::Refused),
         Err(MethodError::OutOfMemory) => return Err(NoMemory),
     };
     let uri = match Uri::from_shared(text.slice(found.path.start..found.path.end)?) {
         Ok(uri) => uri,
-        Err(UriError::Invalid(_)) => return Ok(None),
+        Err(UriError::Invalid(_)) => return Ok(HeadRead::Refused),
         Err(UriError::OutOfMemory) => return Err(NoMemory),
     };
     let mut headers = empty_map(alloc, keys);
+    // Room for all fields at once. Where that fails, adding one of them does too.
+    let _ = headers.reserve(spans.len());
     let taken = add_fields(alloc, text, spans, &mut headers)?;
     if taken {
-        Ok(Some(Head {
+        Ok(HeadRead::Head(Head {
             method,
             uri,
             version: version_of(found.version),
@@ -148,7 +150,7 @@ fn head_of(
             length: found.len,
         }))
     } else {
-        Ok(None)
+        Ok(HeadRead::Refused)
     }
 }
 
@@ -160,16 +162,6 @@ fn parse_head(bytes: &[u8], spans: &mut [HeaderSpan]) -> Parsed
         Ok(Status::Complete(found)) => Parsed::Head(found),
         Ok(Status::Partial) => Parsed::Unfinished,
         Err(_) => Parsed::Never,
-    }
-}
-
-/// A head that was parsed, if its parts are taken.
-fn head_read(found: Option<Head>) -> HeadRead
-    ensures { result ≡ head_read found }
-{
-    match found {
-        Some(head) => HeadRead::Head(head),
-        None => HeadRead::Refused,
     }
 }
 
@@ -189,8 +181,7 @@ fn find_head(
         Parsed::Head(found) => {
             // One copy of the head, of which the target and the values are parts.
             let text = Bytes::copy_from_slice(alloc, &front[..found.len])?;
-            let head = head_of(alloc, keys, &text, found, &spans[..found.headers])?;
-            Ok(head_read(head))
+            head_of(alloc, keys, &text, found, &spans[..found.headers])
         }
         Parsed::Never => Ok(HeadRead::Refused),
         Parsed::Unfinished => {

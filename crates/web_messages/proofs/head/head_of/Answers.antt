@@ -12,6 +12,6 @@ returns-then-taken c =
       method_is = c.in-Ok.ensures.ok ∙ name;
       spells = rw c.in_ok-slice.ensures.ok at c.in-Ok-from_shared.ensures.ok;
       version_is = c.version_of.ensures;
-      takes = rw c.empty_map-headers.ensures at (rw c.if-taken.true at c.in_ok-taken.ensures);
+      takes = rw (c.reserve.ensures.same ∙ c.empty_map-headers.ensures) at (rw c.if-taken.true at c.in_ok-taken.ensures);
       length_is = refl;
     }
