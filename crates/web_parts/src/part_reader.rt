@@ -33,7 +33,7 @@ impl Model for PartReader {
 fn delimiter_for(alloc: Global, boundary: &[u8]) -> Result<Vec<u8>, NoMemory>
     ensures { IfOk result (λ made. made.items ≡ delimiter_of boundary.now) }
 {
-    let mut delimiter = Vec::new(alloc);
+    let mut delimiter = Vec::with_capacity(alloc, boundary.len() + 4)?;
     delimiter.extend_from_slice(b"\r\n--")?;
     delimiter.extend_from_slice(boundary)?;
     Ok(delimiter)
