@@ -35,7 +35,7 @@ pub enum Stage<X, R, U, W, O> {
 
 impl<X: Drop, R: Drop, U: Drop, W: Drop, O: Drop> Stage<X, R, U, W, O> {
     ghost use Rattle.std.specs.Prelude.{◌≡◌, None, Some};
-    ghost use Rattle.web_worker.specs.Stages.{answer_in, exchange_in, request_in, work_changed};
+    ghost use Rattle.web_worker.specs.Stages.{answer_in, exchange_in, request_in};
 
     /// The exchange that waits here.
     pub(crate) fn into_waiting(self) -> Option<X>
@@ -65,23 +65,6 @@ impl<X: Drop, R: Drop, U: Drop, W: Drop, O: Drop> Stage<X, R, U, W, O> {
             Stage::Answered(answer) => Some(answer),
             Stage::Waiting(_) | Stage::InFlight(_, _) => None,
         }
-    }
-
-    /// Puts the handler's future in the place of that of the arguments.
-    pub(crate) fn start_handling(&mut self, future: W)
-        ensures { self.new ≡ work_changed self.old (Work.Handling future) }
-    {
-        match self {
-            Stage::InFlight(_, work) => *work = Work::Handling(future),
-            Stage::Waiting(_) | Stage::Answered(_) => {}
-        }
-    }
-
-    /// Puts this stage in the place of the present one.
-    pub(crate) fn put(&mut self, next: Stage<X, R, U, W, O>)
-        ensures { self.new ≡ next }
-    {
-        *self = next;
     }
 }
 
@@ -189,6 +172,10 @@ pub(crate) fn store_outcome<A: App, U: Drop, W: Drop>(
         ≡ after_release (serial_of (flight_view A.Source.feed stage.old)) None pool.old }
     ensures stage { stage.new ≡ Stage.Answered outcome }
 {
+    if !pool.is_available() {
+        *stage = Stage::Answered(outcome);
+        return;
+    }
     let before = mem::replace(stage, Stage::Answered(outcome));
     if let Some(request) = before.into_request() {
         pool.give_back(request);

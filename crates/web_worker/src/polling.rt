@@ -1,6 +1,6 @@
 //! One poll of one exchange.
 ghost use Rattle.std.specs.Prelude.{◌≡◌, ◌+◌, ◌<◌, ◌^◌, IfSome, IsNone, IsSome, None, Ok, Some};
-ghost use Rattle.std.specs.Prelude.{slice_get};
+ghost use Rattle.std.specs.Prelude.{false, slice_get};
 ghost use Rattle.web_request.specs.Pool.{Pool, after_start, new_record, next_serial};
 ghost use Rattle.web_request.specs.Request.{Record};
 ghost use Rattle.web_worker.specs.Exchanges.{ExchangeView, FlightView, IsUnfinished, flight_view};
@@ -11,7 +11,7 @@ ghost use Rattle.web_worker.specs.PoolSteps.{HeldOrReturned, TakesOrReturns};
 ghost use Rattle.web_worker.specs.PoolSteps.{after_release, serial_of};
 ghost use Rattle.web_worker.specs.RecordsMade.{may_make};
 ghost use Rattle.web_worker.specs.StagePolls.{ArgumentsPoll, HandlerPoll, IsStart};
-ghost use Rattle.web_worker.specs.Stages.{request_in};
+ghost use Rattle.web_worker.specs.Stages.{request_in, work_changed};
 
 use crate::answering::{error_outcome, response_outcome};
 use crate::exchange::Exchange;
@@ -75,6 +75,43 @@ where
     }
 }
 
+/// Polls the future of a handler that was called for an exchange, and keeps it where it is not
+/// ready.
+///
+/// It is polled before it is put into its place, which costs more than a poll: most futures are
+/// ready at once.
+fn begin_handling<A: App, Args: FromRequest<A>, H: Handler<Args>>(
+    alloc: Global,
+    pool: &mut HttpRequestPool<A>,
+    stage: &mut StageOf<A, Args, H>,
+    mut future: H::Future,
+)
+where
+    H::Output: Responder<A>,
+    requires unfinished { H.Future.is_finished future ≡ false }
+    requires in_flight { IsSome (request_in stage.old) }
+    ensures pool { HeldOrReturned (serial_of (flight_view A.Source.feed stage.old))
+        (serial_of (flight_view A.Source.feed stage.new)) pool.old pool.new }
+    ensures unfinished { IsUnfinished Args.Future.is_finished H.Future.is_finished
+        (flight_view A.Source.feed stage.new) }
+    ensures polled { (handler : H) (worker : Pool A.Layer)
+        → HandlerPoll (⟦<H as Serves<A, Args>>⟧.setting handler worker)
+        (flight_view A.Source.feed (work_changed stage.old (Work.Handling future)))
+        (flight_view A.Source.feed stage.new) }
+{
+    match stage {
+        Stage::InFlight(request, work) => match future.poll(alloc) {
+            Step::Pending => *work = Work::Handling(future),
+            Step::Ready(value) => {
+                let outcome = response_outcome(alloc, value, request);
+                store_outcome(pool, stage, outcome);
+            }
+            Step::NoMemory => store_no_memory(pool, stage),
+        },
+        Stage::Waiting(_) | Stage::Answered(_) => {}
+    }
+}
+
 /// Calls the handler with the arguments of an exchange, and polls its future in the same turn.
 fn call_handler<A: App, Args: FromRequest<A>, H: Handler<Args>>(
     alloc: Global,
@@ -101,10 +138,7 @@ where
         (H.calls handler.old) (H.calls handler.new) }
 {
     match handler.call(alloc, args) {
-        Ok(future) => {
-            stage.start_handling(future);
-            poll_handler::<A, Args, H>(alloc, pool, stage);
-        }
+        Ok(future) => begin_handling::<A, Args, H>(alloc, pool, stage, future),
         Err(_) => store_no_memory(pool, stage),
     }
 }
@@ -192,7 +226,7 @@ where
         (flight_view A.Source.feed stage.new) }
 {
     match Args::from_request(alloc, &request, &mut payload) {
-        Ok(future) => stage.put(Stage::InFlight(request, Work::Extracting(future))),
+        Ok(future) => *stage = Stage::InFlight(request, Work::Extracting(future)),
         Err(_) => pool.give_back(request),
     }
 }

@@ -1,5 +1,8 @@
+use Rattle.std.proofs.Common.{refl}
+use Rattle.web_worker.specs.declared.flight.Work.TheVariants as work
 use Rattle.web_worker.specs.Exchanges.{flight_view}
 use Rattle.web_worker.specs.Setting.{setting_of}
+use Rattle.web_worker.specs.Stages.{work_changed}
 use Rattle.web_worker.proofs.StageLemmas.{call_failed, call_polled}
 use Rattle.web_worker.proofs.polling.call_handler.Goals as goal
 
@@ -8,11 +11,11 @@ returns-in-Ok-clause-called g c = λ worker q f e a.
     call_polled (setting_of g.Args.FromRequest.means g.Args.Error.Into.converts
     (g.H.Handler.answers c.args.handler.now) g.H.Output.Responder.responds
     g.A.Source.Source.feed g.Args.Future.Poll.gives g.H.Future.Poll.gives worker)
-    c.args.stage.now c.start_handling.new.self q f c.args.args c.in-Ok.future
-    (flight_view g.A.Source.Source.feed c.poll_handler.new.stage) e c.start_handling.ensures a
+    c.args.stage.now (work_changed c.args.stage.now (work.Handling c.in-Ok.future)) q f c.args.args
+    c.in-Ok.future (flight_view g.A.Source.Source.feed c.begin_handling.new.stage) e refl a
     c.in-Ok.ensures.answers (g.H.Handler.calls c.args.handler.now)
     (g.H.Handler.calls c.call.new.self) c.in-Ok.ensures.calls
-    (c.poll_handler.ensures.polled c.args.handler.now worker)
+    (c.begin_handling.ensures.polled c.args.handler.now worker)
 
 pub returns-in-Err-clause-called : goal.returns-in-Err-clause-called
 returns-in-Err-clause-called g c = λ worker q f e a.
