@@ -17,8 +17,9 @@ pub use demo_arguments::{
     Wait,
 };
 pub use demo_picked::{
-    BoxedFuture, DataFuture, DecodedFuture, EitherItemFuture, FutureOf, IntoPicked, ItemFuture,
-    LinesFuture, OptionalFuture, Picked, PickedFuture, picked_law,
+    BothFuture, BoxedFuture, DataFuture, DecodedFuture, EitherItemFuture, FormFuture, FutureOf,
+    IntoPicked, ItemFuture, JsonFuture, LinesFuture, OptionalFuture, Picked, PickedFuture,
+    picked_law,
 };
 pub use handler::DemoHandler;
 pub use law::demo_law;

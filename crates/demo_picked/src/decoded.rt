@@ -2,6 +2,7 @@
 ghost use Rattle.std.specs.Prelude.{◌≡◌, ◌⊎◌, IfOk, false};
 ghost use Rattle.web_body.specs.Payload.{payload_feed};
 ghost use Rattle.web_extract.specs.Extracts.{Extracts};
+ghost use Rattle.demo_arguments.specs.declared.choice.DecodedChoice.TheVariants as decoded;
 ghost use Rattle.demo_picked.specs.BoxedFutures.{GivesOrAll, GivesWithin};
 ghost use Rattle.demo_picked.specs.PickedArguments.{MeansDecoded};
 
@@ -25,25 +26,117 @@ type CappedItemFuture = MapInto<CappedFut<JsonExtractFut<Item, Demo>, 16>, Picke
 
 type PartsFuture = MapInto<MultipartExtractFut<Marks, 65536>, Picked, Error>;
 
-type FormOrParts = EitherFuture<FutureOf<Form<Item>>, PartsFuture>;
+type CappedOrParts = EitherFuture<CappedItemFuture, PartsFuture>;
 
-type CappedOrForm = EitherFuture<CappedItemFuture, FormOrParts>;
+type JsonItem = FutureOf<Json<Item>>;
 
-type JsonOrForm = EitherFuture<FutureOf<Json<Item>>, CappedOrForm>;
+/// The future of an item of the body as JSON, in memory of its own.
+#[derive(Drop)]
+pub struct JsonFuture {
+    future: BoxedFuture<JsonItem>,
+}
 
-/// The future of an item of the body, or of its parts, in memory of its own.
+impl JsonFuture {
+    fn new(alloc: Global, future: JsonItem) -> Result<JsonFuture, NoMemory>
+        requires unfinished { ⟦<JsonItem as Poll>⟧.is_finished future ≡ false }
+        ensures fresh { IfOk result (λ made. ⟦<JsonFuture as Poll>⟧.is_finished made ≡ false) }
+        ensures gives { IfOk result (λ made. GivesWithin
+            (λ n x. ⟦<JsonFuture as Poll>⟧.gives made n x)
+            (λ n x. ⟦<JsonItem as Poll>⟧.gives future n x)) }
+    {
+        Ok(JsonFuture {
+            future: BoxedFuture::new(alloc, future)?,
+        })
+    }
+}
+
+impl Poll for JsonFuture {
+    ghost use Rattle.std.specs.Prelude.{Ok};
+    ghost use Rattle.demo_picked.specs.BoxedFutures.{gives_or_all_some};
+    ghost use Rattle.demo_picked.specs.declared.picked.Picked.TheVariants as picked;
+
+    type Output = Result<Picked, Error>;
+
+    ghost is_finished = { λ f. ⟦<JsonItem as Poll>⟧.is_finished f.future.future.value };
+
+    ghost gives = { λ f n x. GivesOrAll
+        (λ k y. ⟦<JsonItem as Poll>⟧.gives f.future.future.value k y) n x };
+
+    ghost needs_no_memory = { λ f. ⟦<JsonItem as Poll>⟧.needs_no_memory f.future.future.value };
+
+    ghost some = { λ f h. gives_or_all_some
+        (λ k y. ⟦<JsonItem as Poll>⟧.gives f.future.future.value k y) (Ok picked.Other) };
+
+    fn finished(&self) -> bool {
+        self.future.finished()
+    }
+
+    fn poll(&mut self, alloc: Global) -> Step<Result<Picked, Error>> {
+        self.future.poll(alloc)
+    }
+}
+
+type FormItem = FutureOf<Form<Item>>;
+
+/// The future of an item of the body as a form, in memory of its own.
+#[derive(Drop)]
+pub struct FormFuture {
+    future: BoxedFuture<FormItem>,
+}
+
+impl FormFuture {
+    fn new(alloc: Global, future: FormItem) -> Result<FormFuture, NoMemory>
+        requires unfinished { ⟦<FormItem as Poll>⟧.is_finished future ≡ false }
+        ensures fresh { IfOk result (λ made. ⟦<FormFuture as Poll>⟧.is_finished made ≡ false) }
+        ensures gives { IfOk result (λ made. GivesWithin
+            (λ n x. ⟦<FormFuture as Poll>⟧.gives made n x)
+            (λ n x. ⟦<FormItem as Poll>⟧.gives future n x)) }
+    {
+        Ok(FormFuture {
+            future: BoxedFuture::new(alloc, future)?,
+        })
+    }
+}
+
+impl Poll for FormFuture {
+    ghost use Rattle.std.specs.Prelude.{Ok};
+    ghost use Rattle.demo_picked.specs.BoxedFutures.{gives_or_all_some};
+    ghost use Rattle.demo_picked.specs.declared.picked.Picked.TheVariants as picked;
+
+    type Output = Result<Picked, Error>;
+
+    ghost is_finished = { λ f. ⟦<FormItem as Poll>⟧.is_finished f.future.future.value };
+
+    ghost gives = { λ f n x. GivesOrAll
+        (λ k y. ⟦<FormItem as Poll>⟧.gives f.future.future.value k y) n x };
+
+    ghost needs_no_memory = { λ f. ⟦<FormItem as Poll>⟧.needs_no_memory f.future.future.value };
+
+    ghost some = { λ f h. gives_or_all_some
+        (λ k y. ⟦<FormItem as Poll>⟧.gives f.future.future.value k y) (Ok picked.Other) };
+
+    fn finished(&self) -> bool {
+        self.future.finished()
+    }
+
+    fn poll(&mut self, alloc: Global) -> Step<Result<Picked, Error>> {
+        self.future.poll(alloc)
+    }
+}
+
+/// The future of a short item of the body as JSON, or of its parts, in memory of its own.
 #[derive(Drop)]
 pub struct ItemFuture {
-    future: BoxedFuture<JsonOrForm>,
+    future: BoxedFuture<CappedOrParts>,
 }
 
 impl ItemFuture {
-    fn new(alloc: Global, future: JsonOrForm) -> Result<ItemFuture, NoMemory>
-        requires unfinished { ⟦<JsonOrForm as Poll>⟧.is_finished future ≡ false }
+    fn new(alloc: Global, future: CappedOrParts) -> Result<ItemFuture, NoMemory>
+        requires unfinished { ⟦<CappedOrParts as Poll>⟧.is_finished future ≡ false }
         ensures fresh { IfOk result (λ made. ⟦<ItemFuture as Poll>⟧.is_finished made ≡ false) }
         ensures gives { IfOk result (λ made. GivesWithin
             (λ n x. ⟦<ItemFuture as Poll>⟧.gives made n x)
-            (λ n x. ⟦<JsonOrForm as Poll>⟧.gives future n x)) }
+            (λ n x. ⟦<CappedOrParts as Poll>⟧.gives future n x)) }
     {
         Ok(ItemFuture {
             future: BoxedFuture::new(alloc, future)?,
@@ -58,15 +151,16 @@ impl Poll for ItemFuture {
 
     type Output = Result<Picked, Error>;
 
-    ghost is_finished = { λ f. ⟦<JsonOrForm as Poll>⟧.is_finished f.future.future.value };
+    ghost is_finished = { λ f. ⟦<CappedOrParts as Poll>⟧.is_finished f.future.future.value };
 
     ghost gives = { λ f n x. GivesOrAll
-        (λ k y. ⟦<JsonOrForm as Poll>⟧.gives f.future.future.value k y) n x };
+        (λ k y. ⟦<CappedOrParts as Poll>⟧.gives f.future.future.value k y) n x };
 
-    ghost needs_no_memory = { λ f. ⟦<JsonOrForm as Poll>⟧.needs_no_memory f.future.future.value };
+    ghost needs_no_memory = { λ f.
+        ⟦<CappedOrParts as Poll>⟧.needs_no_memory f.future.future.value };
 
     ghost some = { λ f h. gives_or_all_some
-        (λ k y. ⟦<JsonOrForm as Poll>⟧.gives f.future.future.value k y) (Ok picked.Other) };
+        (λ k y. ⟦<CappedOrParts as Poll>⟧.gives f.future.future.value k y) (Ok picked.Other) };
 
     fn finished(&self) -> bool {
         self.future.finished()
@@ -180,11 +274,150 @@ impl Poll for OptionalFuture {
 }
 
 /// The future of arguments that decode the body.
-pub type DecodedFuture = EitherFuture<ItemFuture, EitherFuture<EitherItemFuture, OptionalFuture>>;
+pub type DecodedFuture = EitherFuture<
+    EitherFuture<JsonFuture, FormFuture>,
+    EitherFuture<ItemFuture, EitherFuture<EitherItemFuture, OptionalFuture>>,
+>;
+
+/// Begins with an item of the body as JSON.
+fn json_future(
+    alloc: Global,
+    req: &HttpRequest<Demo>,
+    payload: &mut Payload<Marks>,
+) -> Result<JsonFuture, NoMemory>
+    ensures fresh { IfOk result (λ f. ⟦<JsonFuture as Poll>⟧.is_finished f ≡ false) }
+    ensures extracts { IfOk result (λ f. Extracts
+        (λ m rest n x. MeansDecoded decoded.Json req.now.request m rest n x)
+        (λ n x. ⟦<JsonFuture as Poll>⟧.gives f n x)
+        (payload_feed (λ feed. feed) payload.old).marks
+        (payload_feed (λ feed. feed) payload.new).marks) }
+    ensures payload { (payload.new ≡ payload.old) ⊎ (payload.new ≡ Payload.None) }
+{
+    let begun = begin::<Json<Item>>(alloc, req, payload)?;
+    let future = JsonFuture::new(alloc, begun)?;
+    Ok(future)
+}
+
+/// Begins with a short item of the body as JSON.
+fn capped_future(
+    alloc: Global,
+    req: &HttpRequest<Demo>,
+    payload: &mut Payload<Marks>,
+) -> Result<ItemFuture, NoMemory>
+    ensures fresh { IfOk result (λ f. ⟦<ItemFuture as Poll>⟧.is_finished f ≡ false) }
+    ensures extracts { IfOk result (λ f. Extracts
+        (λ m rest n x. MeansDecoded decoded.CappedJson req.now.request m rest n x)
+        (λ n x. ⟦<ItemFuture as Poll>⟧.gives f n x)
+        (payload_feed (λ feed. feed) payload.old).marks
+        (payload_feed (λ feed. feed) payload.new).marks) }
+    ensures payload { (payload.new ≡ payload.old) ⊎ (payload.new ≡ Payload.None) }
+{
+    let begun = from_request_into::<Demo, Capped<Json<Item>, 16>, Picked, Error>(
+        alloc, req, payload,
+    )?;
+    let future = ItemFuture::new(alloc, Left(begun))?;
+    Ok(future)
+}
+
+/// Begins with an item of the body as a form.
+fn form_future(
+    alloc: Global,
+    req: &HttpRequest<Demo>,
+    payload: &mut Payload<Marks>,
+) -> Result<FormFuture, NoMemory>
+    ensures fresh { IfOk result (λ f. ⟦<FormFuture as Poll>⟧.is_finished f ≡ false) }
+    ensures extracts { IfOk result (λ f. Extracts
+        (λ m rest n x. MeansDecoded decoded.Form req.now.request m rest n x)
+        (λ n x. ⟦<FormFuture as Poll>⟧.gives f n x)
+        (payload_feed (λ feed. feed) payload.old).marks
+        (payload_feed (λ feed. feed) payload.new).marks) }
+    ensures payload { (payload.new ≡ payload.old) ⊎ (payload.new ≡ Payload.None) }
+{
+    let begun = begin::<Form<Item>>(alloc, req, payload)?;
+    let future = FormFuture::new(alloc, begun)?;
+    Ok(future)
+}
+
+/// Begins with the parts of the body.
+fn parts_future(
+    alloc: Global,
+    req: &HttpRequest<Demo>,
+    payload: &mut Payload<Marks>,
+) -> Result<ItemFuture, NoMemory>
+    ensures fresh { IfOk result (λ f. ⟦<ItemFuture as Poll>⟧.is_finished f ≡ false) }
+    ensures extracts { IfOk result (λ f. Extracts
+        (λ m rest n x. MeansDecoded decoded.Parts req.now.request m rest n x)
+        (λ n x. ⟦<ItemFuture as Poll>⟧.gives f n x)
+        (payload_feed (λ feed. feed) payload.old).marks
+        (payload_feed (λ feed. feed) payload.new).marks) }
+    ensures payload { (payload.new ≡ payload.old) ⊎ (payload.new ≡ Payload.None) }
+{
+    let begun = from_request_into::<Demo, Multipart<65536>, Picked, Error>(alloc, req, payload)?;
+    let future = ItemFuture::new(alloc, Right(begun))?;
+    Ok(future)
+}
+
+/// Begins with an item of the body as JSON, and where that is refused as a form.
+fn either_future(
+    alloc: Global,
+    req: &HttpRequest<Demo>,
+    payload: &mut Payload<Marks>,
+) -> Result<EitherItemFuture, NoMemory>
+    ensures fresh { IfOk result (λ f. ⟦<EitherItemFuture as Poll>⟧.is_finished f ≡ false) }
+    ensures extracts { IfOk result (λ f. Extracts
+        (λ m rest n x. MeansDecoded decoded.Either req.now.request m rest n x)
+        (λ n x. ⟦<EitherItemFuture as Poll>⟧.gives f n x)
+        (payload_feed (λ feed. feed) payload.old).marks
+        (payload_feed (λ feed. feed) payload.new).marks) }
+    ensures payload { (payload.new ≡ payload.old) ⊎ (payload.new ≡ Payload.None) }
+{
+    let begun = begin::<Either<Json<Item>, Form<Item>>>(alloc, req, payload)?;
+    let future = EitherItemFuture::new(alloc, begun)?;
+    Ok(future)
+}
+
+/// Begins with an item of the body that may be refused, and what is left of the body.
+fn option_future(
+    alloc: Global,
+    req: &HttpRequest<Demo>,
+    payload: &mut Payload<Marks>,
+) -> Result<OptionalFuture, NoMemory>
+    ensures fresh { IfOk result (λ f. ⟦<OptionalFuture as Poll>⟧.is_finished f ≡ false) }
+    ensures extracts { IfOk result (λ f. Extracts
+        (λ m rest n x. MeansDecoded decoded.Option req.now.request m rest n x)
+        (λ n x. ⟦<OptionalFuture as Poll>⟧.gives f n x)
+        (payload_feed (λ feed. feed) payload.old).marks
+        (payload_feed (λ feed. feed) payload.new).marks) }
+    ensures payload { (payload.new ≡ payload.old) ⊎ (payload.new ≡ Payload.None) }
+{
+    let begun = begin::<(Option<Json<Item>>, Bytes)>(alloc, req, payload)?;
+    let future = OptionalFuture::new(alloc, Left(begun))?;
+    Ok(future)
+}
+
+/// Begins with an item of the body, or its refusal.
+fn result_future(
+    alloc: Global,
+    req: &HttpRequest<Demo>,
+    payload: &mut Payload<Marks>,
+) -> Result<OptionalFuture, NoMemory>
+    ensures fresh { IfOk result (λ f. ⟦<OptionalFuture as Poll>⟧.is_finished f ≡ false) }
+    ensures extracts { IfOk result (λ f. Extracts
+        (λ m rest n x. MeansDecoded decoded.Result req.now.request m rest n x)
+        (λ n x. ⟦<OptionalFuture as Poll>⟧.gives f n x)
+        (payload_feed (λ feed. feed) payload.old).marks
+        (payload_feed (λ feed. feed) payload.new).marks) }
+    ensures payload { (payload.new ≡ payload.old) ⊎ (payload.new ≡ Payload.None) }
+{
+    let begun = begin::<Result<Json<Item>, Error>>(alloc, req, payload)?;
+    let future = OptionalFuture::new(alloc, Right(begun))?;
+    Ok(future)
+}
 
 /// Begins with arguments that decode the body.
 ///
-/// It stands apart, since the variables of every choice would be cleared for each request.
+/// Each choice is a function of its own, since the variables of every choice would be cleared for
+/// each request: 500 instructions.
 #[inline(never)]
 pub(crate) fn decoded_future(
     alloc: Global,
@@ -202,36 +435,32 @@ pub(crate) fn decoded_future(
 {
     match choice {
         DecodedChoice::Json => {
-            let future = begin::<Json<Item>>(alloc, req, payload)?;
-            Ok(Left(ItemFuture::new(alloc, Left(future))?))
+            let future = json_future(alloc, req, payload)?;
+            Ok(Left(Left(future)))
         }
         DecodedChoice::CappedJson => {
-            let future = from_request_into::<Demo, Capped<Json<Item>, 16>, Picked, Error>(
-                alloc, req, payload,
-            )?;
-            Ok(Left(ItemFuture::new(alloc, Right(Left(future)))?))
+            let future = capped_future(alloc, req, payload)?;
+            Ok(Right(Left(future)))
         }
         DecodedChoice::Form => {
-            let future = begin::<Form<Item>>(alloc, req, payload)?;
-            Ok(Left(ItemFuture::new(alloc, Right(Right(Left(future))))?))
+            let future = form_future(alloc, req, payload)?;
+            Ok(Left(Right(future)))
         }
         DecodedChoice::Parts => {
-            let future = from_request_into::<Demo, Multipart<65536>, Picked, Error>(
-                alloc, req, payload,
-            )?;
-            Ok(Left(ItemFuture::new(alloc, Right(Right(Right(future))))?))
+            let future = parts_future(alloc, req, payload)?;
+            Ok(Right(Left(future)))
         }
         DecodedChoice::Either => {
-            let future = begin::<Either<Json<Item>, Form<Item>>>(alloc, req, payload)?;
-            Ok(Right(Left(EitherItemFuture::new(alloc, future)?)))
+            let future = either_future(alloc, req, payload)?;
+            Ok(Right(Right(Left(future))))
         }
         DecodedChoice::Option => {
-            let future = begin::<(Option<Json<Item>>, Bytes)>(alloc, req, payload)?;
-            Ok(Right(Right(OptionalFuture::new(alloc, Left(future))?)))
+            let future = option_future(alloc, req, payload)?;
+            Ok(Right(Right(Right(future))))
         }
         DecodedChoice::Result => {
-            let future = begin::<Result<Json<Item>, Error>>(alloc, req, payload)?;
-            Ok(Right(Right(OptionalFuture::new(alloc, Right(future))?)))
+            let future = result_future(alloc, req, payload)?;
+            Ok(Right(Right(Right(future))))
         }
     }
 }

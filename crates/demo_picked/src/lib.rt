@@ -10,7 +10,9 @@ mod ready;
 mod segments;
 
 pub use boxed_future::BoxedFuture;
-pub use decoded::{DecodedFuture, EitherItemFuture, ItemFuture, OptionalFuture};
-pub use lists::{DataFuture, LinesFuture};
+pub use decoded::{
+    DecodedFuture, EitherItemFuture, FormFuture, ItemFuture, JsonFuture, OptionalFuture,
+};
+pub use lists::{BothFuture, DataFuture, LinesFuture};
 pub use picked::{Picked, PickedFuture, picked_law};
 pub use picked_future::{FutureOf, IntoPicked};

@@ -1,4 +1,4 @@
-//! The arguments of `/data` and of `/lines`.
+//! The arguments of `/data`, of `/lines` and of `/both`.
 ghost use Rattle.std.specs.Prelude.{◌≡◌, ◌⊎◌, IfOk, false};
 ghost use Rattle.web_body.specs.Payload.{payload_feed};
 ghost use Rattle.web_extract.specs.Extracts.{Extracts};
@@ -10,7 +10,7 @@ use crate::boxed_future::BoxedFuture;
 use crate::picked::Picked;
 use crate::picked_future::{FutureOf, begin};
 use demo_app::{Demo, DemoLocal};
-use demo_arguments::AllLines;
+use demo_arguments::{AllLines, Late};
 use std::alloc::Global;
 use web_body::{Marks, Payload, Poll, Step};
 use web_reply::Error;
@@ -150,5 +150,73 @@ pub(crate) fn lines_future(
 {
     let begun = begin::<AllLines>(alloc, req, payload)?;
     let future = LinesFuture::new(alloc, begun)?;
+    Ok(future)
+}
+
+type BothList = FutureOf<(String, Late)>;
+
+/// The future of the body as a text and of an argument that comes late, in memory of its own.
+#[derive(Drop)]
+pub struct BothFuture {
+    future: BoxedFuture<BothList>,
+}
+
+impl BothFuture {
+    fn new(alloc: Global, future: BothList) -> Result<BothFuture, NoMemory>
+        requires unfinished { ⟦<BothList as Poll>⟧.is_finished future ≡ false }
+        ensures fresh { IfOk result (λ made. ⟦<BothFuture as Poll>⟧.is_finished made ≡ false) }
+        ensures gives { IfOk result (λ made. GivesWithin
+            (λ n x. ⟦<BothFuture as Poll>⟧.gives made n x)
+            (λ n x. ⟦<BothList as Poll>⟧.gives future n x)) }
+    {
+        Ok(BothFuture {
+            future: BoxedFuture::new(alloc, future)?,
+        })
+    }
+}
+
+impl Poll for BothFuture {
+    ghost use Rattle.std.specs.Prelude.{Ok};
+    ghost use Rattle.demo_picked.specs.BoxedFutures.{gives_or_all_some};
+    ghost use Rattle.demo_picked.specs.declared.picked.Picked.TheVariants as picked;
+
+    type Output = Result<Picked, Error>;
+
+    ghost is_finished = { λ f. ⟦<BothList as Poll>⟧.is_finished f.future.future.value };
+
+    ghost gives = { λ f n x. GivesOrAll
+        (λ k y. ⟦<BothList as Poll>⟧.gives f.future.future.value k y) n x };
+
+    ghost needs_no_memory = { λ f. ⟦<BothList as Poll>⟧.needs_no_memory f.future.future.value };
+
+    ghost some = { λ f h. gives_or_all_some
+        (λ k y. ⟦<BothList as Poll>⟧.gives f.future.future.value k y) (Ok picked.Other) };
+
+    fn finished(&self) -> bool {
+        self.future.finished()
+    }
+
+    fn poll(&mut self, alloc: Global) -> Step<Result<Picked, Error>> {
+        self.future.poll(alloc)
+    }
+}
+
+/// Begins with the body as a text and an argument that comes late.
+#[inline(never)]
+pub(crate) fn both_future(
+    alloc: Global,
+    req: &HttpRequest<Demo>,
+    payload: &mut Payload<Marks>,
+) -> Result<BothFuture, NoMemory>
+    ensures fresh { IfOk result (λ f. ⟦<BothFuture as Poll>⟧.is_finished f ≡ false) }
+    ensures extracts { IfOk result (λ f. Extracts
+        (λ m rest n x. MeansChoice choice.Both req.now.request m rest n x)
+        (λ n x. ⟦<BothFuture as Poll>⟧.gives f n x)
+        (payload_feed (λ feed. feed) payload.old).marks
+        (payload_feed (λ feed. feed) payload.new).marks) }
+    ensures payload { (payload.new ≡ payload.old) ⊎ (payload.new ≡ Payload.None) }
+{
+    let begun = begin::<(String, Late)>(alloc, req, payload)?;
+    let future = BothFuture::new(alloc, begun)?;
     Ok(future)
 }

@@ -6,7 +6,7 @@ ghost use Rattle.demo_app.specs.DemoRequests.{DemoRequest};
 ghost use Rattle.demo_picked.specs.PickedArguments.{MeansPicked, picked_delay, picked_result};
 
 use crate::decoded::{DecodedFuture, decoded_future};
-use crate::lists::{DataFuture, LinesFuture, data_future, lines_future};
+use crate::lists::{BothFuture, DataFuture, LinesFuture, both_future, data_future, lines_future};
 use crate::picked_future::{FutureOf, begin};
 use crate::ready::{head_future, read_future};
 use bytes::Bytes;
@@ -79,14 +79,16 @@ pub enum Picked {
 }
 
 /// The future of the arguments that were chosen.
+///
+/// That of `/bytes` stands first, since each further level copies it where it is dropped.
 pub type PickedFuture = EitherFuture<
+    FutureOf<Bytes>,
     EitherFuture<
-        EitherFuture<FutureOf<Bytes>, FutureOf<String>>,
-        EitherFuture<FutureOf<(String, Late)>, FutureOf<Capped<Bytes, 4>>>,
-    >,
-    EitherFuture<
-        EitherFuture<Ready<Result<Picked, Error>>, DecodedFuture>,
-        EitherFuture<DataFuture, LinesFuture>,
+        EitherFuture<FutureOf<String>, FutureOf<Capped<Bytes, 4>>>,
+        EitherFuture<
+            EitherFuture<Ready<Result<Picked, Error>>, DecodedFuture>,
+            EitherFuture<BothFuture, EitherFuture<DataFuture, LinesFuture>>,
+        >,
     >,
 >;
 
@@ -114,26 +116,35 @@ impl FromRequest<Demo> for Picked {
         payload: &mut Payload<Marks>,
     ) -> Result<PickedFuture, NoMemory> {
         match choice_of(req.path()) {
-            Choice::Bytes => Ok(Left(Left(Left(begin::<Bytes>(alloc, req, payload)?)))),
-            Choice::Text => Ok(Left(Left(Right(begin::<String>(alloc, req, payload)?)))),
-            Choice::Both => Ok(Left(Right(Left(begin::<(String, Late)>(alloc, req, payload)?)))),
+            Choice::Bytes => Ok(Left(begin::<Bytes>(alloc, req, payload)?)),
+            Choice::Text => Ok(Right(Left(Left(begin::<String>(alloc, req, payload)?)))),
             Choice::Capped => {
                 let future = begin::<Capped<Bytes, 4>>(alloc, req, payload)?;
-                Ok(Left(Right(Right(future))))
+                Ok(Right(Left(Right(future))))
             }
-            Choice::Data => Ok(Right(Right(Left(data_future(alloc, req, payload)?)))),
-            Choice::Lines => Ok(Right(Right(Right(lines_future(alloc, req, payload)?)))),
+            Choice::Both => {
+                let future = both_future(alloc, req, payload)?;
+                Ok(Right(Right(Right(Left(future)))))
+            }
+            Choice::Data => {
+                let future = data_future(alloc, req, payload)?;
+                Ok(Right(Right(Right(Right(Left(future))))))
+            }
+            Choice::Lines => {
+                let future = lines_future(alloc, req, payload)?;
+                Ok(Right(Right(Right(Right(Right(future))))))
+            }
             Choice::Decoded(choice) => {
                 let future = decoded_future(alloc, req, payload, choice)?;
-                Ok(Right(Left(Right(future))))
+                Ok(Right(Right(Left(Right(future)))))
             }
             Choice::Read(choice) => {
                 let future = read_future(alloc, req, payload, choice)?;
-                Ok(Right(Left(Left(future))))
+                Ok(Right(Right(Left(Left(future)))))
             }
             Choice::Head(choice) => {
                 let future = head_future(alloc, req, payload, choice)?;
-                Ok(Right(Left(Left(future))))
+                Ok(Right(Right(Left(Left(future)))))
             }
         }
     }

@@ -16,12 +16,12 @@ returns-in_ok-begin-in-Text-clause-extracts c =
     (rw (← c.path.ensures, ← c.choice_of.ensures) c.in-Text.is)
     c.in_ok-begin-in-Text.ensures.extracts
 
-pub returns-in_ok-begin-in-Both-clause-extracts :
-    goal.returns-in_ok-begin-in-Both-clause-extracts
-returns-in_ok-begin-in-Both-clause-extracts c =
+pub returns-in_ok-future-in-Both-clause-extracts :
+    goal.returns-in_ok-future-in-Both-clause-extracts
+returns-in_ok-future-in-Both-clause-extracts c =
     extracts_choice c.args.req.now.request choice.Both _ _ _
     (rw (← c.path.ensures, ← c.choice_of.ensures) c.in-Both.is)
-    c.in_ok-begin-in-Both.ensures.extracts
+    c.in_ok-future-in-Both.ensures.extracts
 
 pub returns-in_ok-future-in-Capped-clause-extracts :
     goal.returns-in_ok-future-in-Capped-clause-extracts
@@ -30,19 +30,19 @@ returns-in_ok-future-in-Capped-clause-extracts c =
     (rw (← c.path.ensures, ← c.choice_of.ensures) c.in-Capped.is)
     c.in_ok-future-in-Capped.ensures.extracts
 
-pub returns-in_ok-data_future-in-Data-clause-extracts :
-    goal.returns-in_ok-data_future-in-Data-clause-extracts
-returns-in_ok-data_future-in-Data-clause-extracts c =
+pub returns-in_ok-future-in-Data-clause-extracts :
+    goal.returns-in_ok-future-in-Data-clause-extracts
+returns-in_ok-future-in-Data-clause-extracts c =
     extracts_choice c.args.req.now.request choice.Data _ _ _
     (rw (← c.path.ensures, ← c.choice_of.ensures) c.in-Data.is)
-    c.in_ok-data_future-in-Data.ensures.extracts
+    c.in_ok-future-in-Data.ensures.extracts
 
-pub returns-in_ok-lines_future-in-Lines-clause-extracts :
-    goal.returns-in_ok-lines_future-in-Lines-clause-extracts
-returns-in_ok-lines_future-in-Lines-clause-extracts c =
+pub returns-in_ok-future-in-Lines-clause-extracts :
+    goal.returns-in_ok-future-in-Lines-clause-extracts
+returns-in_ok-future-in-Lines-clause-extracts c =
     extracts_choice c.args.req.now.request choice.Lines _ _ _
     (rw (← c.path.ensures, ← c.choice_of.ensures) c.in-Lines.is)
-    c.in_ok-lines_future-in-Lines.ensures.extracts
+    c.in_ok-future-in-Lines.ensures.extracts
 
 pub returns-in_ok-future-in-Decoded-clause-extracts :
     goal.returns-in_ok-future-in-Decoded-clause-extracts

@@ -1,0 +1,6 @@
+use Rattle.demo_picked.proofs.BoxedFuturesLemmas.{extracts_within}
+use Rattle.demo_picked.proofs.decoded.either_future.Goals as goal
+
+pub returns-clause-extracts : goal.returns-clause-extracts
+returns-clause-extracts c =
+    extracts_within _ _ _ _ _ c.in_ok-future.ensures.gives c.in_ok-begun.ensures.extracts
