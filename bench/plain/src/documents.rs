@@ -5,47 +5,55 @@ use crate::reply::{Body, Reply};
 use crate::request::Request;
 use crate::text::{number, put_number, trimmed};
 use std::borrow::Cow;
+use std::collections::HashMap;
 use std::ops::Range;
+use std::sync::LazyLock;
 
+/// A document, with the values of its headers as they are sent.
 struct Document {
-    path: &'static str,
-    media_type: &'static str,
-    tag: Tag<'static>,
-    /// The tag as a header has it.
-    etag: &'static str,
+    media_type: String,
+    /// The tag without its quotes.
+    tag: String,
+    is_weak: bool,
+    etag: String,
     /// In seconds since 1970.
     modified: u64,
-    /// The same as a header has it.
-    last_modified: &'static str,
-    body: &'static [u8],
+    last_modified: String,
+    body: Vec<u8>,
 }
 
-static DOCUMENTS: [Document; 2] = [
-    Document {
-        path: "/doc/a",
-        media_type: "text/plain",
-        tag: Tag {
-            is_weak: false,
-            text: b"v1",
-        },
-        etag: "\"v1\"",
-        modified: 1_700_000_000,
-        last_modified: "Tue, 14 Nov 2023 22:13:20 GMT",
-        body: b"0123456789",
-    },
-    Document {
-        path: "/doc/empty",
-        media_type: "text/plain",
-        tag: Tag {
-            is_weak: true,
-            text: b"e",
-        },
-        etag: "W/\"e\"",
-        modified: 1_700_000_000,
-        last_modified: "Tue, 14 Nov 2023 22:13:20 GMT",
-        body: b"",
-    },
-];
+/// Documents by their paths. Replies borrow from it.
+struct Store {
+    documents: HashMap<String, Document>,
+}
+
+/// The demo's documents, which are stored when the first of them is asked for.
+static STORE: LazyLock<Store> = LazyLock::new(|| {
+    let mut store = Store {
+        documents: HashMap::new(),
+    };
+    store.add("/doc/a", Document::of(false, "v1", b"0123456789"));
+    store.add("/doc/empty", Document::of(true, "e", b""));
+    store
+});
+
+/// The reply to a request for one of the documents.
+pub fn reply(request: &Request<'_>) -> Reply<'static> {
+    STORE.reply(request)
+}
+
+impl Store {
+    fn add(&mut self, path: &str, document: Document) {
+        self.documents.insert(path.to_string(), document);
+    }
+
+    fn reply(&self, request: &Request<'_>) -> Reply<'_> {
+        match self.documents.get(request.target.path()) {
+            Some(document) => document.reply(request),
+            None => Reply::empty(404),
+        }
+    }
+}
 
 /// The tag of a version of a document.
 struct Tag<'a> {
@@ -64,45 +72,60 @@ enum Verdict {
     Whole,
 }
 
-/// The reply to a request for a document.
-pub fn reply(request: &Request<'_>) -> Reply<'static> {
-    let path = request.target.path();
-    let Some(document) = DOCUMENTS.iter().find(|document| document.path == path) else {
-        return Reply::empty(404);
-    };
-    let is_head = request.method == "HEAD";
-    let mut reply = match document.verdict(request.method, &request.headers) {
-        Verdict::NotAllowed => Reply::empty(405).with("allow", "GET, HEAD"),
-        Verdict::Failed => Reply::empty(412),
-        Verdict::NotModified => document.not_modified(),
-        Verdict::Unsatisfiable => {
-            Reply::empty(416).with("content-range", content_range(None, document.body.len()))
-        }
-        Verdict::Part(part) => {
-            let range = content_range(Some(&part), document.body.len());
-            document
-                .sent(206, &document.body[part])
-                .with("content-range", range)
-        }
-        Verdict::Whole => document.sent(200, document.body),
-    };
-    if is_head {
-        reply.body = Body::Whole(Cow::Borrowed(&[]));
-    }
-    reply
-}
-
 impl Document {
+    /// A plain text of the demo's date.
+    fn of(is_weak: bool, tag: &str, body: &[u8]) -> Document {
+        let last_modified = "Tue, 14 Nov 2023 22:13:20 GMT";
+        let prefix = if is_weak { "W/" } else { "" };
+        Document {
+            media_type: "text/plain".to_string(),
+            tag: tag.to_string(),
+            is_weak,
+            etag: format!("{prefix}\"{tag}\""),
+            modified: date::read(last_modified.as_bytes()).expect("it is a date"),
+            last_modified: last_modified.to_string(),
+            body: body.to_vec(),
+        }
+    }
+
+    fn tag(&self) -> Tag<'_> {
+        Tag {
+            is_weak: self.is_weak,
+            text: self.tag.as_bytes(),
+        }
+    }
+
+    fn reply(&self, request: &Request<'_>) -> Reply<'_> {
+        let mut reply = match self.verdict(request.method, &request.headers) {
+            Verdict::NotAllowed => Reply::empty(405).with("allow", "GET, HEAD"),
+            Verdict::Failed => Reply::empty(412),
+            Verdict::NotModified => self.not_modified(),
+            Verdict::Unsatisfiable => {
+                Reply::empty(416).with("content-range", content_range(None, self.body.len()))
+            }
+            Verdict::Part(part) => {
+                let range = content_range(Some(&part), self.body.len());
+                self.sent(206, &self.body[part])
+                    .with("content-range", range)
+            }
+            Verdict::Whole => self.sent(200, &self.body),
+        };
+        if request.method == "HEAD" {
+            reply.body = Body::Whole(Cow::Borrowed(&[]));
+        }
+        reply
+    }
+
     fn verdict(&self, method: &str, headers: &Headers<'_>) -> Verdict {
         if method != "GET" && method != "HEAD" {
             return Verdict::NotAllowed;
         }
-        let matches = any_tag(headers, "if-match", |tag| self.tag.is_strongly(tag))
+        let matches = any_tag(headers, "if-match", |tag| self.tag().is_strongly(tag))
             .or_else(|| Some(self.modified <= date(headers, "if-unmodified-since")?));
         if matches == Some(false) {
             return Verdict::Failed;
         }
-        let is_known = any_tag(headers, "if-none-match", |tag| self.tag.text == tag.text)
+        let is_known = any_tag(headers, "if-none-match", |tag| self.tag().text == tag.text)
             .or_else(|| Some(self.modified <= date(headers, "if-modified-since")?));
         if is_known == Some(true) {
             return Verdict::NotModified;
@@ -121,20 +144,20 @@ impl Document {
             return true;
         };
         match Tag::read(value) {
-            Some(tag) => self.tag.is_strongly(&tag),
+            Some(tag) => self.tag().is_strongly(&tag),
             None => date::read(value) == Some(self.modified),
         }
     }
 
     /// The headers of 304, and room for those of a part.
-    fn validators(&self) -> Vec<(&'static str, Cow<'static, str>)> {
+    fn validators(&self) -> Vec<(&'static str, Cow<'_, str>)> {
         let mut headers = Vec::with_capacity(5);
-        headers.push(("etag", self.etag.into()));
-        headers.push(("last-modified", self.last_modified.into()));
+        headers.push(("etag", self.etag.as_str().into()));
+        headers.push(("last-modified", self.last_modified.as_str().into()));
         headers
     }
 
-    fn not_modified(&self) -> Reply<'static> {
+    fn not_modified(&self) -> Reply<'_> {
         Reply {
             headers: self.validators(),
             ..Reply::empty(304)
@@ -142,10 +165,10 @@ impl Document {
     }
 
     /// A reply with these bytes of the document.
-    fn sent(&self, status: u16, body: &'static [u8]) -> Reply<'static> {
+    fn sent<'a>(&'a self, status: u16, body: &'a [u8]) -> Reply<'a> {
         let mut headers = self.validators();
         headers.push(("accept-ranges", "bytes".into()));
-        headers.push(("content-type", self.media_type.into()));
+        headers.push(("content-type", self.media_type.as_str().into()));
         Reply {
             status,
             headers,
