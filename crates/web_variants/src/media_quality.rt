@@ -1,5 +1,6 @@
 //! The quality of a media type, by Accept.
-ghost use Rattle.std.specs.Prelude.{◌≡◌, Some};
+ghost use Rattle.std.specs.Prelude.{◌≡◌, Some, true};
+ghost use Rattle.web_texts.specs.MediaTypes.{MediaType};
 ghost use Rattle.web_variants.specs.Acceptance.{is_any_subtype as is_any_subtype_of};
 ghost use Rattle.web_variants.specs.Acceptance.{media_match as match_number};
 ghost use Rattle.web_variants.specs.Acceptance.{media_quality as quality_of, same_essence as same};
@@ -14,10 +15,28 @@ fn same_essence(a: &Mime, b: &Mime) -> bool
     a.essence() == b.essence()
 }
 
-fn is_any_subtype(media_type: &Mime, item: &Mime) -> bool
+/// Whether the text ends as that of `type/*` does. Most items do not, and need not be cut.
+#[tactic(auto, using(crate::proofs::MediaLemmas::any_ends))]
+fn ends_in_any(item: &Mime) -> bool
+    ensures { (m : MediaType) → is_any_subtype_of m item.now ≡ true → result ≡ true }
+{
+    item.essence().as_bytes().ends_with(b"/*")
+}
+
+fn has_any_subtype(media_type: &Mime, item: &Mime) -> bool
     ensures { result ≡ is_any_subtype_of media_type.now item.now }
 {
     item.type_() == media_type.type_() && item.subtype() == "*" && item.suffix().is_none()
+}
+
+fn is_any_subtype(media_type: &Mime, item: &Mime) -> bool
+    ensures { result ≡ is_any_subtype_of media_type.now item.now }
+{
+    if ends_in_any(item) {
+        has_any_subtype(media_type, item)
+    } else {
+        false
+    }
 }
 
 fn media_match(media_type: &Mime, item: &Mime) -> u64
