@@ -8,7 +8,7 @@ ghost use Rattle.web_reply.specs.ResponseBodies.{box_plain};
 ghost use Rattle.web_texts.specs.HeaderTexts.{header_text};
 ghost use Rattle.web_worker.specs.Outcomes.{outcome_view};
 ghost use Rattle.web_testing.specs.TestReplies.{HasBody, HasMarks, HasReply, RefusesBody};
-ghost use Rattle.web_testing.specs.TestReplies.{RefusesPlain, RefusesReply};
+ghost use Rattle.web_testing.specs.TestReplies.{RefusesPlain, RefusesReply, StillWaits};
 
 use crate::error::TestError;
 use crate::serving::MOST_POLLS;
@@ -44,7 +44,7 @@ impl Model for TestReply {
 fn value_of<F: Poll>(alloc: Global, mut future: F) -> Result<(usize, F::Output), TestError>
     requires { F.is_finished future ≡ false }
     ensures value { IfOk result (λ value. F.gives future value.0 value.1) }
-    ensures refused { IfErr result RefusesBody }
+    ensures refused { IfErr result (StillWaits (F.gives future)) }
 {
     for stalls in 0..MOST_POLLS {
         match future.poll(alloc) {
@@ -57,10 +57,10 @@ fn value_of<F: Poll>(alloc: Global, mut future: F) -> Result<(usize, F::Output),
 }
 
 /// The whole of a payload.
-#[tactic(auto, using(crate::proofs::TestRepliesLemmas::has_marks))]
+#[tactic(auto, using(crate::proofs::TestRepliesLemmas::has_marks, crate::proofs::TestRepliesLemmas::refuses_failed, crate::proofs::TestRepliesLemmas::refuses_late,))]
 fn read_payload<S: Source>(alloc: Global, payload: Payload<S>) -> Result<Bytes, TestError>
     ensures bytes { IfOk result (λ bytes. HasMarks (payload_feed S.feed payload).marks bytes) }
-    ensures refused { IfErr result RefusesBody }
+    ensures refused { IfErr result (RefusesBody (payload_feed S.feed payload).marks) }
 {
     match value_of(alloc, payload.to_bytes(alloc)) {
         Ok((_, Ok(bytes))) => Ok(bytes),
