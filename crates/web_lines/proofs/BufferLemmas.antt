@@ -13,8 +13,9 @@ use Rattle.web_lines.specs.declared.lines_collector.Progress.{Progress}
 use Rattle.web_lines.specs.declared.lines_collector.Progress.TheVariants.{Over, Reading, Refused}
 use Rattle.web_lines.specs.LineReading.{HoldsNothing, IsReading}
 use Rattle.web_lines.specs.LastPieces.{LastTaken, last_size}
-use Rattle.web_lines.specs.LineCuts.{GivesLine}
+use Rattle.web_lines.specs.LineCuts.{TakesFirst}
 use Rattle.web_lines.specs.NextLines.{BuffersLine, LastLine}
+use Rattle.web_lines.proofs.LineCutLemmas.{first_size}
 use Rattle.web_lines.proofs.NextLineLemmas.{ReadsOn, between}
 
 -- nothing is held where nothing is read
@@ -68,12 +69,12 @@ takes_untold first now new n k last e f = rw (f, ← e) last
 -- ---- the bytes
 
 module _ {S : Type 0} (feed : S → Feed) (limit : ℕ) (first : Payload S) (held0 piece0 : List ℕ) (now : Payload S) (held piece : List ℕ) (on : ReadsOn feed limit first held0 piece0 now held piece) where
-  pub line_buffers : (text held_new piece_new : List ℕ) → GivesLine limit (held ++ piece) text held_new piece_new
+  pub line_buffers : (text held_new piece_new : List ℕ) → TakesFirst limit (held ++ piece) text held_new piece_new
       → BuffersLine (line.Line text) (length (held0 ++ piece0)) (bytes_between feed first now) (held_new ++ piece_new)
   line_buffers text held_new piece_new gives =
       let n = between feed first now on.given on.gave in
       let grew = on.grew in
-      let parts = gives.parts in
+      let parts = first_size limit (held ++ piece) text piece_new gives.first in
       rw gives.held_is (omega (arith, n, grew, parts))
 
   module _ (new : Payload S) (gave : GivesBytes feed now 0 new) where

@@ -8,9 +8,8 @@ use Rattle.memchr.specs.Find.{IsFirstByte, Nowhere, NoneBefore, Passes, is_byte}
 use Rattle.web_texts.specs.Bytes.{is_newline}
 use Rattle.web_texts.specs.Cut.{IsCut}
 use Rattle.web_texts.proofs.SplitLemmas.{no_cut}
-use Rattle.web_body.specs.declared.lines_error.ReadlinesError.TheVariants.{LimitOverflow}
 use Rattle.web_lines.specs.declared.line_cut.LineCut.{LineCut}
-use Rattle.web_lines.specs.LineCuts.{Cuts, GivesError, IsTooLong, IsUnfinished, TakesLine}
+use Rattle.web_lines.specs.LineCuts.{Cuts, IsTooLong, IsUnfinished, TakesLine}
 use Rattle.web_lines.proofs.LineCutLemmas.{has_line, line_cuts, line_too_long, not_long, taken_front}
 
 none_at : (piece : List ℕ) (end : ℕ) → Nowhere (Passes (is_byte 10) piece) 0 end → (k : ℕ) → k < end → (get_or piece k 0 == 10) ≡ false
@@ -42,7 +41,7 @@ module _ (limit : ℕ) (held piece searched : List ℕ) (on : IsUnfinished limit
   front_size : length (take place piece) ≡ place
   front_size = let h = inside in length-take-le place piece (omega (arith, h))
 
-  pub newline_too_far : limit ≤ length held + place → GivesError limit (held ++ piece) LimitOverflow × (limit < length (held ++ piece))
+  pub newline_too_far : limit ≤ length held + place → IsTooLong limit (held ++ piece)
   newline_too_far far = let size = front_size in line_too_long limit held piece (take place piece) (drop (place + 1) piece) on cut_there (omega (arith, far, size))
 
   pub not_unfinished : IsUnfinished limit (held ++ piece) → ⊥

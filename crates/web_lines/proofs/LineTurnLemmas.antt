@@ -12,7 +12,8 @@ use Rattle.web_body.specs.declared.lines_error.ReadlinesError.TheVariants as lin
 use Rattle.web_body.specs.Collector.{StallsNext}
 use Rattle.web_lines.specs.Lines.{Answer, AtEnd, line_answers, text_answer}
 use Rattle.web_lines.specs.LineSchedules.{error_due, line_due, nothing_due, one_later, schedule}
-use Rattle.web_lines.specs.LineCuts.{GivesError, GivesLine, IsUnfinished}
+use Rattle.web_lines.specs.LineCuts.{IsUnfinished, TakesFirst}
+use Rattle.web_lines.proofs.LineCutLemmas.{GivesError, first_due}
 use Rattle.web_lines.proofs.LineLemmas.{fits, one_line}
 use Rattle.web_lines.proofs.ScheduleLemmas.{schedule_piece, schedule_stall}
 
@@ -42,10 +43,10 @@ schedule_error limit came on some bad =
 
 -- ---- what was cut off
 
-pub cut_gives : (limit : ℕ) (came text held piece : List ℕ) → GivesLine limit came text held piece → (marks : Option (List Mark))
+pub cut_gives : (limit : ℕ) (came text held piece : List ℕ) → TakesFirst limit came text held piece → (marks : Option (List Mark))
     → option_map (schedule limit came) marks ≡ option_map (line_due text) (option_map (schedule limit (held ++ piece)) marks)
 cut_gives limit came text held piece gives None = refl
-cut_gives limit came text held piece gives (Some m) = rw gives.held_is (ap Some (gives.said m))
+cut_gives limit came text held piece gives (Some m) = rw gives.held_is (ap Some (first_due limit came text piece gives.first gives.good m))
 
 pub cut_fails : (limit : ℕ) (came : List ℕ) (error : ReadlinesError) → GivesError limit came error → (marks : Option (List Mark))
     → IfSome (option_map (schedule limit came) marks) (λ s. s ≡ error_due error)
