@@ -280,7 +280,8 @@ def posts(count, size):
 
 def chunked_posts(count, size, chunk):
     """A connection with bodies in chunks."""
-    body = "".join(f"{chunk:x}\r\n{LETTERS[:25] * (chunk // 25)}\r\n" for _ in range(size // chunk)) + "0\r\n\r\n"
+    piece = LETTERS[:25] * (chunk // 25) or LETTERS[:chunk]
+    body = f"{chunk:x}\r\n{piece}\r\n" * (size // chunk) + "0\r\n\r\n"
     return message("POST /bytes", body, ["host: example.com", "transfer-encoding: chunked"]) * count
 
 
@@ -370,6 +371,7 @@ CASES = [
     connection("10,000 bodies of 1 kB", lambda: posts(10000, 1000)),
     connection("100 bodies of 64 kB in chunks of 8 kB", lambda: chunked_posts(100, 64000, 8000)),
     connection("100 bodies of 64 kB in chunks of 50 bytes", lambda: chunked_posts(100, 64000, 50)),
+    connection("10 bodies of 64 kB in single bytes", lambda: chunked_posts(10, 64000, 1)),
     Case("plan of 2,000,000 entries", lambda: long_plan(2000000)),
     load("generate", "1", "50000"),
     load("replay", "1", "50000"),

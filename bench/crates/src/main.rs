@@ -4,10 +4,12 @@ mod arguments;
 mod body;
 mod cookies;
 mod extract;
+mod http1;
 mod item;
 mod layer;
 mod lines;
 mod load;
+mod messages;
 mod refusal;
 mod request;
 mod response;
@@ -22,8 +24,8 @@ use std::io::{Read, Write};
 use std::process::ExitCode;
 use worker::Pool;
 
-/// The most bytes that a script may have.
-const SCRIPT_LIMIT: u64 = 16_777_216;
+/// The most bytes that a script or a connection may have.
+const INPUT_LIMIT: u64 = 16_777_216;
 
 /// The most records that a pool may keep.
 const MOST_KEPT: u64 = 1_024;
@@ -44,8 +46,7 @@ fn main() -> ExitCode {
         ["serve", pool] => capacity(pool).map(serve),
         ["generate", seed, count] => Load::read(seed, count).map(|load| say(&load.script(), 0)),
         ["replay", seed, count] => Load::read(seed, count).map(|load| replay(&load)),
-        // Connections are not known here.
-        ["http1", pool] => capacity(pool).map(|_| ExitCode::from(LACKING)),
+        ["http1", pool] => capacity(pool).map(connect),
         _ => None,
     };
     known.unwrap_or_else(|| say(USAGE, 64))
@@ -57,24 +58,37 @@ fn capacity(word: &str) -> Option<usize> {
     usize::try_from(number).ok()
 }
 
-/// Reads a script, serves it and writes the replies.
-fn serve(capacity: usize) -> ExitCode {
+/// Reads the input, and gives what follows, or says why it is not read.
+fn with_input(then: impl FnOnce(Bytes) -> ExitCode) -> ExitCode {
     let mut input = Vec::new();
-    let limited = &mut std::io::stdin().lock().take(SCRIPT_LIMIT + 1);
+    let limited = &mut std::io::stdin().lock().take(INPUT_LIMIT + 1);
     if limited.read_to_end(&mut input).is_err() {
         return ExitCode::from(3);
     }
-    if input.len() as u64 > SCRIPT_LIMIT {
+    if input.len() as u64 > INPUT_LIMIT {
         return say(b"line 0: too long\n", 2);
     }
-    match script::read(&input.into()) {
+    then(input.into())
+}
+
+/// Reads a script, serves it and writes the replies.
+fn serve(capacity: usize) -> ExitCode {
+    with_input(|input| match script::read(&input) {
         Ok(script) => {
             let mut pool = Pool::new(capacity);
             let replies = worker::serve(script, &mut pool);
             say(&worker::printed(&replies, &pool), 0)
         }
         Err(unread) => refuse(&unread),
-    }
+    })
+}
+
+/// Reads the messages of a connection, and writes their answers.
+fn connect(capacity: usize) -> ExitCode {
+    with_input(|input| match http1::answers(input, &mut Pool::new(capacity)) {
+        Some(text) => say(&text, 0),
+        None => ExitCode::from(LACKING),
+    })
 }
 
 /// Serves the script of a load, and writes the summary.

@@ -8,8 +8,7 @@ use std::net::{Ipv4Addr, SocketAddrV4};
 
 /// A request without its body.
 pub struct Request {
-    #[expect(dead_code, reason = "no handler asks for it")]
-    method: Method,
+    pub method: Method,
     pub target: Uri,
     pub segment: Segment,
     pub headers: HeaderMap,
@@ -57,6 +56,11 @@ impl Request {
     /// Reads a method, one space and a target.
     pub fn read(argument: &[u8]) -> Result<Request, NoRequest> {
         let (method, target) = read_line(argument).ok_or(NoRequest::Malformed)?;
+        Request::of(method, target)
+    }
+
+    /// A request with this method and this target, and nothing else.
+    pub fn of(method: Method, target: Uri) -> Result<Request, NoRequest> {
         let segment = Segment::of(target.path()).ok_or(NoRequest::Lacking)?;
         Ok(Request {
             method,

@@ -1,6 +1,6 @@
 //! Responses.
 use crate::refusal::Refusal;
-use crate::text::put_line;
+use crate::text::{put_line, put_number};
 use bytes::Bytes;
 use http::StatusCode;
 use http::header::{CONTENT_TYPE, HeaderMap, HeaderValue};
@@ -45,13 +45,7 @@ impl Response {
     /// Adds the status, the headers by their names, and the body.
     pub fn put(&self, out: &mut Vec<u8>) {
         put_line(out, b"status ", u64::from(self.status.as_u16()));
-        let mut headers: Vec<_> = self.headers.iter().collect();
-        headers.sort_by_key(|(name, _)| name.as_str());
-        for (name, value) in headers {
-            for part in [name.as_str().as_bytes(), b": ", value.as_bytes(), b"\n"] {
-                out.extend_from_slice(part);
-            }
-        }
+        self.put_headers(out, b"\n");
         if self.body.is_empty() {
             out.extend_from_slice(b"body");
         } else if is_printable(&self.body) {
@@ -62,6 +56,40 @@ impl Response {
             put_hex(out, &self.body);
         }
         out.push(b'\n');
+    }
+
+    /// Adds the bytes of the reply in HTTP/1.1, to HEAD or to another method. No response has a
+    /// field that says the length or the end of the connection.
+    pub fn put_message(&self, out: &mut Vec<u8>, is_head: bool, closes: bool) {
+        let phrase = self.status.canonical_reason().unwrap_or("");
+        for part in ["HTTP/1.1 ", self.status.as_str(), " ", phrase, "\r\n"] {
+            out.extend_from_slice(part.as_bytes());
+        }
+        self.put_headers(out, b"\r\n");
+        let has_body = !is_head && !matches!(self.status.as_u16(), ..200 | 204 | 304);
+        if has_body {
+            out.extend_from_slice(b"content-length: ");
+            put_number(out, self.body.len() as u64);
+            out.extend_from_slice(b"\r\n");
+        }
+        if closes {
+            out.extend_from_slice(b"connection: close\r\n");
+        }
+        out.extend_from_slice(b"\r\n");
+        if has_body {
+            out.extend_from_slice(&self.body);
+        }
+    }
+
+    /// Adds the headers by their names, each with this end of a line.
+    fn put_headers(&self, out: &mut Vec<u8>, end: &[u8]) {
+        let mut headers: Vec<_> = self.headers.iter().collect();
+        headers.sort_by_key(|(name, _)| name.as_str());
+        for (name, value) in headers {
+            for part in [name.as_str().as_bytes(), b": ", value.as_bytes(), end] {
+                out.extend_from_slice(part);
+            }
+        }
     }
 }
 

@@ -117,6 +117,17 @@ impl Flight {
     }
 }
 
+/// Polls one exchange until it is answered.
+pub fn answer(exchange: Exchange, pool: &mut Pool) -> Response {
+    let mut flight = Flight::Waiting(Some(exchange));
+    loop {
+        flight.poll(pool);
+        if let Flight::Answered(response) = flight {
+            return response;
+        }
+    }
+}
+
 /// Polls each exchange as often as the plan names it. The responses stand in the order of the
 /// exchanges.
 pub fn serve(script: Script, pool: &mut Pool) -> Vec<Option<Response>> {
