@@ -9,12 +9,11 @@ on_ok (Err e) P Q f h = h
 join : (x y z a b : List ℕ) → y ≡ x ++ a → z ≡ y ++ b → z ≡ x ++ (a ++ b)
 join x y z a b h k = k ∙ ap (λ (t : List ℕ). t ++ b) h ∙ append_assoc x a b
 
--- six parts behind what was written
-pub six_parts : (o0 o1 o2 o3 o4 o5 o6 a b c d e f : List ℕ) → o1 ≡ o0 ++ a → o2 ≡ o1 ++ b → o3 ≡ o2 ++ c → o4 ≡ o3 ++ d → o5 ≡ o4 ++ e
-    → o6 ≡ o5 ++ f → o6 ≡ o0 ++ (((((a ++ b) ++ c) ++ d) ++ e) ++ f)
-six_parts o0 o1 o2 o3 o4 o5 o6 a b c d e f h1 h2 h3 h4 h5 h6 =
+-- five parts behind what was written
+pub five_parts : (o0 o1 o2 o3 o4 o5 a b c d e : List ℕ) → o1 ≡ o0 ++ a → o2 ≡ o1 ++ b → o3 ≡ o2 ++ c → o4 ≡ o3 ++ d → o5 ≡ o4 ++ e
+    → o5 ≡ o0 ++ ((((a ++ b) ++ c) ++ d) ++ e)
+five_parts o0 o1 o2 o3 o4 o5 a b c d e h1 h2 h3 h4 h5 =
     let k2 = join o0 o1 o2 a b h1 h2 in
     let k3 = join o0 o2 o3 (a ++ b) c k2 h3 in
     let k4 = join o0 o3 o4 ((a ++ b) ++ c) d k3 h4 in
-    let k5 = join o0 o4 o5 (((a ++ b) ++ c) ++ d) e k4 h5 in
-    join o0 o5 o6 ((((a ++ b) ++ c) ++ d) ++ e) f k5 h6
+    join o0 o4 o5 (((a ++ b) ++ c) ++ d) e k4 h5

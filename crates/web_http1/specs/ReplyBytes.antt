@@ -71,12 +71,16 @@ pub record Sent : Type 0 where
   pub content : List ℕ
   pub closes : Bool
 
+-- those before the body, which is absent or not
+abbrev pub head_bytes : Bool → Sent → List ℕ
+head_bytes absent s =
+    status_line s.head ++ field_lines s.head.headers ++ length_line absent (length s.content)
+    ++ close_line s.closes ++ crlf
+
 -- the bytes of a reply, to HEAD or to another method
 abbrev pub sent_bytes : Bool → Sent → List ℕ
 sent_bytes is_head s =
-    status_line s.head ++ field_lines s.head.headers
-    ++ length_line (has_no_body is_head s.head.status) (length s.content)
-    ++ close_line s.closes ++ crlf
+    head_bytes (has_no_body is_head s.head.status) s
     ++ (if has_no_body is_head s.head.status then [] else s.content)
 
 -- the bytes of a stream, where its marks are stated and none is a fault

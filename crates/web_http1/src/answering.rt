@@ -1,5 +1,5 @@
 //! The replies to the messages of bytes that came.
-ghost use Rattle.std.specs.Prelude.{◌≡◌, ◌+◌, ◌++◌, ◌-◌, ◌<◌, ◌≤◌, ◌^◌, OnErr, OnOk, drop, length};
+ghost use Rattle.std.specs.Prelude.{◌≡◌, ◌+◌, ◌-◌, ◌<◌, ◌≤◌, ◌^◌, drop, length};
 ghost use Rattle.std.specs.Prelude.{List, ℕ};
 ghost use Rattle.web_worker.specs.HandlerPromises.{SamePromises};
 ghost use Rattle.web_worker.specs.PlanPools.{with_records};
@@ -9,13 +9,12 @@ ghost use Rattle.web_http1.specs.Connections.{AllOpen, FinishesWith};
 ghost use Rattle.web_http1.specs.ConnectionSteps.{IsAnsweredRest, RefusedWith};
 ghost use Rattle.web_http1.specs.ConnectionSteps.{IsKnown, IsReplied, IsServed, IsTurned};
 ghost use Rattle.web_http1.specs.ConnectionSteps.{open_left, turned_left};
-ghost use Rattle.web_http1.specs.ReplyBytes.{sent_bytes};
 
 use crate::closing::{asks_end, is_head};
 use crate::ended::Ended;
 use crate::exchange::exchange_of;
 use crate::polled::reply_to;
-use crate::reply::{Sent, put_reply, refusal, sent_reply};
+use crate::reply::{refusal, sent_reply, write_reply};
 use std::alloc::Global;
 use web_extract::FromRequest;
 use web_messages::{Limits, Message, Next, Progress, Step, Wrong, read_last, read_on};
@@ -50,22 +49,6 @@ pub(crate) struct AnsweredRest {
     /// The bytes before this place were answered.
     pub(crate) place: usize,
     pub(crate) left: Left,
-}
-
-/// Writes a reply: all of it, or nothing where an allocation failed.
-fn write_reply(
-    alloc: Global,
-    room: &mut Vec<u8>,
-    is_head: bool,
-    reply: &Sent,
-    out: &mut Vec<u8>,
-) -> Result<(), NoMemory>
-    ensures ok { OnOk result (out.new.items ≡ out.old.items ++ sent_bytes is_head reply.now) }
-    ensures err { OnErr result (out.new.items ≡ out.old.items) }
-{
-    room.clear();
-    put_reply(alloc, room, is_head, reply)?;
-    Ok(out.extend_from_slice(room.as_slice())?)
 }
 
 /// Writes the reply to a message, and returns whether it closes the connection.

@@ -1,5 +1,5 @@
 //! The bytes of a reply.
-ghost use Rattle.std.specs.Prelude.{◌≡◌, ◌++◌, [], IfOk, None, OnOk, flat_map};
+ghost use Rattle.std.specs.Prelude.{◌≡◌, ◌++◌, [], IfOk, None, OnErr, OnOk, flat_map};
 ghost use Rattle.std.specs.Prelude.{if◌then◌else◌, map, true};
 ghost use Rattle.std.specs.List.{list_all};
 ghost use Rattle.http_header.specs.Token.{is_visible_or_blank};
@@ -8,12 +8,12 @@ ghost use Rattle.web_reply.specs.ResponseHeads.{new_head};
 ghost use Rattle.web_reply.specs.Replies.{plain_reply};
 ghost use Rattle.web_http1.specs.Answers.{StatesMarks, refusal, refusal_status};
 ghost use Rattle.web_http1.specs.ReplyBytes.{close_line, field_line, field_lines, has_no_body};
-ghost use Rattle.web_http1.specs.ReplyBytes.{head_closes, is_framing, length_line, name_lines};
-ghost use Rattle.web_http1.specs.ReplyBytes.{other_lines, phrase, sent_bytes, sent_reply};
-ghost use Rattle.web_http1.specs.ReplyBytes.{status_line};
+ghost use Rattle.web_http1.specs.ReplyBytes.{head_bytes, head_closes, is_framing, length_line};
+ghost use Rattle.web_http1.specs.ReplyBytes.{name_lines, other_lines, phrase, sent_bytes};
+ghost use Rattle.web_http1.specs.ReplyBytes.{sent_reply, status_line};
 
 use crate::content::content_of;
-use crate::text::{put, put_number};
+use crate::text::{put, put_both, put_number};
 use bytes::Bytes;
 use http::StatusCode;
 use http_header::{
@@ -165,6 +165,12 @@ fn put_fields(
 ) -> Result<(), NoMemory>
     ensures { OnOk result (out.new.items ≡ out.old.items ++ field_lines headers.now) }
 {
+    // One name needs no order, and no list.
+    if headers.keys_len() == 1
+        && let Some(name) = headers.keys().next()
+    {
+        return put_other_values(out, headers, name);
+    }
     let names = sorted_names(alloc, headers)?;
     put_names(out, headers, names)
 }
@@ -196,33 +202,42 @@ fn put_close(out: &mut Vec<u8>, closes: bool) -> Result<(), NoMemory>
     Ok(())
 }
 
-fn put_content(out: &mut Vec<u8>, absent: bool, content: &Bytes) -> Result<(), NoMemory>
-    ensures { OnOk result (out.new.items
-        ≡ out.old.items ++ (if absent then [] else content.now)) }
-{
-    if absent {
-        return Ok(());
-    }
-    put(out, content.as_slice())
-}
-
-/// The bytes of a reply, to HEAD or to another method.
-pub(crate) fn put_reply(
-    alloc: Global,
-    out: &mut Vec<u8>,
-    is_head: bool,
-    reply: &Sent,
-) -> Result<(), NoMemory>
-    ensures { OnOk result (out.new.items ≡ out.old.items ++ sent_bytes is_head reply.now) }
+/// The bytes of a reply before its body.
+fn put_head(alloc: Global, out: &mut Vec<u8>, absent: bool, reply: &Sent) -> Result<(), NoMemory>
+    ensures { OnOk result (out.new.items ≡ out.old.items ++ head_bytes absent reply.now) }
 {
     let head = reply.response.head();
-    let absent = has_no_body(is_head, head.status);
     put_status_line(out, head)?;
     put_fields(alloc, out, &head.headers)?;
     put_length(out, absent, reply.content.len())?;
     put_close(out, reply.closes)?;
-    put(out, b"\r\n")?;
-    put_content(out, absent, &reply.content)
+    put(out, b"\r\n")
+}
+
+fn body_bytes(absent: bool, content: &Bytes) -> &[u8]
+    ensures { result.now ≡ (if absent then [] else content.now) }
+{
+    if absent {
+        return &[];
+    }
+    content.as_slice()
+}
+
+/// Writes a reply, to HEAD or to another method: all of it, or nothing where an allocation failed.
+pub(crate) fn write_reply(
+    alloc: Global,
+    room: &mut Vec<u8>,
+    is_head: bool,
+    reply: &Sent,
+    out: &mut Vec<u8>,
+) -> Result<(), NoMemory>
+    ensures ok { OnOk result (out.new.items ≡ out.old.items ++ sent_bytes is_head reply.now) }
+    ensures err { OnErr result (out.new.items ≡ out.old.items) }
+{
+    let absent = has_no_body(is_head, reply.response.head().status);
+    room.clear();
+    put_head(alloc, room, absent, reply)?;
+    put_both(out, room.as_slice(), body_bytes(absent, &reply.content))
 }
 
 fn head_closes(connection: Option<ConnectionType>) -> bool
