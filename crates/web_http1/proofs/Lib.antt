@@ -6,3 +6,5 @@ pub mod SettingLemmas
 pub mod PollLemmas
 pub mod ConnectionLemmas
 pub mod ServingLemmas
+pub mod NextExistsLemmas
+pub mod AnswersExistLemmas

@@ -7,6 +7,7 @@ mod connection;
 mod content;
 mod ended;
 mod exchange;
+mod laws;
 mod polled;
 mod reply;
 mod serving;
@@ -14,4 +15,5 @@ mod text;
 
 pub use connection::Connection;
 pub use ended::Ended;
+pub use laws::answers_law;
 pub use serving::serve_connection;
