@@ -17,11 +17,20 @@ use crate::polled::reply_to;
 use crate::reply::{refusal, sent_reply, write_reply};
 use std::alloc::Global;
 use web_extract::FromRequest;
-use web_messages::{Limits, Message, Next, Progress, Step, Wrong, read_last, read_on};
+use web_messages::{HeadRoom, Limits, Message, Next, Progress, Step, Wrong, read_last, read_on};
 use web_reply::Responder;
 use web_request::App;
 use web_texts::NoMemory;
 use web_worker::{Handler, Serves, Worker};
+
+/// What is kept from one message to the next.
+#[derive(Drop)]
+pub(crate) struct Rooms {
+    /// The keys of header maps, and room to parse a head.
+    pub(crate) head: HeadRoom,
+    /// Room for the bytes of one reply before its body.
+    pub(crate) reply: Vec<u8>,
+}
 
 /// What one step over the bytes that are left came to.
 #[derive(Drop)]
@@ -56,7 +65,7 @@ fn answer_message<A: App, Args: FromRequest<A>, H: Handler<Args>>(
     alloc: Global,
     worker: &mut Worker<A>,
     handler: &mut H,
-    room: &mut Vec<u8>,
+    rooms: &mut Rooms,
     message: Message,
     out: &mut Vec<u8>,
 ) -> Result<bool, NoMemory>
@@ -75,16 +84,16 @@ where
     let is_head = is_head(&message);
     let response = reply_to(alloc, worker, handler, exchange_of(alloc, message))?;
     let reply = sent_reply(alloc, asked, response)?;
-    write_reply(alloc, room, is_head, &reply, out)?;
+    write_reply(alloc, &mut rooms.reply, is_head, &reply, out)?;
     Ok(reply.closes())
 }
 
 /// Writes the reply of a refusal. Returns how the connection ended.
-fn refuse(alloc: Global, room: &mut Vec<u8>, wrong: Wrong, out: &mut Vec<u8>) -> Ended
+fn refuse(alloc: Global, rooms: &mut Rooms, wrong: Wrong, out: &mut Vec<u8>) -> Ended
     ensures { RefusedWith wrong result out.old.items out.new.items }
 {
     let reply = refusal(alloc, wrong);
-    match write_reply(alloc, room, false, &reply, out) {
+    match write_reply(alloc, &mut rooms.reply, false, &reply, out) {
         Ok(()) => Ended::Refused(wrong),
         Err(NoMemory) => Ended::NoMemory,
     }
@@ -95,7 +104,7 @@ fn serve_message<A: App, Args: FromRequest<A>, H: Handler<Args>>(
     alloc: Global,
     worker: &mut Worker<A>,
     handler: &mut H,
-    room: &mut Vec<u8>,
+    rooms: &mut Rooms,
     message: Message,
     out: &mut Vec<u8>,
 ) -> Turned
@@ -111,7 +120,7 @@ where
         message out.old.items out.new.items result }
 {
     let used = message.used;
-    match answer_message(alloc, worker, handler, room, message, out) {
+    match answer_message(alloc, worker, handler, rooms, message, out) {
         Ok(true) => Turned::Ended(Ended::Closed),
         Ok(false) => Turned::Goes(used),
         Err(NoMemory) => Turned::Ended(Ended::NoMemory),
@@ -124,7 +133,7 @@ fn serve_known<A: App, Args: FromRequest<A>, H: Handler<Args>>(
     worker: &mut Worker<A>,
     handler: &mut H,
     next: Next,
-    room: &mut Vec<u8>,
+    rooms: &mut Rooms,
     out: &mut Vec<u8>,
 ) -> Turned
 where
@@ -142,8 +151,8 @@ where
         limits rest out.old.items out.new.items result }
 {
     match next {
-        Next::Message(message) => serve_message(alloc, worker, handler, room, message, out),
-        Next::Refused(wrong) => Turned::Ended(refuse(alloc, room, wrong, out)),
+        Next::Message(message) => serve_message(alloc, worker, handler, rooms, message, out),
+        Next::Refused(wrong) => Turned::Ended(refuse(alloc, rooms, wrong, out)),
         Next::Closed => Turned::Ended(Ended::Closed),
     }
 }
@@ -156,7 +165,7 @@ fn serve_next<A: App, Args: FromRequest<A>, H: Handler<Args>>(
     limits: &Limits,
     rest: &[u8],
     progress: Progress,
-    room: &mut Vec<u8>,
+    rooms: &mut Rooms,
     out: &mut Vec<u8>,
 ) -> Turned
 where
@@ -172,9 +181,9 @@ where
     ensures turned { IsTurned (⟦<H as Serves<A, Args>>⟧.setting handler.old worker.old)
         limits.now rest.now out.old.items out.new.items result }
 {
-    match read_on(alloc, limits, rest, progress) {
+    match read_on(alloc, limits, rest, progress, &mut rooms.head) {
         Ok(step) => match step {
-            Step::Next(next) => serve_known(alloc, worker, handler, next, room, out),
+            Step::Next(next) => serve_known(alloc, worker, handler, next, rooms, out),
             Step::Unfinished(progress) => Turned::Waits(progress),
         },
         Err(_) => Turned::Ended(Ended::NoMemory),
@@ -190,7 +199,7 @@ pub(crate) fn answer_rest<A: App, Args: FromRequest<A>, H: Handler<Args>>(
     buffer: &[u8],
     start: usize,
     progress: Progress,
-    room: &mut Vec<u8>,
+    rooms: &mut Rooms,
     out: &mut Vec<u8>,
 ) -> AnsweredRest
 where
@@ -219,7 +228,7 @@ where
             limits,
             &buffer[place..],
             progress,
-            room,
+            rooms,
             out,
         ) {
             Turned::Goes(used) => {
@@ -248,17 +257,17 @@ pub(crate) fn finish_rest(
     limits: &Limits,
     rest: &[u8],
     progress: Progress,
-    room: &mut Vec<u8>,
+    rooms: &mut Rooms,
     out: &mut Vec<u8>,
 ) -> Ended
     requires progress { IsProgress limits.now rest.now progress }
     requires waits { AllOpen limits.now rest.now }
     ensures { FinishesWith limits.now rest.now result out.old.items out.new.items }
 {
-    match read_last(alloc, limits, rest, progress) {
+    match read_last(alloc, limits, rest, progress, &mut rooms.head) {
         Ok(next) => match next {
             Next::Closed => Ended::Closed,
-            Next::Refused(wrong) => refuse(alloc, room, wrong, out),
+            Next::Refused(wrong) => refuse(alloc, rooms, wrong, out),
             Next::Message(_) => unreachable!(),
         },
         Err(_) => Ended::NoMemory,

@@ -5,13 +5,13 @@ ghost use Rattle.web_worker.specs.PlanPools.{with_records};
 ghost use Rattle.web_http1.specs.Connections.{Finishes, IsOwnEnd, StepsFrom, WaitsForMore};
 ghost use Rattle.web_http1.specs.Connections.{bytes_open};
 
-use crate::answering::{Left, answer_rest, finish_rest};
+use crate::answering::{Left, Rooms, answer_rest, finish_rest};
 use crate::ended::Ended;
 use std::alloc::Global;
 use std::marker::Model;
 use std::mem;
 use web_extract::FromRequest;
-use web_messages::{Limits, Progress};
+use web_messages::{HeadRoom, Limits, Progress};
 use web_reply::Responder;
 use web_request::App;
 use web_texts::NoMemory;
@@ -37,8 +37,7 @@ pub struct Connection {
     /// How far those behind it were read.
     progress: Progress,
     ended: Option<Ended>,
-    /// Room for the bytes of one reply.
-    reply: Vec<u8>,
+    rooms: Rooms,
 }
 
 impl Model for Connection {
@@ -62,8 +61,16 @@ impl Connection {
     ghost use Rattle.std.specs.Prelude.{◌≡◌, ◌+◌, ◌++◌, ◌<◌, ◌≤◌, ◌^◌, [], None, OnErr, OnOk};
     ghost use Rattle.std.specs.Prelude.{Some, length};
 
-    /// A connection of which no byte came.
+    /// A connection of which no byte came. Its header maps have keys of zero, for senders that do
+    /// not choose names that collide.
     pub fn new(alloc: Global, limits: Limits) -> Connection
+        ensures { result ≡ record { limits = limits; left = []; ended = None } }
+    {
+        Connection::with_room(alloc, limits, HeadRoom::new(alloc))
+    }
+
+    /// The same, with header maps of the keys that the room has.
+    pub fn with_room(alloc: Global, limits: Limits, room: HeadRoom) -> Connection
         ensures { result ≡ record { limits = limits; left = []; ended = None } }
     {
         Connection {
@@ -72,7 +79,10 @@ impl Connection {
             start: 0,
             progress: Progress::start(),
             ended: None,
-            reply: Vec::new(alloc),
+            rooms: Rooms {
+                head: room,
+                reply: Vec::new(alloc),
+            },
         }
     }
 
@@ -154,7 +164,7 @@ impl Connection {
             self.buffer.as_slice(),
             self.start,
             progress,
-            &mut self.reply,
+            &mut self.rooms,
             out,
         );
         self.start = answered.place;
@@ -176,7 +186,7 @@ impl Connection {
         }
         let progress = mem::replace(&mut self.progress, Progress::start());
         let rest = &self.buffer[self.start..];
-        let ended = finish_rest(alloc, &self.limits, rest, progress, &mut self.reply, out);
+        let ended = finish_rest(alloc, &self.limits, rest, progress, &mut self.rooms, out);
         self.ended = Some(ended);
         ended
     }

@@ -16,4 +16,4 @@ mod text;
 pub use connection::Connection;
 pub use ended::Ended;
 pub use laws::answers_law;
-pub use serving::serve_connection;
+pub use serving::{serve_connection, serve_connection_with};

@@ -14,7 +14,7 @@ use crate::ended::Ended;
 use bytes::Bytes;
 use std::alloc::Global;
 use web_extract::FromRequest;
-use web_messages::Limits;
+use web_messages::{HeadRoom, Limits};
 use web_reply::Responder;
 use web_request::{App, Source, Turn};
 use web_worker::{Handler, Serves, Worker};
@@ -53,6 +53,9 @@ where
 /// Each message becomes an exchange without parameters, layers of its own, connection data, request
 /// data and peer, and is polled until it is answered; a stall of the source is passed over. The
 /// source is read until it ends or fails, or until a reply closes the connection.
+///
+/// Its header maps have keys of zero, for senders that do not choose names that collide;
+/// `serve_connection_with` takes keys.
 pub fn serve_connection<A: App, Args: FromRequest<A>, H: Handler<Args>, S: Source>(
     alloc: Global,
     worker: &mut Worker<A>,
@@ -80,7 +83,40 @@ where
         ≤ worker.old.made + ((S.feed source.new).given - (S.feed source.old).given) }
     ensures kept { worker.new ≡ with_records worker.new.serials worker.new.made worker.old }
 {
-    let mut connection = Connection::new(alloc, limits);
+    let room = HeadRoom::new(alloc);
+    serve_connection_with(alloc, worker, handler, limits, room, source, out)
+}
+
+/// As `serve_connection`, with header maps of the keys that the room has.
+pub fn serve_connection_with<A: App, Args: FromRequest<A>, H: Handler<Args>, S: Source>(
+    alloc: Global,
+    worker: &mut Worker<A>,
+    handler: &mut H,
+    limits: Limits,
+    room: HeadRoom,
+    source: &mut S,
+    out: &mut Vec<u8>,
+) -> Ended
+where
+    H::Output: Responder<A>,
+    requires ready { H.ready handler.old }
+    requires room { worker.old.made ≤ 2 ^ 63 }
+    ensures ready { H.ready handler.new }
+    ensures same_promises { SamePromises (H.answers handler.old) (H.answers handler.new) }
+    ensures whole { (marks : List MarkOf) → (S.feed source.old).marks ≡ Some marks
+        → ends_in_fault marks ≡ false
+        → AnswersAll (⟦<H as Serves<A, Args>>⟧.setting handler.old worker.old) limits
+        (piece_bytes marks) result out.old.items out.new.items }
+    ensures fault { (marks : List MarkOf) → (S.feed source.old).marks ≡ Some marks
+        → ends_in_fault marks ≡ true
+        → AnswersUpToFault (⟦<H as Serves<A, Args>>⟧.setting handler.old worker.old) limits
+        (piece_bytes marks) result out.old.items out.new.items }
+    ensures faults { StopsAtFault result (S.feed source.old).faults (S.feed source.new).faults }
+    ensures made { worker.new.made
+        ≤ worker.old.made + ((S.feed source.new).given - (S.feed source.old).given) }
+    ensures kept { worker.new ≡ with_records worker.new.serials worker.new.made worker.old }
+{
+    let mut connection = Connection::with_room(alloc, limits, room);
     'turns: loop {
         match source.next() {
             Turn::Piece(piece) => {

@@ -9,24 +9,24 @@ use Rattle.web_http1.specs.ConnectionSteps.{with_piece}
 use Rattle.web_http1.proofs.ConnectionLemmas.{steps_as}
 use Rattle.web_http1.proofs.ServingLemmas.{ended_all, ended_up_to, failed_up_to, finished, finishes_open, is_faultless, is_faulty, lacks_memory, last_fault, none_after, pieced, stalled, starts, stops_finished, stops_own, waits_empty}
 use Rattle.web_http1.proofs.SettingLemmas.{same_all, same_then}
-use Rattle.web_http1.proofs.serving.serve_connection.Goals as goal
+use Rattle.web_http1.proofs.serving.serve_connection_with.Goals as goal
 
 pub turns-init : goal.turns-init
 turns-init g c =
     let s = setting_of g.Args.FromRequest.means g.Args.Error.Into.converts (g.H.Handler.answers c.args.handler.now) g.H.Output.Responder.responds g.A.Source.Source.feed g.Args.Future.Poll.gives g.H.Future.Poll.gives c.args.worker.now in
-    let is_new = c.new-connection.ensures in
+    let is_new = c.with_room-connection.ensures in
     record {
       ready = c.requires.ready;
       same_promises = same_all (g.H.Handler.answers c.args.handler.now);
       unended = ap (λ (k : ConnectionView). k.ended) is_new;
       limits_are = ap (λ (k : ConnectionView). k.limits) is_new;
-      waits = waits_empty c.args.limits c.new-connection.result is_new;
+      waits = waits_empty c.args.limits c.with_room-connection.result is_new;
       given = omega arith;
       made = let none = ap (λ (k : ConnectionView). length k.left) is_new in omega (arith, none);
       kept = refl;
       faults = refl;
       so_far = λ marks is.
-          starts s c.args.limits marks (g.S.Source.feed c.args.source.now) c.new-connection.result c.args.out.now.items is
+          starts s c.args.limits marks (g.S.Source.feed c.args.source.now) c.with_room-connection.result c.args.out.now.items is
           (ap (λ (k : ConnectionView). k.limits) is_new) (ap (λ (k : ConnectionView). k.left) is_new) (ap (λ (k : ConnectionView). k.ended) is_new);
     }
 

@@ -5,7 +5,7 @@ use Rattle.web_worker.specs.PlanPools.{with_records}
 use Rattle.web_worker.specs.Setting.{setting_of}
 use Rattle.web_http1.specs.Connections.{WaitsForMore}
 use Rattle.web_http1.proofs.ServingLemmas.{SoFar}
-use Rattle.web_http1.proofs.serving.serve_connection.Given as goal
+use Rattle.web_http1.proofs.serving.serve_connection_with.Given as goal
 
 abbrev pub invariant-turns : goal.invariant-turns
 invariant-turns g l = record {
