@@ -2,10 +2,11 @@
 SCRIPT ?= examples/pieces.script
 PLAIN = bench/target/release/plain
 
-.PHONY: help run test rows faults gate prove check try lint fmt wrong-bodies costs graphs bench plain
+.PHONY: help run site test rows faults gate prove check try lint fmt wrong-bodies costs graphs bench plain
 
 help:
 	@echo "make run SCRIPT=FILE      serves a script and prints the replies (default: $(SCRIPT))"
+	@echo "make site                 builds the site of docs/SITE.md without proof, and prints the line that serves it"
 	@echo "make test                 runs all tests, examples and rows, in minutes; it proves nothing"
 	@echo "make rows                 runs the program over the rows of examples/"
 	@echo "make faults               runs the program over rows with calls that fail, in turn; outside the gate"
@@ -24,6 +25,11 @@ help:
 # The proved program where there is one of these sources, else one that is built without proof.
 run:
 	@tools/run serve --pool=0 < $(SCRIPT)
+
+# The site of docs/SITE.md, and the command that puts it behind a socket.
+site:
+	@program=$$(tools/program example_site) \
+		&& echo "socat -t 5 TCP-LISTEN:8080,bind=127.0.0.1,reuseaddr,fork EXEC:$$program"
 
 test:
 	@tools/quick-tests

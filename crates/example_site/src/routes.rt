@@ -1,0 +1,71 @@
+//! What the site has under which path.
+use http::Method;
+use matchit::{InsertError, Router};
+use std::alloc::Global;
+use web_texts::{NoMemory, Text};
+
+/// What stands under a path.
+#[derive(Clone, Copy, Debug, PartialEq, Eq)]
+pub enum Route {
+    Home,
+    Bookings,
+    Upload,
+    Items,
+    /// One item, whose parameter is `id`.
+    Item,
+    Files,
+    Greeting,
+    Visits,
+    Moved,
+}
+
+impl Route {
+    /// The methods that it takes, as the header Allow lists them.
+    pub fn allowed(self) -> &'static str {
+        match self {
+            Route::Bookings | Route::Upload | Route::Items => "POST",
+            _ => "GET, HEAD",
+        }
+    }
+
+    /// Whether it takes this method.
+    pub fn takes(self, method: &Method) -> bool {
+        match self {
+            Route::Bookings | Route::Upload | Route::Items => *method == Method::POST,
+            _ => *method == Method::GET || *method == Method::HEAD,
+        }
+    }
+}
+
+/// A route that was found, with its parameter `id`, which is empty where it has none.
+#[derive(Drop)]
+pub struct Found {
+    pub route: Route,
+    pub id: Text,
+}
+
+/// All routes.
+pub fn routes(alloc: Global) -> Result<Router<Route>, InsertError> {
+    let mut router = Router::new(alloc);
+    router.insert("/", Route::Home)?;
+    router.insert("/bookings", Route::Bookings)?;
+    router.insert("/upload", Route::Upload)?;
+    router.insert("/items", Route::Items)?;
+    router.insert("/items/{id}", Route::Item)?;
+    router.insert("/files/{name}", Route::Files)?;
+    router.insert("/greeting", Route::Greeting)?;
+    router.insert("/visits", Route::Visits)?;
+    router.insert("/old", Route::Moved)?;
+    Ok(router)
+}
+
+/// The route of a path, or `None`.
+pub fn find(alloc: Global, router: &Router<Route>, path: &str) -> Result<Option<Found>, NoMemory> {
+    let Ok(found) = router.at(path) else {
+        return Ok(None);
+    };
+    Ok(Some(Found {
+        route: *found.value,
+        id: Text::of(alloc, found.params.get("id").unwrap_or(""))?,
+    }))
+}

@@ -1,0 +1,102 @@
+//! The handler of the site, which hands each request to that of its route.
+use crate::bookings::{Booking, take_booking};
+use crate::files::{answer_file, new_store};
+use crate::greeting::{answer_greeting, new_greetings};
+use crate::home::home;
+use crate::item::{show_item, take_item};
+use crate::missing::{no_such_method, no_such_page};
+use crate::moved::moved;
+use crate::reply::{Answer, Plain, Reply, replied};
+use crate::routes::{Found, Route, find, routes};
+use crate::upload::list_parts;
+use crate::visits::count_visit;
+use anyhow::Result;
+use matchit::Router;
+use std::alloc::Global;
+use web_body::{Marks, Payload};
+use web_docs::Store;
+use web_extract::Ready;
+use web_request::HttpRequest;
+use web_texts::NoMemory;
+use web_variants::Variants;
+use web_worker::Handler;
+
+/// The site, as one connection sees it.
+#[derive(Drop)]
+pub struct Site {
+    router: Router<Route>,
+    files: Store,
+    greetings: Variants,
+    /// The bookings of this connection. They end with it.
+    bookings: Vec<Booking>,
+}
+
+impl Site {
+    /// The site before its first request.
+    pub fn new(alloc: Global) -> Result<Site> {
+        Ok(Site {
+            router: routes(alloc)?,
+            files: new_store(alloc)?,
+            greetings: new_greetings(alloc)?,
+            bookings: Vec::new(alloc),
+        })
+    }
+
+    /// The answer of the handler of a route.
+    fn answer_route(
+        &mut self,
+        alloc: Global,
+        found: &Found,
+        request: HttpRequest<Plain>,
+        payload: Payload<Marks>,
+    ) -> Answer {
+        if !found.route.takes(request.method()) {
+            return Ok(no_such_method(alloc, found.route)?);
+        }
+        match found.route {
+            Route::Home => Ok(home(alloc, &self.bookings)?),
+            Route::Bookings => take_booking(alloc, &mut self.bookings, &request, payload),
+            Route::Upload => list_parts(alloc, &request, payload),
+            Route::Items => take_item(alloc, &request, payload),
+            Route::Item => Ok(show_item(alloc, found.id.as_str())?),
+            Route::Files => Ok(answer_file(alloc, &self.files, &request)?),
+            Route::Greeting => Ok(answer_greeting(alloc, &self.greetings, &request)?),
+            Route::Visits => Ok(count_visit(alloc, request)?),
+            Route::Moved => Ok(moved(alloc, &request)?),
+        }
+    }
+
+    /// The response to a request.
+    fn reply(
+        &mut self,
+        alloc: Global,
+        request: HttpRequest<Plain>,
+        payload: Payload<Marks>,
+    ) -> Result<Reply, NoMemory> {
+        match find(alloc, &self.router, request.path())? {
+            Some(found) => replied(alloc, self.answer_route(alloc, &found, request, payload)),
+            None => no_such_page(alloc),
+        }
+    }
+}
+
+impl Handler<(HttpRequest<Plain>, Payload<Marks>)> for Site {
+    ghost use Rattle.std.specs.Prelude.{None, ⊤};
+
+    type Output = Reply;
+
+    type Future = Ready<Reply>;
+
+    ghost answers = { λ h args n y. ⊤ };
+
+    ghost calls = { λ h. None };
+
+    fn call(
+        &mut self,
+        alloc: Global,
+        args: (HttpRequest<Plain>, Payload<Marks>),
+    ) -> Result<Ready<Reply>, NoMemory> {
+        let (request, payload) = args;
+        Ok(Ready::new(self.reply(alloc, request, payload)?))
+    }
+}
