@@ -40,13 +40,14 @@ fn answer(out: &mut Vec<u8>, message: Message<'_>, pool: &mut Pool) -> bool {
 }
 
 /// Whether the sender asks for the end of the connection (RFC 7230, section 6.3).
-fn asks_close(message: &Message<'_>) -> bool {
+pub fn asks_close(message: &Message<'_>) -> bool {
     let is_close = |part: &[u8]| trimmed(part).eq_ignore_ascii_case(b"close");
     let mut options = message.request.headers.all("connection");
     message.is_old || options.any(|value| value.split(|byte| *byte == b',').any(is_close))
 }
 
-fn put_reply(out: &mut Vec<u8>, mut reply: Reply<'_>, is_head: bool, closes: bool) {
+/// Adds the bytes of a reply.
+pub fn put_reply(out: &mut Vec<u8>, mut reply: Reply<'_>, is_head: bool, closes: bool) {
     put_status(out, reply.status);
     reply.headers.sort_by_key(|header| header.0);
     for (name, value) in &reply.headers {

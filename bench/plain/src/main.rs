@@ -25,6 +25,7 @@ mod reply;
 mod request;
 mod script;
 mod serving;
+mod site;
 mod target;
 mod text;
 mod thousandths;
@@ -68,6 +69,8 @@ fn main() -> ExitCode {
             Some(capacity) => connect(capacity),
             None => say(USAGE, 64),
         },
+        // For tools/try-site, which no other program stands beside.
+        ["site"] => site::serve().map_or(ExitCode::from(3), |()| ExitCode::SUCCESS),
         _ => say(USAGE, 64),
     }
 }
