@@ -2,7 +2,7 @@
 use crate::reply::{Reply, page};
 use crate::routes::Route;
 use http::StatusCode;
-use http_header::{ALLOW, HeaderValue};
+use http_header::ALLOW;
 use std::alloc::Global;
 use web_texts::NoMemory;
 
@@ -18,8 +18,7 @@ pub fn no_such_method(alloc: Global, route: Route) -> Result<Reply, NoMemory> {
         StatusCode::METHOD_NOT_ALLOWED,
         "<h1>No such method</h1>\n",
     )?;
-    let allowed = HeaderValue::from_static(route.allowed());
-    match reply.headers_mut().insert(ALLOW, allowed) {
+    match reply.headers_mut().insert(ALLOW, route.allowed()) {
         Ok(_) => Ok(reply),
         Err(_) => Err(NoMemory),
     }

@@ -1,5 +1,6 @@
 //! What the site has under which path.
 use http::Method;
+use http_header::HeaderValue;
 use matchit::{InsertError, Router};
 use std::alloc::Global;
 use web_texts::{NoMemory, Text};
@@ -21,10 +22,10 @@ pub enum Route {
 
 impl Route {
     /// The methods that it takes, as the header Allow lists them.
-    pub fn allowed(self) -> &'static str {
+    pub fn allowed(self) -> HeaderValue {
         match self {
-            Route::Bookings | Route::Upload | Route::Items => "POST",
-            _ => "GET, HEAD",
+            Route::Bookings | Route::Upload | Route::Items => HeaderValue::from_static("POST"),
+            _ => HeaderValue::from_static("GET, HEAD"),
         }
     }
 

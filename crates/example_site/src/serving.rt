@@ -1,5 +1,6 @@
 //! One connection, from its first byte to its last.
-ghost use Rattle.std.specs.Prelude.{◌≡◌, [], IfOk, OnOk};
+ghost use Rattle.std.specs.Prelude.{◌≡◌, ◌+◌, ◌<◌, ◌≤◌, ◌^◌, [], IfOk, None, OnOk, length};
+ghost use Rattle.web_http1.specs.Connections.{WaitsForMore, open_bytes};
 
 use crate::reply::Plain;
 use crate::site::Site;
@@ -43,37 +44,73 @@ fn send<W: Write>(output: &mut W, out: &mut Vec<u8>) -> Result<()>
     Ok(())
 }
 
-/// The program fails where memory failed.
-fn checked(ended: Ended) -> Result<()> {
-    match ended {
-        Ended::NoMemory => Err(NoMemory.into()),
-        Ended::Closed | Ended::Refused(_) | Ended::SourceFault => Ok(()),
+/// Takes a piece, and writes to `out` the reply to each message that is whole then. An empty piece
+/// is the end of the bytes. Returns how the connection ended, if it did.
+fn take_piece(
+    alloc: Global,
+    worker: &mut Worker<Plain>,
+    site: &mut Site,
+    connection: &mut Connection,
+    piece: &[u8],
+    out: &mut Vec<u8>,
+) -> Option<Ended>
+    requires unended { connection.old.ended ≡ None }
+    requires waits { WaitsForMore connection.old }
+    requires room { worker.old.made + (length connection.old.left + length piece.now) < 2 ^ 64 }
+    ensures made { worker.new.made + open_bytes result (length connection.new.left)
+        ≤ worker.old.made + (length connection.old.left + length piece.now) }
+    ensures goes_on { result ≡ None → (0 < length piece.now) × (connection.new.ended ≡ None)
+        × WaitsForMore connection.new }
+{
+    if piece.is_empty() {
+        return Some(connection.finish(alloc, out));
     }
+    if connection.feed(alloc, piece).is_err() {
+        return Some(Ended::NoMemory);
+    }
+    connection.answer(alloc, worker, site, out);
+    connection.ended()
 }
 
-/// Serves one connection: each message is answered with the piece that makes it whole. It returns
-/// at the end of the input, or behind a reply that closes.
+/// Reads piece by piece, and sends each reply with the piece that makes its message whole. It
+/// returns how the connection ended: at the end of the input, behind a reply that closes, or
+/// behind the most bytes that are taken.
+fn serve_pieces<R: Read, W: Write>(
+    alloc: Global,
+    worker: &mut Worker<Plain>,
+    site: &mut Site,
+    input: &mut R,
+    output: &mut W,
+) -> Result<Ended>
+    requires unused { worker.old.made ≡ 0 }
+{
+    let mut connection = Connection::new(alloc, Limits::default());
+    let mut buffer = [0; PIECE];
+    let mut out = Vec::new(alloc);
+    let mut taken = 0;
+    'pieces: while taken < MOST_BYTES {
+        let count = input.read(&mut buffer)?;
+        let piece = &buffer[..count];
+        let ended = take_piece(alloc, worker, site, &mut connection, piece, &mut out);
+        send(output, &mut out)?;
+        if let Some(ended) = ended {
+            return Ok(ended);
+        }
+        taken += count as u64;
+    }
+    Ok(Ended::Closed)
+}
+
+/// Serves one connection.
+///
+/// # Errors
+///
+/// Where reading, writing or memory failed.
 pub fn serve<R: Read, W: Write>(alloc: Global, input: &mut R, output: &mut W) -> Result<()> {
     let mut site = Site::new(alloc)?;
     let mut worker = new_worker(alloc)?;
-    let mut connection = Connection::new(alloc, Limits::default());
-    let mut piece = [0; PIECE];
-    let mut out = Vec::new(alloc);
-    let mut taken = 0;
-    'reads: while taken < MOST_BYTES {
-        let count = input.read(&mut piece)?;
-        if count == 0 {
-            let ended = connection.finish(alloc, &mut out);
-            send(output, &mut out)?;
-            return checked(ended);
-        }
-        taken += count as u64;
-        connection.feed(alloc, &piece[..count])?;
-        connection.answer(alloc, &mut worker, &mut site, &mut out);
-        send(output, &mut out)?;
-        if let Some(ended) = connection.ended() {
-            return checked(ended);
-        }
+    match serve_pieces(alloc, &mut worker, &mut site, input, output)? {
+        Ended::NoMemory => Err(NoMemory.into()),
+        Ended::Closed | Ended::Refused(_) | Ended::SourceFault => Ok(()),
     }
-    Ok(())
 }
