@@ -8,3 +8,4 @@ pub mod ConnectionLemmas
 pub mod ServingLemmas
 pub mod NextExistsLemmas
 pub mod AnswersExistLemmas
+pub mod PieceLemmas
