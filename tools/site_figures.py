@@ -13,11 +13,11 @@ PLAIN = os.path.join(repository.TOP, "bench", "target", "release", "plain")
 TARGET = "/items/7"
 REQUEST = f"GET {TARGET} HTTP/1.1\r\nHost: 127.0.0.1\r\n\r\n".encode()
 # How long a load lasts, and over how many connections.
-SECONDS = 5
+SECONDS = 3
 CONNECTIONS = 4
-# Requests of one connection whose processor time is measured, and how often.
+# Requests of one connection whose processor time is measured.
 MANY = 50_000
-ROUNDS = 3
+ROUNDS = 5
 # Connections that are open side by side, to measure their memory.
 SIDE_BY_SIDE = 32
 
@@ -35,16 +35,13 @@ def load(port, seconds):
 
 
 def processor_time(words):
-    """Microseconds a request of many that stand in one input, the least of some rounds."""
-    def one(requests, replies):
+    """Microseconds a request of many that stand in one input."""
+    with tempfile.TemporaryFile() as requests, open(os.devnull, "wb") as replies:
+        requests.write(REQUEST * MANY)
         requests.seek(0)
         program = subprocess.Popen(words, stdin=requests, stdout=replies)
         _, program.returncode, usage = os.wait4(program.pid, 0)
-        return usage.ru_utime + usage.ru_stime
-    with tempfile.TemporaryFile() as requests, open(os.devnull, "wb") as replies:
-        requests.write(REQUEST * MANY)
-        requests.flush()
-        return min(one(requests, replies) for _ in range(ROUNDS)) / MANY * 1e6
+        return (usage.ru_utime + usage.ru_stime) / MANY * 1e6
 
 
 def processes():
@@ -78,17 +75,23 @@ def memory(path, port):
 
 
 def measure(path, listener):
-    """Prints the figures of the program, and of the one in plain Rust where that was built."""
-    sides = [("site", [path])]
+    """Prints the figures of the program, and of the one in plain Rust where that was built. They are measured in turn, and
+    the best of the rounds counts, since what else the machine does takes from both."""
+    sides = {"site": [path]}
     if os.access(PLAIN, os.X_OK):
-        sides.append(("plain", [PLAIN, "site"]))
-    for name, words in sides:
-        shown = [f"{processor_time(words):.2f} microseconds of processor time a request"]
-        with listener(" ".join(words)) as port:
+        sides["plain"] = [PLAIN, "site"]
+    times, rates = {name: [] for name in sides}, {name: [] for name in sides}
+    with contextlib.ExitStack() as stack:
+        ports = {name: stack.enter_context(listener(" ".join(words))) for name, words in sides.items()}
+        for name in list(sides) * ROUNDS:
+            times[name].append(processor_time(sides[name]))
             if has_load():
-                rate, faults = load(port, SECONDS)
-                shown.append(f"{rate:,.0f} requests a second{faults and f' ({faults})'}")
-            own, runner = memory(words[0], port)
-            shown.append(f"{own} kB a connection, and {runner} kB of what runs it")
-        print(f"{name}: {', '.join(shown)}", flush=True)
+                rates[name].append(load(ports[name], SECONDS))
+        for name, words in sides.items():
+            own, runner = memory(words[0], ports[name])
+            print(f"{name}: {min(times[name]):.2f} microseconds of processor time a request, {own} kB a connection, and "
+                  f"{runner} kB of what runs it")
+            for rate, faults in sorted(rates[name])[-1:]:
+                print(f"{name}: {rate:,.0f} requests a second{faults and f' ({faults})'}, the most of {len(rates[name])} "
+                      f"rounds of {SECONDS} seconds over {CONNECTIONS} connections")
     return 0

@@ -4,14 +4,18 @@ use crate::messages::{self, Message};
 use crate::reply::{Body, Reply};
 use crate::text;
 use std::borrow::Cow;
+use std::fs::File;
 use std::io::{self, Read, Write};
+use std::os::fd::AsFd;
 
 /// How many bytes are read at once.
 const PIECE: usize = 4_096;
 
 /// Serves standard input piece by piece, up to a message that closes.
 pub fn serve() -> io::Result<()> {
-    let (mut input, mut output) = (io::stdin().lock(), io::stdout().lock());
+    let mut input = io::stdin().lock();
+    // Standard output would write a reply in two parts, up to its last line and behind it.
+    let mut output = File::from(io::stdout().as_fd().try_clone_to_owned()?);
     let (mut buffer, mut out) = (Vec::new(), Vec::new());
     let mut piece = [0; PIECE];
     loop {
@@ -23,7 +27,6 @@ pub fn serve() -> io::Result<()> {
         let (answered, closes) = answer_whole(&buffer, &mut out);
         buffer.drain(..answered);
         output.write_all(&out)?;
-        output.flush()?;
         out.clear();
         if closes {
             return Ok(());
