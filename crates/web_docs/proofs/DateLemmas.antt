@@ -1,5 +1,5 @@
 -- The second that a text shows, by the relation of dates.
-use Rattle.std.proofs.Common.{◌≡◌, ℕ, Bool, true, false, List, [], ◌∷◌, Option, None, Some, refl, sym, ap, ◌∙◌}
+use Rattle.std.proofs.Common.{◌≡◌, ℕ, Bool, true, false, List, [], ◌∷◌, Option, None, Some, refl, ap, ◌∙◌}
 use Rattle.std.proofs.lemmas.Bool.{cond-true, cond-false, false≢true}
 use Rattle.std.specs.Prelude.{nat_eq, slice_get}
 use Rattle.std.specs.Option.{option_and_then, option_eq}
@@ -13,7 +13,7 @@ use Rattle.httpdate.proofs.FormatLemmas.{parse_complete, parse_sound}
 use Rattle.httpdate.proofs.ValidLemmas.{is_valid_complete, is_valid_sound}
 use Rattle.web_texts.specs.HeaderTexts.{first_text_of, value_bytes}
 use Rattle.web_headers.specs.DateHeaders.{HasNoDate, SaysDate}
-use Rattle.web_entities.specs.EntityTags.{Tag, strong_eq, tag_of}
+use Rattle.web_entities.specs.EntityTags.{Tag, strong_eq}
 use Rattle.web_entities.specs.IfRanges.{FirstTextSays}
 use Rattle.web_entities.specs.declared.if_range.IfRange.TheVariants as if_range
 use Rattle.web_docs.specs.Conditions.{is_there, names_version, range_condition, text_names_version}

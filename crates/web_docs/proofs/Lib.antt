@@ -2,6 +2,7 @@ pub mod DateLemmas
 pub mod DateTextLemmas
 pub mod DocumentFunctionsLemmas
 pub mod FieldValueLemmas
+pub mod HeaderMapLemmas
 pub mod PartLemmas
 pub mod ReplyLemmas
 pub mod SelectedEndsLemmas

@@ -4,6 +4,7 @@
 mod answer;
 mod conditions;
 mod document;
+mod header_maps;
 mod laws;
 mod replies;
 mod store;

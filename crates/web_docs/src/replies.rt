@@ -1,44 +1,26 @@
 //! The reply to a request for a document, by its verdict.
-ghost use Rattle.std.specs.Prelude.{◌≡◌, ◌≤◌, ◌<◌, ◌∷◌, ◌++◌, [], IfOk, OnOk, None, Some, codes};
+ghost use Rattle.std.specs.Prelude.{◌≡◌, ◌≤◌, ◌<◌, ◌∷◌, ◌++◌, [], IfOk, None, Some, codes};
 ghost use Rattle.std.specs.Prelude.{drop, length, take, ◌+◌};
 ghost use Rattle.http_header.specs.FieldValue.{plain_value};
-ghost use Rattle.http_header.specs.HeaderMap.{insert};
 ghost use Rattle.web_negotiate.specs.SelectedPositions.{AreEnds, Selects};
 ghost use Rattle.web_docs.specs.DocumentReplies.{IsPartReply, RepliesTo};
 ghost use Rattle.web_docs.specs.DocumentReplies.{for_method as for_method_lem};
 ghost use Rattle.web_docs.specs.DocumentReplies.{partial_reply as partial_reply_lem};
-ghost use Rattle.web_docs.specs.DocumentReplies.{range_value, reply_with, validator_headers};
+ghost use Rattle.web_docs.specs.DocumentReplies.{range_value, reply_with};
 ghost use Rattle.web_docs.specs.DocumentReplies.{unsatisfiable_reply as unsatisfiable_reply_lem};
-ghost use Rattle.web_docs.specs.DocumentReplies.{whole_headers};
 
+use crate::header_maps::put;
 use crate::stored::StoredDocument;
 use crate::verdict::{Verdict, is_head};
 use bytes::Bytes;
 use http::{Method, StatusCode};
-use http_header::{
-    ACCEPT_RANGES, ALLOW, CONTENT_RANGE, CONTENT_TYPE, ETAG, HeaderMap, HeaderName, HeaderValue,
-    LAST_MODIFIED,
-};
+use http_header::{ALLOW, CONTENT_RANGE, HeaderMap, HeaderValue};
 use std::alloc::Global;
 use web_entities::{ByteRangeSpec, ContentRangeSpec};
 use web_headers::TryIntoHeaderValue;
 use web_negotiate::prelude::SatisfiableRange;
 use web_reply::{HttpResponse, WholeBody};
 use web_texts::NoMemory;
-
-/// Sets a header. A map without room counts as one without memory: no reply has so many headers.
-fn put(
-    headers: &mut HeaderMap<HeaderValue>,
-    name: HeaderName,
-    value: HeaderValue,
-) -> Result<(), NoMemory>
-    ensures { OnOk result (headers.new ≡ insert headers.old name value) }
-{
-    match headers.insert(name, value) {
-        Ok(_) => Ok(()),
-        Err(_) => Err(NoMemory),
-    }
-}
 
 fn set_headers(headers: &mut HeaderMap<HeaderValue>, map: HeaderMap<HeaderValue>)
     ensures { headers.new ≡ map }
@@ -64,29 +46,6 @@ fn allow_map(alloc: Global) -> Result<HeaderMap<HeaderValue>, NoMemory>
 {
     let mut map = HeaderMap::empty(alloc);
     put(&mut map, ALLOW, HeaderValue::from_static("GET, HEAD"))?;
-    Ok(map)
-}
-
-fn validator_map(
-    alloc: Global,
-    document: &StoredDocument,
-) -> Result<HeaderMap<HeaderValue>, NoMemory>
-    ensures { IfOk result (λ map. map ≡ validator_headers document.now) }
-{
-    let mut map = HeaderMap::empty(alloc);
-    put(&mut map, ETAG, document.tag().clone()?)?;
-    put(&mut map, LAST_MODIFIED, document.modified().clone()?)?;
-    Ok(map)
-}
-
-fn whole_map(alloc: Global, document: &StoredDocument) -> Result<HeaderMap<HeaderValue>, NoMemory>
-    ensures { IfOk result (λ map. map ≡ whole_headers document.now) }
-{
-    let mut map = HeaderMap::empty(alloc);
-    put(&mut map, ACCEPT_RANGES, HeaderValue::from_static("bytes"))?;
-    put(&mut map, CONTENT_TYPE, document.media_type().clone()?)?;
-    put(&mut map, ETAG, document.tag().clone()?)?;
-    put(&mut map, LAST_MODIFIED, document.modified().clone()?)?;
     Ok(map)
 }
 
@@ -132,7 +91,7 @@ fn partial_reply(
 {
     let size = document.body().len() as u64;
     let body = bytes_between(document.body(), ends.0, ends.1)?;
-    let mut map = whole_map(alloc, document)?;
+    let mut map = document.whole()?;
     let range = content_range(alloc, Some(ends), size)?;
     put(&mut map, CONTENT_RANGE, range)?;
     Ok(response(
@@ -180,7 +139,7 @@ fn whole_reply(
 ) -> Result<HttpResponse<WholeBody>, NoMemory>
     ensures { IfOk result (λ reply. RepliesTo document.now Verdict.All reply) }
 {
-    let map = whole_map(alloc, document)?;
+    let map = document.whole()?;
     let body = document.body().clone()?;
     Ok(response(alloc, StatusCode::OK, map, WholeBody::Bytes(body)))
 }
@@ -214,7 +173,7 @@ pub fn reply_to(
             Ok(empty_reply(alloc, StatusCode::PRECONDITION_FAILED, map))
         }
         Verdict::NotModified => {
-            let map = validator_map(alloc, document)?;
+            let map = document.validators()?;
             Ok(empty_reply(alloc, StatusCode::NOT_MODIFIED, map))
         }
         Verdict::Part(spec) => part_reply(alloc, document, spec),

@@ -1,12 +1,13 @@
-//! Documents with their values of headers, printed once.
+//! Documents with the headers that they are sent with, printed once.
 ghost use Rattle.std.specs.Prelude.{◌≡◌, IfOk, IfSome};
+ghost use Rattle.web_docs.specs.DocumentReplies.{validator_headers, whole_headers};
 ghost use Rattle.web_docs.specs.Documents.{StoresDocument, date_value, field_value_of};
-ghost use Rattle.web_docs.specs.Documents.{media_type_value, tag_value};
 ghost use Rattle.web_docs.specs.Documents.{text_values as text_values_lem};
 
 use crate::document::{Document, StoreFault};
+use crate::header_maps::{validator_map, whole_map};
 use bytes::Bytes;
-use http_header::HeaderValue;
+use http_header::{HeaderMap, HeaderValue};
 use httpdate::HttpDate;
 use std::alloc::Global;
 use std::fmt;
@@ -14,13 +15,12 @@ use std::marker::Model;
 use web_headers::printed_value;
 use web_texts::{Fail, NoMemory};
 
-/// A document, and its values of headers as they are sent.
+/// A document, with the headers of a 304 and those of the document itself.
 #[derive(Drop)]
 pub struct StoredDocument {
     document: Document,
-    media_type: HeaderValue,
-    tag: HeaderValue,
-    modified: HeaderValue,
+    validators: HeaderMap<HeaderValue>,
+    whole: HeaderMap<HeaderValue>,
 }
 
 impl Model for StoredDocument {
@@ -79,7 +79,7 @@ fn text_values(
 }
 
 impl StoredDocument {
-    /// Prints the values of a document. `StoreFault::Value` comes where the media type or the tag
+    /// Prints the headers of a document. `StoreFault::Value` comes where the media type or the tag
     /// may stand in no header.
     pub fn of(alloc: Global, document: Document) -> Result<StoredDocument, Fail<StoreFault>>
         ensures { StoresDocument document result }
@@ -88,11 +88,12 @@ impl StoredDocument {
         match values {
             Some(values) => {
                 let modified = date_field_value(alloc, document.modified)?;
+                let validators = validator_map(alloc, &values.1, &modified)?;
+                let whole = whole_map(alloc, values.0, values.1, modified)?;
                 Ok(StoredDocument {
                     document,
-                    media_type: values.0,
-                    tag: values.1,
-                    modified,
+                    validators,
+                    whole,
                 })
             }
             None => Err(Fail::Of(StoreFault::Value(document.path))),
@@ -111,24 +112,17 @@ impl StoredDocument {
         &self.document.body
     }
 
-    /// The value of Content-Type.
-    pub fn media_type(&self) -> &HeaderValue
-        ensures { result.now ≡ media_type_value self.now }
+    /// A copy of the headers of a 304.
+    pub fn validators(&self) -> Result<HeaderMap<HeaderValue>, NoMemory>
+        ensures { IfOk result (λ map. map ≡ validator_headers self.now) }
     {
-        &self.media_type
+        Ok(self.validators.clone()?)
     }
 
-    /// The value of ETag.
-    pub fn tag(&self) -> &HeaderValue
-        ensures { result.now ≡ tag_value self.now }
+    /// A copy of the headers of the document.
+    pub fn whole(&self) -> Result<HeaderMap<HeaderValue>, NoMemory>
+        ensures { IfOk result (λ map. map ≡ whole_headers self.now) }
     {
-        &self.tag
-    }
-
-    /// The value of Last-Modified.
-    pub fn modified(&self) -> &HeaderValue
-        ensures { result.now ≡ date_value self.now.modified }
-    {
-        &self.modified
+        Ok(self.whole.clone()?)
     }
 }

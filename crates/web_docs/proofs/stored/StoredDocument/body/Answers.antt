@@ -1,4 +1,4 @@
-use Rattle.std.proofs.Common.{ap, ◌∙◌}
+use Rattle.std.proofs.Common.{ap}
 use Rattle.web_docs.specs.declared.document.Document.{Document}
 use Rattle.web_docs.proofs.stored.StoredDocument.body.Goals as goal
 

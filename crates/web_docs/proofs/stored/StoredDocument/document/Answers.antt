@@ -1,4 +1,3 @@
-use Rattle.std.proofs.Common.{ap, ◌∙◌}
 use Rattle.web_docs.proofs.stored.StoredDocument.document.Goals as goal
 
 pub returns : goal.returns

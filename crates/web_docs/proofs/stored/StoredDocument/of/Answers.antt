@@ -1,14 +1,21 @@
 use Rattle.std.proofs.Common.{refl, sym, ap, ◌∙◌}
 use Rattle.web_docs.proofs.FieldValueLemmas.{values_given, values_refused}
+use Rattle.web_docs.proofs.HeaderMapLemmas.{validators_are, whole_are}
 use Rattle.web_docs.proofs.stored.StoredDocument.of.Goals as goal
 
 pub invariant_of-result : goal.invariant_of-result
 invariant_of-result c =
     let given = values_given c.args.document c.in-Some.values (sym c.in-Some.is ∙ c.in_ok-values.ensures) in
-    record { media_type = ap (λ v. v.0) given.1; tag = ap (λ v. v.1) given.1; modified = c.in_ok-modified-in-Some.ensures }
+    let kind = ap (λ v. v.0) given.1 in
+    let version = ap (λ v. v.1) given.1 in
+    let date = c.in_ok-modified-in-Some.ensures in
+    record {
+      validators = c.in_ok-validators-in-Some.ensures ∙ validators_are c.args.document c.in-Some.values.0 c.in-Some.values.1 c.in_ok-modified-in-Some.modified kind version date;
+      whole = c.in_ok-whole-in-Some.ensures ∙ whole_are c.args.document c.in-Some.values.0 c.in-Some.values.1 c.in_ok-modified-in-Some.modified kind version date;
+    }
 
-pub returns-in_ok-modified-in-Some : goal.returns-in_ok-modified-in-Some
-returns-in_ok-modified-in-Some c = (refl, (values_given c.args.document c.in-Some.values (sym c.in-Some.is ∙ c.in_ok-values.ensures)).0)
+pub returns-in_ok-whole-in-Some : goal.returns-in_ok-whole-in-Some
+returns-in_ok-whole-in-Some c = (refl, (values_given c.args.document c.in-Some.values (sym c.in-Some.is ∙ c.in_ok-values.ensures)).0)
 
 pub returns-in-None : goal.returns-in-None
 returns-in-None c = (refl, values_refused c.args.document (sym c.in-None.is ∙ c.in_ok-values.ensures))
