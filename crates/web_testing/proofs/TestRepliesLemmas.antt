@@ -1,5 +1,5 @@
-use Rattle.std.proofs.Common.{◌≡◌, ◌≤◌, ◌<◌, ◌+◌, ◌⊎◌, ℕ, List, Option, None, Some}
-use Rattle.std.proofs.Common.{Result, Ok, Err, inl, inr, sym, ◌∙◌, arith}
+use Rattle.std.proofs.Common.{◌≡◌, ◌≤◌, ◌+◌, ℕ, List, Option, None, Some}
+use Rattle.std.proofs.Common.{Result, Ok, inl, inr, sym, arith}
 use Rattle.std.proofs.lemmas.Bool.Decides.{leb_tells}
 use Rattle.web_request.specs.declared.source.Mark.{Mark}
 use Rattle.web_body.specs.declared.message_body.PayloadError.{PayloadError}
@@ -26,17 +26,6 @@ has_marks (Some marks) gives means n bytes given =
 pub still_waits : {T : Type 0} (first second : ℕ → T → Type 0) (d : ℕ)
     → GivesLater first second d → GivesSome second → GivesSome (λ n x. first (d + n) x)
 still_waits first second d later some none = some (λ n x given. none n x (later n x given))
-
--- what is refused with a cause of the body is not its bytes
-pub refuses_failed : (marks : Option (List Mark))
-    (gives : ℕ → Result (List ℕ) PayloadError → Type 0)
-    → MeansAll answer_of marks gives → (n : ℕ) (e : PayloadError) → gives n (Err e)
-    → RefusesBody marks error.Body
-refuses_failed None gives means n e given = tt
-refuses_failed (Some marks) gives means n e given =
-    λ small bytes read.
-    let failed : Err e ≡ answer_of ((reading_all marks).content) = (means small n (Err e) given).1 in
-    absurd cc
 
 at_least : (d : ℕ) → (((n : ℕ) → most_polls + n ≡ d → ⊥) → ⊥) → most_polls ≤ d
 at_least d some = elim (leb_tells most_polls d) [

@@ -57,7 +57,7 @@ fn value_of<F: Poll>(alloc: Global, mut future: F) -> Result<(usize, F::Output),
 }
 
 /// The whole of a payload.
-#[tactic(auto, using(crate::proofs::TestRepliesLemmas::has_marks, crate::proofs::TestRepliesLemmas::refuses_failed, crate::proofs::TestRepliesLemmas::refuses_late,))]
+#[tactic(auto, using(crate::proofs::TestRepliesLemmas::has_marks))]
 fn read_payload<S: Source>(alloc: Global, payload: Payload<S>) -> Result<Bytes, TestError>
     ensures bytes { IfOk result (λ bytes. HasMarks (payload_feed S.feed payload).marks bytes) }
     ensures refused { IfErr result (RefusesBody (payload_feed S.feed payload).marks) }
