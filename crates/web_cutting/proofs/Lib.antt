@@ -3,3 +3,4 @@ pub mod CutFreeLemmas
 mod CutValuesLemmas
 mod CutRepliesLemmas
 mod TakingLemmas
+mod CutPartsLemmas

@@ -7,6 +7,7 @@ mod decoder_cutting;
 mod first_takers;
 mod head_cutting;
 mod list_cutting;
+mod multipart_cutting;
 mod reply_cutting;
 mod value_cutting;
 
@@ -18,5 +19,6 @@ pub use first_takers::{
 };
 pub use head_cutting::{data_cutting_law, head_cutting_law, read_cutting_law};
 pub use list_cutting::list_cutting_law;
+pub use multipart_cutting::{multipart_cutting_law, multipart_taking_law};
 pub use reply_cutting::reply_cutting_law;
 pub use value_cutting::{either_cutting_law, value_cutting_law};
