@@ -1,4 +1,5 @@
-"""The definitions of the folders specs/ that contracts cite, with what the comments above them say, and their index."""
+"""The definitions of the folders specs/ that contracts cite, and the laws, with what the comments above them say, and
+the index of both."""
 import collections
 import os
 import re
@@ -8,15 +9,26 @@ import repository
 PAGE = "docs/INDEX.md"
 HEAD = """# Index of definitions
 
-The definitions that contracts cite, by crate. `tools/index-definitions` writes this page from the sources: do not edit
-it. A file `Body` of `web_request` is `crates/web_request/specs/Body.antt`. Beside each name stands the first sentence of
-the comment above it. [DEFINITIONS](DEFINITIONS.md) says how a contract is read.
+The [laws](#laws), and then the definitions that contracts cite, by crate. `tools/index-definitions` writes this page
+from the sources: do not edit it. A file `Body` of `web_request` is `crates/web_request/specs/Body.antt`. Beside each
+name stands the first sentence of the comment above it. [DEFINITIONS](DEFINITIONS.md) says how a contract is read.
+"""
+LAWS = """## Laws
+
+Functions without a result, whose contract is what they prove of definitions, for proofs to cite. What is said here
+begins the law's comment; its premises stand in its contract.
+
+| Law | Says |
+|---|---|
 """
 
 # Where a contract of a crate names definitions of a file.
 CITED = re.compile(r"ghost use Rattle\.(?P<crate>\w+)\.specs\.(?P<file>\w+)\.\{(?P<names>[^}]*)\}")
 # The line that a public definition begins with. A field of a record has neither word before nor behind `pub`.
 BEGINS = re.compile(r"(?P<indent> *)(?P<how>abbrev |unfoldable )?pub (?P<kind>record |data )?(?P<name>[^\s:({]+)")
+
+# A law, with the comment above it.
+LAW = re.compile(r"(?P<comment>(?:^///.*\n)+)^pub fn (?P<name>\w+_law)\b", re.M)
 
 # A definition: its name, the file without its ending, and the first sentence of its comment, empty where it has none.
 Definition = collections.namedtuple("Definition", "name file says")
@@ -70,13 +82,22 @@ def by_crate():
             yield crate, found
 
 
+def laws():
+    """Each public law, as a pair of its path and the first sentence of its comment."""
+    for crate in repository.crates():
+        for path in repository.sources(crate, ["src"], (".rt",)):
+            for law in LAW.finditer("\n".join(lines_of(path))):
+                comment = " ".join(line.strip("/ ") for line in law["comment"].splitlines())
+                yield f"{crate}::{law['name']}", first_sentence(comment)
+
+
 def cell(text):
     return text.replace("|", "\\|")
 
 
 def index():
     """The text of the page."""
-    found = [HEAD]
+    found = [HEAD, LAWS + "".join(f"| `{name}` | {cell(says)} |\n" for name, says in laws())]
     for crate, those in by_crate():
         rows = [f"| `{it.name}` | {it.file} | {cell(it.says)} |" for it in those]
         found.append("\n".join([f"## {crate}", "", "| Name | File | Says |", "|---|---|---|", *rows]) + "\n")
