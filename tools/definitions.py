@@ -28,7 +28,7 @@ CITED = re.compile(r"ghost use Rattle\.(?P<crate>\w+)\.specs\.(?P<file>\w+)\.\{(
 BEGINS = re.compile(r"(?P<indent> *)(?P<how>abbrev |unfoldable )?pub (?P<kind>record |data )?(?P<name>[^\s:({]+)")
 
 # A law, with the comment above it.
-LAW = re.compile(r"(?P<comment>(?:^///.*\n)+)^pub fn (?P<name>\w+_law)\b", re.M)
+LAW = re.compile(r"(?P<comment>(?:^///.*\n)+)^pub fn (?P<name>\w+_laws?)\b", re.M)
 
 # A definition: its name, the file without its ending, and the first sentence of its comment, empty where it has none.
 Definition = collections.namedtuple("Definition", "name file says")
