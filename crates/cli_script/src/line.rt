@@ -99,6 +99,16 @@ fn exchange_argument(line: &[u8]) -> Option<&[u8]>
     }
 }
 
+/// What follows `plan` and a space.
+fn plan_argument(line: &[u8]) -> Option<&[u8]>
+    ensures { IfSome result (λ entries. line.now ≡ codes "plan " ++ entries.now) }
+{
+    match line {
+        [b'p', b'l', b'a', b'n', b' ', entries @ ..] => Some(entries),
+        _ => None,
+    }
+}
+
 /// What follows `header` and a space.
 fn header_argument(line: &[u8]) -> Option<&[u8]>
     ensures { IfSome result (λ header. line.now ≡ codes "header " ++ header.now) }
@@ -144,6 +154,9 @@ pub fn split_line(line: &[u8]) -> (Word, &[u8])
     }
     if let Some(head) = exchange_argument(line) {
         return (Word::Exchange, head);
+    }
+    if let Some(entries) = plan_argument(line) {
+        return (Word::Plan, entries);
     }
     if let Some(header) = header_argument(line) {
         return (Word::Header, header);
