@@ -7,3 +7,4 @@ pub mod PartLemmas
 pub mod ReplyLemmas
 pub mod SelectedEndsLemmas
 pub mod StoreLemmas
+pub mod VerdictLemmas

@@ -3,6 +3,7 @@
 
 mod answer;
 mod conditions;
+mod content_range;
 mod document;
 mod header_maps;
 mod laws;

@@ -70,6 +70,9 @@ pub fn read_verdict(
     if !is_get_or_head(method) {
         return Ok(Verdict::MethodNotAllowed);
     }
+    if headers.is_empty() {
+        return Ok(Verdict::All);
+    }
     if fails(match_condition(alloc, document, headers)?) {
         return Ok(Verdict::PreconditionFailed);
     }
@@ -92,11 +95,12 @@ fn read_part(
     if !is_get(method) {
         return Ok(Verdict::All);
     }
-    if !range_condition(alloc, document, headers)? {
+    let Some(spec) = read_range(alloc, headers)? else {
         return Ok(Verdict::All);
-    }
-    match read_range(alloc, headers)? {
-        Some(spec) => Ok(Verdict::Part(spec)),
-        None => Ok(Verdict::All),
+    };
+    if range_condition(alloc, document, headers)? {
+        Ok(Verdict::Part(spec))
+    } else {
+        Ok(Verdict::All)
     }
 }
