@@ -1,5 +1,12 @@
--- Nothing is wrong with the documents of `/doc`.
-use Rattle.std.proofs.Common.{◌≡◌, List, [], ◌∷◌, ◌++◌, None, Some, refl, subst}
+-- Nothing is wrong with the documents of `/doc`, and a request has one reply.
+use Rattle.std.proofs.Common.{◌≡◌, List, [], ◌∷◌, ◌++◌, Option, None, Some, Result, Ok, Err, refl, subst}
+use Rattle.std.specs.Prelude.{IfOk}
+use Rattle.web_request.specs.Head.{Head}
+use Rattle.web_reply.specs.Replies.{Reply}
+use Rattle.web_reply.specs.declared.body.WholeBody.{WholeBody}
+use Rattle.web_docs.proofs.DocumentFunctionsLemmas.{one_document_reply}
+use Rattle.web_docs.specs.DocumentFunctions.{document_reply}
+use Rattle.web_docs.specs.DocumentReplies.{IsDocumentReply}
 use Rattle.web_docs.specs.Stores.{IsFirstFault, fault_behind}
 use Rattle.web_docs.specs.declared.document.Document.{Document}
 use Rattle.web_docs.specs.declared.document.StoreFault.{StoreFault}
@@ -30,3 +37,7 @@ none_is_wrong f is =
     let sound : fault_behind is.before is.document ≡ None = no_fault is.before is.document is.after is.parts in
     let wrong : fault_behind is.before is.document ≡ Some f = is.wrong in
     absurd cc
+
+pub one_reply : {E : Type 0} (found : Option Document) (head : Head) (r : Result (Reply WholeBody) E) → IfOk r (λ reply. IsDocumentReply found head reply) → IfOk r (λ reply. reply ≡ document_reply found head)
+one_reply found head (Ok reply) is = one_document_reply found head reply is
+one_reply found head (Err e) is = tt

@@ -130,7 +130,6 @@ impl DemoDocuments {
         let Some(store) = &self.store else {
             unreachable!()
         };
-        let reply = answer_document(alloc, store, req)?;
-        Ok(reply)
+        answer_document(alloc, store, req)
     }
 }
