@@ -2,10 +2,11 @@
 use crate::date;
 use crate::headers::{Headers, is_header_text};
 use crate::reply::{Body, Reply};
-use crate::request::Request;
+use crate::request::{self, Request};
 use crate::text::{number, put_number, trimmed};
 use std::borrow::Cow;
 use std::collections::HashMap;
+use std::hint::black_box;
 use std::ops::Range;
 use std::sync::LazyLock;
 
@@ -36,6 +37,38 @@ static STORE: LazyLock<Store> = LazyLock::new(|| {
     store.add("/doc/empty", Document::of(true, "e", b""));
     store
 });
+
+/// The text of the last of so many replies to a request for the one document of a store, which has so many bytes.
+pub fn last_reply(numbers: [&str; 2], request: &str, headers: &[&str]) -> Option<String> {
+    let [count, size] = numbers.map(|digits| number(digits.as_bytes(), 1_000_000_000));
+    let mut store = Store {
+        documents: HashMap::new(),
+    };
+    let body = vec![b'x'; size? as usize];
+    store.add("/doc/a", Document::of(false, "v1", &body));
+    let mut request = request::read(request.as_bytes()).ok()?;
+    for pair in headers.chunks_exact(2) {
+        request.headers.add(pair[0].as_bytes(), pair[1].as_bytes())?;
+    }
+    let mut reply = store.reply(&request);
+    for _ in 1..count? {
+        reply = black_box(&store).reply(black_box(&request));
+    }
+    Some(shown(&reply))
+}
+
+/// The status, the headers, and how long the body is.
+fn shown(reply: &Reply<'_>) -> String {
+    let mut shown = format!("status {}\n", reply.status);
+    for (name, value) in &reply.headers {
+        shown += &format!("{name}: {value}\n");
+    }
+    let size = match &reply.body {
+        Body::Whole(bytes) => bytes.len(),
+        Body::Stream(_) => 0,
+    };
+    shown + &format!("body {size}\n")
+}
 
 /// The reply to a request for one of the documents.
 pub fn reply(request: &Request<'_>) -> Reply<'static> {

@@ -69,6 +69,13 @@ fn main() -> ExitCode {
             Some(capacity) => connect(capacity),
             None => say(USAGE, 64),
         },
+        // For bench/documents/run.
+        ["documents", count, size, request, ref headers @ ..] => {
+            match documents::last_reply([count, size], request, headers) {
+                Some(text) => say(text.as_bytes(), 0),
+                None => ExitCode::FAILURE,
+            }
+        }
         // For tools/try-site, which no other program stands beside.
         ["site"] => site::serve().map_or(ExitCode::from(3), |()| ExitCode::SUCCESS),
         _ => say(USAGE, 64),
