@@ -24,6 +24,6 @@ NeverHasHead limits bytes = (more : List ℕ) → HasNoHead limits (bytes ++ mor
 
 -- a head within the limits; never one; or none yet, and room for more
 abbrev pub IsHeadRead : Limits → List ℕ → HeadRead → Type 0
-IsHeadRead limits bytes (read.Head head) = (rest : List ℕ) × Begins limits bytes head rest
+IsHeadRead limits bytes (read.Head head) = (rest : List ℕ) × Begins limits bytes head.value rest
 IsHeadRead limits bytes read.Refused = NeverHasHead limits bytes
 IsHeadRead limits bytes read.Unfinished = HasNoRequest bytes × (length bytes < limits.head)
