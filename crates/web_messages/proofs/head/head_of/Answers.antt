@@ -5,8 +5,8 @@ use Rattle.web_messages.specs.declared.head.Head.{Head}
 use Rattle.web_messages.proofs.HeadLemmas.{no_err, stable_token}
 use Rattle.web_messages.proofs.head.head_of.Goals as goal
 
-pub returns-in-Ok-new-then-taken : goal.returns-in-Ok-new-then-taken
-returns-in-Ok-new-then-taken c =
+pub returns-in-Ok-new : goal.returns-in-Ok-new
+returns-in-Ok-new c =
     let name : c.of.result.now ≡ span_bytes c.args.text.now c.args.found.method =
     c.of.ensures ∙ ap (λ (t : List ℕ). span_bytes t c.args.found.method) c.as_slice.ensures in
     subst (IsHeadOf (span_bytes c.args.text.now c.args.found.method) (span_bytes c.args.text.now c.args.found.path) c.args.found.version
