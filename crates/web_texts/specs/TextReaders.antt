@@ -3,6 +3,12 @@ use Rattle.std.specs.Prelude.{◌≡◌, Result, Ok, Err, Option, None, Some}
 use Rattle.web_texts.specs.declared.memory.Fail.{Fail}
 use Rattle.web_texts.specs.declared.memory.Fail.TheVariants as fail
 
+-- no failed allocation
+abbrev pub NeverNoMemory : {T E : Type 0} → Result T (Fail E) → Type 0
+NeverNoMemory (Ok x) = Unit {0}
+NeverNoMemory (Err fail.NoMemory) = ⊥
+NeverNoMemory (Err (fail.Of e)) = Unit {0}
+
 -- An error of the reader's own comes only where the text has no value; allocation may always fail.
 abbrev pub ReadsOr : {T E : Type 0} → Fail E → Option T → Type 0
 ReadsOr fail.NoMemory value = Unit {0}

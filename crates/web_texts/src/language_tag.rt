@@ -1,11 +1,11 @@
 //! Language tags.
-ghost use Rattle.std.specs.Prelude.{◌≡◌};
+ghost use Rattle.std.specs.Prelude.{◌≡◌, None};
 ghost use Rattle.std.specs.Char.{is_ascii_alphabetic, is_ascii_alphanumeric};
 ghost use Rattle.std.specs.List.{list_all, slice_split};
 ghost use Rattle.web_texts.specs.LanguageTags.{is_hyphen, language_tag_of};
 ghost use Rattle.web_texts.specs.LanguageTags.{is_subtag as is_subtag_spec};
 ghost use Rattle.web_texts.specs.LanguageTags.{is_language_tag as is_language_tag_spec};
-ghost use Rattle.web_texts.specs.TextReaders.{Reads};
+ghost use Rattle.web_texts.specs.TextReaders.{NeverNoMemory, Reads};
 
 use crate::cut::{cut_first, split_once_at};
 use crate::duplicate::Duplicate;
@@ -82,9 +82,10 @@ fn is_language_tag(text: &[u8]) -> bool
 }
 
 impl LanguageTag {
-    /// Reads a tag. Returns `TagFault` where the text is none.
+    /// Reads a tag. Returns `TagFault` where the text is none, which takes no memory.
     pub fn parse(alloc: Global, text: &str) -> Result<LanguageTag, Fail<TagFault>>
-        ensures { Reads result (language_tag_of text.now) }
+        ensures value { Reads result (language_tag_of text.now) }
+        ensures memory { language_tag_of text.now ≡ None → NeverNoMemory result }
     {
         if !is_language_tag(text.as_bytes()) {
             return Err(Fail::Of(TagFault));
