@@ -1,5 +1,5 @@
 //! What is computed of a request once and then kept.
-ghost use Rattle.std.specs.Prelude.{◌≡◌, IfOk, OnErr, OnOk, option_copied};
+ghost use Rattle.std.specs.Prelude.{◌≡◌, IfOk, IsOk, IsSome, OnErr, OnOk, option_copied};
 ghost use Rattle.std.specs.Borrow.{sem};
 ghost use Rattle.std.specs.Io.BufRead.{Rests};
 ghost use Rattle.web_texts.specs.Returns.{ReturnsBy};
@@ -24,6 +24,7 @@ impl<A: App> HttpRequest<A> {
     fn keep_connection(&mut self, alloc: Global) -> Result<(), NoMemory>
         ensures ok { OnOk result (self.new ≡ with_connection self.old) }
         ensures err { OnErr result (self.new ≡ self.old) }
+        ensures memory { IsSome self.old.kept.connection → IsOk result }
     {
         if self.kept.connection().is_none() {
             let info = ConnectionInfo::new(alloc, &self.head, &self.config)?;
@@ -39,10 +40,11 @@ impl<A: App> HttpRequest<A> {
     }
 
     /// Where the request came from and was sent to, by its head at the first call of this or of
-    /// `full_url`, which is kept. Returns `NoMemory` where allocation failed; the request is then
-    /// as before.
+    /// `full_url`, which is kept; once it is, this takes no memory. Returns `NoMemory` where
+    /// allocation failed; the request is then as before.
     pub fn connection_info(&mut self, alloc: Global) -> Result<&ConnectionInfo, NoMemory>
         ensures value { IfOk result (λ info. info.now ≡ known_connection self.old) }
+        ensures memory { IsSome self.old.kept.connection → IsOk result }
         ensures* after { sem 𝓛 (Rests
             (the_row A.row A.Layer.row A.Local.row A.Conn.row A.Source.row
             A.Layer.AppLayer A.Source.Source)
@@ -85,6 +87,7 @@ impl<A: App> HttpRequest<A> {
           kept = record self.old.kept { decoded = self.new.kept.decoded };
         } }
         ensures err { OnErr result (self.new ≡ self.old) }
+        ensures memory { IsSome self.old.kept.decoded → IsOk result }
     {
         if self.kept.decoded().is_none() {
             let cookies = decoded_cookies(alloc, &self.head.headers)?;
@@ -100,13 +103,14 @@ impl<A: App> HttpRequest<A> {
     }
 
     /// The cookies of the request, with names and values percent-decoded, in their order, by its
-    /// head at the first call of this or of `cookie` in which they could be read; they are kept.
-    /// What is no cookie is left out.
+    /// head at the first call of this or of `cookie` in which they could be read; they are kept,
+    /// and from then on this takes no memory. What is no cookie is left out.
     ///
     /// Returns `CookieParseError::Utf8` where a value of the header Cookie is not UTF-8 and no
     /// cookies are kept, and `NoMemory` where allocation failed; the request is then as before.
     pub fn cookies(&mut self, alloc: Global) -> Result<&[Cookie], Fail<CookieParseError>>
         ensures value { ReturnsBy (λ cookies. cookies.now) result (known_cookies self.old) }
+        ensures memory { IsSome self.old.kept.decoded → IsOk result }
         ensures* after { sem 𝓛 (Rests
             (the_row A.row A.Layer.row A.Local.row A.Conn.row A.Source.row
             A.Layer.AppLayer A.Source.Source)
@@ -149,6 +153,7 @@ impl<A: App> HttpRequest<A> {
           kept = record self.old.kept { raw = self.new.kept.raw };
         } }
         ensures err { OnErr result (self.new ≡ self.old) }
+        ensures memory { IsSome self.old.kept.raw → IsOk result }
     {
         if self.kept.raw().is_none() {
             let cookies = raw_cookies(alloc, &self.head.headers)?;
@@ -166,6 +171,7 @@ impl<A: App> HttpRequest<A> {
     /// As `cookies`, with names and values as they are. The two lists are kept apart.
     pub fn cookies_raw(&mut self, alloc: Global) -> Result<&[Cookie], Fail<CookieParseError>>
         ensures value { ReturnsBy (λ cookies. cookies.now) result (known_raw_cookies self.old) }
+        ensures memory { IsSome self.old.kept.raw → IsOk result }
         ensures* after { sem 𝓛 (Rests
             (the_row A.row A.Layer.row A.Local.row A.Conn.row A.Source.row
             A.Layer.AppLayer A.Source.Source)
