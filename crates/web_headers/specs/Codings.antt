@@ -1,5 +1,5 @@
 -- Content codings (RFC 9110, section 8.4.1).
-use Rattle.std.specs.Prelude.{ℕ, List, codes, Option, None, Some, if◌then◌else◌}
+use Rattle.std.specs.Prelude.{ℕ, List, codes, Option, None, Some, if◌then◌else◌, ⊤}
 use Rattle.std.specs.Str.{str_eq_ignore_ascii_case}
 use Rattle.web_headers.specs.declared.codings.ContentEncoding.{ContentEncoding}
 use Rattle.web_headers.specs.declared.codings.ContentEncoding.TheVariants as coding
@@ -19,6 +19,11 @@ known_coding text =
 abbrev pub known_or : List ℕ → Option ContentEncoding → Encoding
 known_or text None = encoding.Unknown text
 known_or text (Some c) = encoding.Known c
+
+-- a coding that is known, in which no text is kept
+abbrev pub TakesNoMemory : Encoding → Type 0
+TakesNoMemory (encoding.Known c) = ⊤
+TakesNoMemory (encoding.Unknown text) = ⊥
 
 -- Every other text is an unknown coding, also one that is no token, which the RFC asks for.
 abbrev pub encoding_of : List ℕ → Option Encoding

@@ -110,12 +110,19 @@ fn known_coding(text: &str) -> Option<ContentEncoding>
 }
 
 impl ReadText for Encoding {
-    ghost use Rattle.web_headers.specs.Codings.{encoding_of};
+    ghost use Rattle.std.specs.Prelude.{IfSome};
+    ghost use Rattle.web_texts.specs.TextReaders.{Reads};
+    ghost use Rattle.web_headers.specs.TypedHeaders.{NeverNoMemory};
+    ghost use Rattle.web_headers.specs.Codings.{encoding_of, known_coding as known_spec};
 
     ghost reads = { encoding_of };
 
-    /// Reads a coding, in any ASCII case where it is known. It is never `ParseError::Header`.
-    fn parse(alloc: Global, text: &str) -> Result<Encoding, Fail<ParseError>> {
+    /// Reads a coding, in any ASCII case where it is known, which takes no memory. It is never
+    /// `ParseError::Header`.
+    fn parse(alloc: Global, text: &str) -> Result<Encoding, Fail<ParseError>>
+        ensures value { Reads result (encoding_of text.now) }
+        ensures memory { IfSome (known_spec text.now) (λ _. NeverNoMemory result) }
+    {
         match known_coding(text) {
             Some(coding) => Ok(Encoding::Known(coding)),
             None => Ok(Encoding::Unknown(Text::of(alloc, text)?)),
@@ -124,7 +131,14 @@ impl ReadText for Encoding {
 }
 
 impl Duplicate for Encoding {
-    fn duplicate(&self, alloc: Global) -> Result<Encoding, NoMemory> {
+    ghost use Rattle.std.specs.Prelude.{◌≡◌, Ok, IfOk};
+    ghost use Rattle.web_headers.specs.Codings.{TakesNoMemory};
+
+    /// A copy. That of a known coding takes no memory.
+    fn duplicate(&self, alloc: Global) -> Result<Encoding, NoMemory>
+        ensures value { IfOk result (λ copy. copy ≡ self.now) }
+        ensures memory { TakesNoMemory self.now → result ≡ Ok self.now }
+    {
         match self {
             Encoding::Known(coding) => Ok(Encoding::Known(*coding)),
             Encoding::Unknown(text) => Ok(Encoding::Unknown(text.duplicate(alloc)?)),

@@ -54,12 +54,20 @@ impl<T> Preference<T> {
 }
 
 impl<T: ReadText + Drop> ReadText for Preference<T> {
+    ghost use Rattle.std.specs.Prelude.{IsTrue, codes};
+    ghost use Rattle.std.specs.Str.{bytes_eq};
+    ghost use Rattle.web_texts.specs.Blanks.{trimmed};
+    ghost use Rattle.web_texts.specs.TextReaders.{Reads};
+    ghost use Rattle.web_headers.specs.TypedHeaders.{NeverNoMemory};
     ghost use Rattle.web_headers.specs.Preferences.{preference_of};
 
     ghost reads = { preference_of T.reads };
 
-    /// Reads `*` or an item, with blanks around it.
-    fn parse(alloc: Global, text: &str) -> Result<Self, Fail<ParseError>> {
+    /// Reads `*` or an item, with blanks around it. `*` takes no memory.
+    fn parse(alloc: Global, text: &str) -> Result<Self, Fail<ParseError>>
+        ensures value { Reads result (preference_of T.reads text.now) }
+        ensures memory { IsTrue (bytes_eq (trimmed text.now) (codes "*")) → NeverNoMemory result }
+    {
         let text = trim(text);
         if text == "*" {
             return Ok(Preference::Any);
@@ -70,7 +78,14 @@ impl<T: ReadText + Drop> ReadText for Preference<T> {
 }
 
 impl<T: Duplicate> Duplicate for Preference<T> {
-    fn duplicate(&self, alloc: Global) -> Result<Self, NoMemory> {
+    ghost use Rattle.std.specs.Prelude.{◌≡◌, None, Ok, IfOk};
+    ghost use Rattle.web_headers.specs.Preferences.{preferred_item};
+
+    /// A copy. That of `Any` takes no memory.
+    fn duplicate(&self, alloc: Global) -> Result<Self, NoMemory>
+        ensures value { IfOk result (λ copy. copy ≡ self.now) }
+        ensures memory { preferred_item self.now ≡ None → result ≡ Ok self.now }
+    {
         match self {
             Preference::Any => Ok(Preference::Any),
             Preference::Specific(item) => Ok(Preference::Specific(item.duplicate(alloc)?)),
