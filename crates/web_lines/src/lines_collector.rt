@@ -1,8 +1,8 @@
 //! The lines of a body, one by one.
 ghost use Rattle.std.specs.Prelude.{◌≡◌, ◌+◌, ◌<◌, ◌≤◌, ◌++◌, [], None, IfOk, OnErr, OnOk, length};
-ghost use Rattle.std.specs.Prelude.{Some, Err};
+ghost use Rattle.std.specs.Prelude.{Some, Err, IsOk};
 ghost use Rattle.web_texts.specs.Counts.{Rose};
-ghost use Rattle.web_request.specs.MessageFields.{encoding_of};
+ghost use Rattle.web_request.specs.MessageFields.{encoding_of, first_content_type};
 ghost use Rattle.web_body.specs.Collector.{StallsNext};
 ghost use Rattle.web_body.specs.Payload.{KeepsPayload, bytes_between, payload_feed};
 ghost use Rattle.web_body.specs.PollSteps.{IsPending, NeverNoMemory, OnPending};
@@ -175,8 +175,8 @@ fn take_rest(alloc: Global, held: &mut Vec<u8>, piece: &mut Bytes) -> LineCut
 impl<S: Source> Readlines<S> {
     /// Takes the payload of a message, to read its lines under the default limit. Where the content
     /// type of the message is no media type, or its charset is not UTF-8, the payload is left, and
-    /// the first poll returns `ContentTypeError`. Returns `NoMemory` where allocation failed; the
-    /// message is then as before.
+    /// the first poll returns `ContentTypeError`. Returns `NoMemory` where allocation failed, which
+    /// it does not without a Content-Type; the message is then as before.
     pub fn new<M: HttpMessage + TakePayload<Source = S>>(
         alloc: Global,
         req: &mut M,
@@ -187,6 +187,7 @@ impl<S: Source> Readlines<S> {
             ≡ taken_from (encoding_of (M.fields req.old)) (M.without_payload req.old) req.old) }
         ensures unpolled { IfOk result (λ lines. IsUnpolled lines) }
         ensures err { OnErr result (req.new ≡ req.old) }
+        ensures memory { first_content_type (M.fields req.old) ≡ None → IsOk result }
     {
         match req.encoding(alloc) {
             Ok(()) => {
