@@ -1,5 +1,5 @@
 //! The cookies of a request.
-ghost use Rattle.std.specs.Prelude.{◌≡◌, ◌++◌, IfOk, OnOk, codes, true, false};
+ghost use Rattle.std.specs.Prelude.{◌≡◌, ◌++◌, IfOk, IsOk, OnOk, codes, true, false, None};
 ghost use Rattle.std.specs.List.{find};
 ghost use Rattle.std.specs.Str.{bytes_eq};
 ghost use Rattle.http_header.specs.HeaderMap.{get_all};
@@ -103,14 +103,16 @@ fn add_cookie(
 }
 
 /// A copy of the first of these cookies that has this name. Returns `NoMemory` where allocation
-/// failed.
+/// failed, which it does not where no cookie has it.
 pub fn cookie_named(
     alloc: Global,
     cookies: &[Cookie],
     name: &str,
 ) -> Result<Option<Cookie>, NoMemory>
-    ensures { IfOk result (λ found.
+    ensures value { IfOk result (λ found.
         found ≡ find (λ cookie. bytes_eq cookie.name name.now) cookies.now) }
+    ensures memory { find (λ cookie. bytes_eq cookie.name name.now) cookies.now ≡ None
+        → IsOk result }
 {
     for cookie in cookies {
         if cookie.name() == name {
