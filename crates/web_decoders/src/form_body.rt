@@ -1,10 +1,12 @@
 //! The collector of a form.
-ghost use Rattle.std.specs.Prelude.{◌≡◌, ◌≤◌, [], false, length, IfOk, OnErr};
+ghost use Rattle.std.specs.Prelude.{◌≡◌, ◌≤◌, [], false, length, IfOk, IsOk, OnErr, codes};
+ghost use Rattle.web_request.specs.MessageFields.{first_content_type};
 ghost use Rattle.web_body.specs.Payload.{payload_feed};
 ghost use Rattle.web_decoders.specs.Decoding.{MeansDecoded};
 ghost use Rattle.web_decoders.specs.FormBodies.{FormAnswer, form_gives, new_form_body};
 ghost use Rattle.web_decoders.specs.FormHeads.{form_head, form_refusal, takes_form};
 ghost use Rattle.web_decoders.specs.LeftPayloads.{left_where, taken_where};
+ghost use Rattle.web_decoders.specs.WrittenTypes.{NeedsNoReading};
 
 use crate::body_decoder::{Decode, Decoding};
 use crate::form_head::FormHead;
@@ -95,7 +97,8 @@ impl<T, S> Model for UrlEncoded<T, S> {
 impl<T: ReadPairs, S: Source> UrlEncoded<T, S> {
     /// Takes the payload of a request, to collect it under the default limit, and tests its head.
     /// The payload is left where the head refuses it as `ContentType` or `UnknownLength`, and where
-    /// allocation failed.
+    /// allocation failed, which it does not where Content-Type is
+    /// `application/x-www-form-urlencoded` as it stands, or absent.
     pub fn new<A: App<Source = S>>(
         alloc: Global,
         req: &HttpRequest<A>,
@@ -107,6 +110,8 @@ impl<T: ReadPairs, S: Source> UrlEncoded<T, S> {
         ensures left { IfOk result (λ b. payload.new
             ≡ left_where (takes_form (form_head req.now.request.head.headers)) payload.old) }
         ensures kept { OnErr result (payload.new ≡ payload.old) }
+        ensures memory { NeedsNoReading (codes "application/x-www-form-urlencoded")
+            (first_content_type req.now.request.head.headers) → IsOk result }
         ensures means { IfOk result (λ b. MeansDecoded (FormAnswer T.reads_pairs 32768) 32768
             (form_refusal b.head 32768)
             (payload_feed S.feed (taken_where (takes_form b.head) payload.old)).marks
@@ -128,6 +133,8 @@ impl<T: ReadPairs, S: Source> UrlEncoded<T, S> {
         ensures left { IfOk result (λ b. payload.new
             ≡ left_where (takes_form (form_head req.now.request.head.headers)) payload.old) }
         ensures kept { OnErr result (payload.new ≡ payload.old) }
+        ensures memory { NeedsNoReading (codes "application/x-www-form-urlencoded")
+            (first_content_type req.now.request.head.headers) → IsOk result }
         ensures means { IfOk result (λ b. MeansDecoded (FormAnswer T.reads_pairs limit) limit
             (form_refusal b.head limit)
             (payload_feed S.feed (taken_where (takes_form b.head) payload.old)).marks

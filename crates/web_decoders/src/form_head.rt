@@ -1,6 +1,8 @@
 //! The tests of a form by the head of its request.
-ghost use Rattle.std.specs.Prelude.{◌≡◌, IfOk, codes};
+ghost use Rattle.std.specs.Prelude.{◌≡◌, IfOk, IsOk, codes};
 ghost use Rattle.std.specs.Str.{str_eq_ignore_ascii_case};
+ghost use Rattle.web_request.specs.MessageFields.{first_content_type};
+ghost use Rattle.web_decoders.specs.WrittenTypes.{NeedsNoReading};
 ghost use Rattle.web_decoders.specs.FormHeads.{form_head, form_length_refusal, form_refusal};
 ghost use Rattle.web_decoders.specs.FormHeads.{is_form_of, takes_form};
 
@@ -24,7 +26,9 @@ pub struct FormHead {
 impl FormHead {
     /// What the head of a request says.
     pub fn of<A: App>(alloc: Global, req: &HttpRequest<A>) -> Result<FormHead, NoMemory>
-        ensures { IfOk result (λ h. h ≡ form_head req.now.request.head.headers) }
+        ensures value { IfOk result (λ h. h ≡ form_head req.now.request.head.headers) }
+        ensures memory { NeedsNoReading (codes "application/x-www-form-urlencoded")
+            (first_content_type req.now.request.head.headers) → IsOk result }
     {
         let is_form = is_form(alloc, req)?;
         let headers = &req.head().headers;
@@ -76,7 +80,9 @@ fn length_refusal(declared: Declared, is_coded: bool, limit: usize) -> Option<Ur
 
 /// Whether the content type is that of a form, and its charset UTF-8.
 fn is_form<A: App>(alloc: Global, req: &HttpRequest<A>) -> Result<bool, NoMemory>
-    ensures { IfOk result (λ b. b ≡ is_form_of req.now.request.head.headers) }
+    ensures value { IfOk result (λ b. b ≡ is_form_of req.now.request.head.headers) }
+    ensures memory { NeedsNoReading (codes "application/x-www-form-urlencoded")
+        (first_content_type req.now.request.head.headers) → IsOk result }
 {
     // The usual spelling takes no memory.
     if is_written(

@@ -1,12 +1,14 @@
 //! The collector of a JSON body.
-ghost use Rattle.std.specs.Prelude.{◌≡◌, ◌≤◌, [], false, length, Ok, IfOk, IfSome, OnErr};
-ghost use Rattle.std.specs.Prelude.{option_copied};
+ghost use Rattle.std.specs.Prelude.{◌≡◌, ◌≤◌, [], false, length, Ok, IfOk, IfSome, IsOk, OnErr};
+ghost use Rattle.std.specs.Prelude.{◌⊎◌, codes, option_copied};
+ghost use Rattle.web_request.specs.MessageFields.{first_content_type};
 ghost use Rattle.web_body.specs.Payload.{payload_feed};
 ghost use Rattle.web_decoders.specs.Decoding.{MeansDecoded};
 ghost use Rattle.web_decoders.specs.JsonBodies.{JsonAnswer, json_gives, new_json_body};
 ghost use Rattle.web_decoders.specs.JsonHeads.{head_under, json_head, json_refusal};
 ghost use Rattle.web_decoders.specs.LeftPayloads.{left_where, taken_where};
 ghost use Rattle.web_decoders.specs.TypePredicates.{ReadsType};
+ghost use Rattle.web_decoders.specs.WrittenTypes.{NeedsNoReading};
 
 use crate::body_decoder::{Decode, Decoding};
 use crate::json_head::{JsonHead, reads_type};
@@ -94,7 +96,9 @@ impl<T, S> Model for JsonBody<T, S> {
 
 impl<T: ReadJson, S: Source> JsonBody<T, S> {
     /// Takes the payload of a request, to collect it under the default limit, and tests its head.
-    /// The payload is left where its media type may not be read, and where allocation failed.
+    /// The payload is left where its media type may not be read, and where allocation failed, which
+    /// it does not where no media type is required, or Content-Type is `application/json` as it
+    /// stands, or absent.
     ///
     /// A Content-Length is compared only where `limit` is called.
     pub fn new<A: App<Source = S>, P: AllowType>(
@@ -112,6 +116,8 @@ impl<T: ReadJson, S: Source> JsonBody<T, S> {
             (json_head b.head.is_read req.now.request.head.headers)) }
         ensures left { IfOk result (λ b. payload.new ≡ left_where b.head.is_read payload.old) }
         ensures kept { OnErr result (payload.new ≡ payload.old) }
+        ensures memory { (ctype_required ≡ false) ⊎ NeedsNoReading (codes "application/json")
+            (first_content_type req.now.request.head.headers) → IsOk result }
         ensures means { IfOk result (λ b. MeansDecoded (JsonAnswer T.reads 2097152) 2097152
             (json_refusal b.head)
             (payload_feed S.feed (taken_where b.head.is_read payload.old)).marks
@@ -141,6 +147,8 @@ impl<T: ReadJson, S: Source> JsonBody<T, S> {
             (head_under limit (json_head b.head.is_read req.now.request.head.headers))) }
         ensures left { IfOk result (λ b. payload.new ≡ left_where b.head.is_read payload.old) }
         ensures kept { OnErr result (payload.new ≡ payload.old) }
+        ensures memory { (ctype_required ≡ false) ⊎ NeedsNoReading (codes "application/json")
+            (first_content_type req.now.request.head.headers) → IsOk result }
         ensures means { IfOk result (λ b. MeansDecoded (JsonAnswer T.reads limit) limit
             (json_refusal b.head)
             (payload_feed S.feed (taken_where b.head.is_read payload.old)).marks

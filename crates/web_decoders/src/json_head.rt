@@ -1,10 +1,12 @@
 //! The tests of a JSON body by the head of its request.
 ghost use Rattle.std.specs.Prelude.{◌≡◌, Ok, false, true};
-ghost use Rattle.std.specs.Prelude.{IfOk, IfSome, option_copied};
+ghost use Rattle.std.specs.Prelude.{IfOk, IfSome, IsOk, codes, option_copied};
 ghost use Rattle.http_header.specs.HeaderMap.{get};
+ghost use Rattle.web_request.specs.MessageFields.{first_content_type};
 ghost use Rattle.web_body.specs.HeadTests.{content_length};
 ghost use Rattle.web_decoders.specs.JsonHeads.{head_under, json_head, json_refusal, length_in};
 ghost use Rattle.web_decoders.specs.TypePredicates.{AllowsBy, ReadsType, is_json_type};
+ghost use Rattle.web_decoders.specs.WrittenTypes.{NeedsNoReading};
 ghost use Rattle.std.specs.Option.{option_and_then};
 
 use crate::type_predicates::AllowType;
@@ -100,6 +102,8 @@ pub fn reads_type<A: App, P: AllowType>(
     ensures value { IfOk result (ReadsType P.allows_type
         (option_copied ctype_fn.entry) ctype_required req.now.request.head.headers) }
     ensures unrequired { ctype_required ≡ false → result ≡ Ok true }
+    ensures memory { NeedsNoReading (codes "application/json")
+        (first_content_type req.now.request.head.headers) → IsOk result }
 {
     if !ctype_required {
         return Ok(true);
