@@ -1,6 +1,6 @@
 -- The steps of a connection, whatever bytes follow.
 use Rattle.std.proofs.Common.{◌≡◌, ℕ, ◌==◌, ◌+◌, ◌<◌, ◌≤◌, inl, inr, Bool, true, false, List, [], ◌∷◌, ◌++◌, length, drop, Option, None, Some, Ok, refl, sym, ap, ◌∙◌, subst, arith, append_assoc, append-nil}
-use Rattle.std.specs.Prelude.{MatchOption, if◌then◌else◌}
+use Rattle.std.specs.Prelude.{MatchOption, if◌then◌else◌, ⊤}
 use Rattle.std.proofs.lemmas.List.{drop-append-le, drop-drop}
 use Rattle.web_reply.specs.ResponseBodies.{Plain}
 use Rattle.web_reply.specs.Replies.{Reply}
@@ -28,7 +28,7 @@ use Rattle.web_http1.specs.declared.ended.Ended.{Ended}
 use Rattle.web_http1.specs.declared.ended.Ended.TheVariants as ended
 use Rattle.web_http1.specs.Answers.{Answer, Behind, IsAnswerTo, MayGoOn, MayStand, Served, answer_bytes, asks_end, is_head, refusal_bytes, replies, sent_answer}
 use Rattle.web_http1.specs.Connections.{AllOpen, ConnectionView, FinishesWith, GoesOn, IsOpen, IsOwnEnd, StepsFrom, StepsTo, WaitsForMore, ended_at, open_at}
-use Rattle.web_http1.specs.ConnectionSteps.{IsKnown, IsReplied, IsServed, IsTurned, RefusedWith, TakesPiece, turned_left, with_piece}
+use Rattle.web_http1.specs.ConnectionSteps.{IsReplied, IsServed, IsTurned, RefusedWith, TakesPiece, turned_left, with_piece}
 use Rattle.web_http1.specs.MessageExchanges.{exchange_of}
 use Rattle.web_http1.specs.ReplyBytes.{Sent, sent_bytes, sent_reply}
 use Rattle.web_http1.proofs.SettingLemmas.{same_back, served_as}
@@ -64,6 +64,12 @@ replied_so m x same asked head closes sent r asked_is head_is sent_is reply_is c
       closes_is ∙ ap (λ (t : Sent). t.closes) whole,
       ap (λ (b : Bool). sent_bytes b sent) (head_is ∙ same_head m x.message same) ∙ ap (sent_bytes (is_head x.message)) whole,
     )
+
+-- a step that does not wait for more bytes
+abbrev pub IsKnown : Turned → Type 0
+IsKnown (turned.Goes used) = ⊤
+IsKnown (turned.Waits p) = ⊥
+IsKnown (turned.Ended e) = ⊤
 
 -- a settled message leaves those behind it
 pub left_behind : (limits : Limits) (left : List ℕ) (m : Message) → IsSettled limits left (next.Message m) → IsNext limits left (next.Message m)

@@ -1,6 +1,6 @@
 -- The steps in which a connection answers the bytes that are left.
 use Rattle.std.specs.Prelude.{◌≡◌, ℕ, ◌-◌, ◌<◌, ◌≤◌, Bool, true, false, List, [], ◌++◌, length}
-use Rattle.std.specs.Prelude.{drop, Option, None, Some, Result, Ok, Err, ⊤}
+use Rattle.std.specs.Prelude.{drop, Option, None, Some, Result, Ok, Err}
 use Rattle.web_texts.specs.declared.memory.NoMemory.{NoMemory}
 use Rattle.web_worker.specs.Setting.{Setting}
 use Rattle.web_messages.specs.Progress.{IsProgress}
@@ -27,12 +27,6 @@ abbrev pub turned_left : Turned → ℕ → ℕ
 turned_left (turned.Goes used) n = n - used
 turned_left (turned.Waits p) n = n
 turned_left (turned.Ended e) n = 0
-
--- it does not wait for more bytes
-abbrev pub IsKnown : Turned → Type 0
-IsKnown (turned.Goes used) = ⊤
-IsKnown (turned.Waits p) = ⊥
-IsKnown (turned.Ended e) = ⊤
 
 module _ {S L D C V E Y U W : Type 0} (s : Setting S L D C V E Y U W) where
   -- The reply to the message was written, and says whether the connection closes; or an allocation

@@ -1,13 +1,13 @@
 //! The replies to the messages of bytes that came.
 ghost use Rattle.std.specs.Prelude.{◌≡◌, ◌+◌, ◌-◌, ◌<◌, ◌≤◌, ◌^◌, drop, length};
-ghost use Rattle.std.specs.Prelude.{List, ℕ};
+ghost use Rattle.std.specs.Prelude.{ℕ};
 ghost use Rattle.web_worker.specs.HandlerPromises.{SamePromises};
 ghost use Rattle.web_worker.specs.PlanPools.{with_records};
-ghost use Rattle.web_messages.specs.Progress.{IsProgress, IsSettled, MayStand};
-ghost use Rattle.web_messages.specs.declared.limits.Limits.{Limits as LimitsOf};
+ghost use Rattle.web_messages.specs.NextMessage.{message_of};
+ghost use Rattle.web_messages.specs.Progress.{IsProgress};
 ghost use Rattle.web_http1.specs.Connections.{AllOpen, FinishesWith};
 ghost use Rattle.web_http1.specs.ConnectionSteps.{IsAnsweredRest, RefusedWith};
-ghost use Rattle.web_http1.specs.ConnectionSteps.{IsKnown, IsReplied, IsServed, IsTurned};
+ghost use Rattle.web_http1.specs.ConnectionSteps.{IsReplied, IsServed, IsTurned};
 ghost use Rattle.web_http1.specs.ConnectionSteps.{open_left, turned_left};
 
 use crate::closing::{asks_end, is_head};
@@ -15,13 +15,14 @@ use crate::ended::Ended;
 use crate::exchange::exchange_of;
 use crate::polled::reply_to;
 use crate::reply::{refusal, sent_reply, write_reply};
+use bytes::Bytes;
 use std::alloc::Global;
 use web_extract::FromRequest;
-use web_messages::{HeadRoom, Limits, Message, Next, Progress, Step, Wrong, read_last, read_on};
+use web_messages::{Head, HeadRoom, Limits, Next, Progress, Step, Wrong, read_last, read_on};
 use web_reply::Responder;
 use web_request::App;
 use web_texts::NoMemory;
-use web_worker::{Handler, Serves, Worker};
+use web_worker::{Flight, Handler, Serves, Worker};
 
 /// What is kept from one message to the next.
 #[derive(Drop)]
@@ -60,13 +61,16 @@ pub(crate) struct AnsweredRest {
     pub(crate) left: Left,
 }
 
-/// Writes the reply to a message, and returns whether it closes the connection.
+/// Writes the reply to a message of this head and this body, and returns whether it closes the
+/// connection.
 fn answer_message<A: App, Args: FromRequest<A>, H: Handler<Args>>(
     alloc: Global,
     worker: &mut Worker<A>,
     handler: &mut H,
     rooms: &mut Rooms,
-    message: Message,
+    flights: &mut Vec<Flight<A, Args, H>>,
+    head: Box<Head>,
+    body: Bytes,
     out: &mut Vec<u8>,
 ) -> Result<bool, NoMemory>
 where
@@ -77,12 +81,20 @@ where
     ensures same_promises { SamePromises (H.answers handler.old) (H.answers handler.new) }
     ensures made { worker.new.made ≤ worker.old.made + 1 }
     ensures kept { worker.new ≡ with_records worker.new.serials worker.new.made worker.old }
-    ensures reply { IsReplied (⟦<H as Serves<A, Args>>⟧.setting handler.old worker.old)
-        message out.old.items out.new.items result }
+    ensures reply { (used : ℕ)
+        → IsReplied (⟦<H as Serves<A, Args>>⟧.setting handler.old worker.old)
+        (message_of head.value body used) out.old.items out.new.items result }
 {
-    let asked = asks_end(&message);
-    let is_head = is_head(&message);
-    let response = reply_to(alloc, worker, handler, exchange_of(alloc, message))?;
+    let parts = &*head;
+    let asked = asks_end(parts);
+    let is_head = is_head(parts);
+    let response = reply_to(
+        alloc,
+        worker,
+        handler,
+        flights,
+        exchange_of(alloc, head, body),
+    )?;
     let reply = sent_reply(alloc, asked, response)?;
     write_reply(alloc, &mut rooms.reply, is_head, &reply, out)?;
     Ok(reply.closes())
@@ -99,13 +111,16 @@ fn refuse(alloc: Global, rooms: &mut Rooms, wrong: Wrong, out: &mut Vec<u8>) -> 
     }
 }
 
-/// Writes the reply to the next message, of so many bytes.
+/// Writes the reply to the next message, which has this head and this body, and so many bytes.
 fn serve_message<A: App, Args: FromRequest<A>, H: Handler<Args>>(
     alloc: Global,
     worker: &mut Worker<A>,
     handler: &mut H,
     rooms: &mut Rooms,
-    message: Message,
+    flights: &mut Vec<Flight<A, Args, H>>,
+    head: Box<Head>,
+    body: Bytes,
+    used: usize,
     out: &mut Vec<u8>,
 ) -> Turned
 where
@@ -117,43 +132,12 @@ where
     ensures made { worker.new.made ≤ worker.old.made + 1 }
     ensures kept { worker.new ≡ with_records worker.new.serials worker.new.made worker.old }
     ensures turned { IsServed (⟦<H as Serves<A, Args>>⟧.setting handler.old worker.old)
-        message out.old.items out.new.items result }
+        (message_of head.value body used) out.old.items out.new.items result }
 {
-    let used = message.used;
-    match answer_message(alloc, worker, handler, rooms, message, out) {
+    match answer_message(alloc, worker, handler, rooms, flights, head, body, out) {
         Ok(true) => Turned::Ended(Ended::Closed),
         Ok(false) => Turned::Goes(used),
         Err(NoMemory) => Turned::Ended(Ended::NoMemory),
-    }
-}
-
-/// Writes what is next, which no byte that follows changes.
-fn serve_known<A: App, Args: FromRequest<A>, H: Handler<Args>>(
-    alloc: Global,
-    worker: &mut Worker<A>,
-    handler: &mut H,
-    next: Next,
-    rooms: &mut Rooms,
-    out: &mut Vec<u8>,
-) -> Turned
-where
-    H::Output: Responder<A>,
-    requires ready { H.ready handler.old }
-    requires room { worker.old.made + 1 < 2 ^ 64 }
-    ensures ready { H.ready handler.new }
-    ensures same_promises { SamePromises (H.answers handler.old) (H.answers handler.new) }
-    ensures made { worker.new.made ≤ worker.old.made + 1 }
-    ensures kept { worker.new ≡ with_records worker.new.serials worker.new.made worker.old }
-    ensures known { IsKnown result }
-    ensures turned { (limits : LimitsOf) (rest : List ℕ) → MayStand next
-        → IsSettled limits rest next
-        → IsTurned (⟦<H as Serves<A, Args>>⟧.setting handler.old worker.old)
-        limits rest out.old.items out.new.items result }
-{
-    match next {
-        Next::Message(message) => serve_message(alloc, worker, handler, rooms, message, out),
-        Next::Refused(wrong) => Turned::Ended(refuse(alloc, rooms, wrong, out)),
-        Next::Closed => Turned::Ended(Ended::Closed),
     }
 }
 
@@ -166,6 +150,7 @@ fn serve_next<A: App, Args: FromRequest<A>, H: Handler<Args>>(
     rest: &[u8],
     progress: Progress,
     rooms: &mut Rooms,
+    flights: &mut Vec<Flight<A, Args, H>>,
     out: &mut Vec<u8>,
 ) -> Turned
 where
@@ -183,7 +168,10 @@ where
 {
     match read_on(alloc, limits, rest, progress, &mut rooms.head) {
         Ok(step) => match step {
-            Step::Next(next) => serve_known(alloc, worker, handler, next, rooms, out),
+            Step::Message(head, body, used) => serve_message(
+                alloc, worker, handler, rooms, flights, head, body, used, out,
+            ),
+            Step::Refused(wrong) => Turned::Ended(refuse(alloc, rooms, wrong, out)),
             Step::Unfinished(progress) => Turned::Waits(progress),
         },
         Err(_) => Turned::Ended(Ended::NoMemory),
@@ -220,6 +208,8 @@ where
 {
     let mut place = start;
     let mut progress = progress;
+    // Room for one flight, which serves each message in turn.
+    let mut flights = Vec::new(alloc);
     'messages: loop {
         match serve_next(
             alloc,
@@ -229,6 +219,7 @@ where
             &buffer[place..],
             progress,
             rooms,
+            &mut flights,
             out,
         ) {
             Turned::Goes(used) => {

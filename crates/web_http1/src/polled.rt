@@ -1,5 +1,5 @@
 //! The reply to one exchange.
-ghost use Rattle.std.specs.Prelude.{◌≡◌, ◌+◌, ◌<◌, ◌≤◌, ◌^◌, ◌∷◌, [], IfOk, ℕ, length};
+ghost use Rattle.std.specs.Prelude.{◌≡◌, ◌+◌, ◌<◌, ◌≤◌, ◌^◌, ◌∷◌, [], IfOk, OnOk, ℕ, length};
 ghost use Rattle.web_reply.specs.ResponseBodies.{Plain, box_plain};
 ghost use Rattle.web_reply.specs.Replies.{Reply, plain_reply};
 ghost use Rattle.web_worker.specs.Exchanges.{ExchangeView, FlightView};
@@ -60,26 +60,25 @@ where
     }
 }
 
-/// A list of one flight that waits.
-fn waiting<A: App, Args: FromRequest<A>, H: Handler<Args>>(
-    alloc: Global,
+/// Puts a flight that waits into the list, as the only one.
+fn put_waiting<A: App, Args: FromRequest<A>, H: Handler<Args>>(
+    flights: &mut Vec<Flight<A, Args, H>>,
     exchange: Exchange<A>,
-) -> Result<Vec<Flight<A, Args, H>>, NoMemory>
-    ensures { IfOk result (λ flights. flights.items ≡ FlightView.Waiting exchange ∷ []) }
+) -> Result<(), NoMemory>
+    ensures { OnOk result (flights.new.items ≡ FlightView.Waiting exchange ∷ []) }
 {
-    let mut flights = Vec::new(alloc);
+    flights.clear();
     flights.push(Flight::new(exchange))?;
-    Ok(flights)
+    Ok(())
 }
 
-/// The reply of the one flight.
+/// Takes the one flight out, and returns its reply.
 fn take_reply<A: App, Args: FromRequest<A>, H: Handler<Args>>(
-    flights: Vec<Flight<A, Args, H>>,
+    flights: &mut Vec<Flight<A, Args, H>>,
 ) -> Result<HttpResponse<BoxBody<A::Source>>, NoMemory>
-    ensures { (r : Reply Plain) → AnsweredBy r flights.items
+    ensures { (r : Reply Plain) → AnsweredBy r flights.old.items
         → IfOk result (λ reply. plain_reply (box_plain A.Source.feed) reply ≡ r) }
 {
-    let mut flights = flights;
     match flights.pop() {
         Some(flight) => match flight.into_outcome() {
             Outcome::Reply(reply) => Ok(reply),
@@ -89,12 +88,13 @@ fn take_reply<A: App, Args: FromRequest<A>, H: Handler<Args>>(
     }
 }
 
-/// The reply to an exchange. `NoMemory` where an allocation failed, or where 2^64 - 1 polls leave
-/// it unanswered.
+/// The reply to an exchange, which is served in the room of `flights`. `NoMemory` where an
+/// allocation failed, or where 2^64 - 1 polls leave it unanswered.
 pub(crate) fn reply_to<A: App, Args: FromRequest<A>, H: Handler<Args>>(
     alloc: Global,
     worker: &mut Worker<A>,
     handler: &mut H,
+    flights: &mut Vec<Flight<A, Args, H>>,
     exchange: Exchange<A>,
 ) -> Result<HttpResponse<BoxBody<A::Source>>, NoMemory>
 where
@@ -110,7 +110,7 @@ where
         → d < 18446744073709551615
         → IfOk result (λ reply. plain_reply (box_plain A.Source.feed) reply ≡ r) }
 {
-    let mut flights = waiting(alloc, exchange)?;
+    put_waiting(flights, exchange)?;
     poll_flight(alloc, worker, handler, flights.as_mut_slice());
     take_reply(flights)
 }

@@ -59,13 +59,13 @@ so_far_longer limit text more bytes at' left s = record {
 
 pub progress_longer : (limits : Limits) (bytes more : List ℕ) (p : Progress) → IsProgress limits bytes p → IsProgress limits (bytes ++ more) p
 progress_longer limits bytes more (progress.Head s) h = search_longer bytes more s h
-progress_longer limits bytes more (progress.Sized head n) h = (found_more limits bytes more head h.0, h.1)
+progress_longer limits bytes more (progress.Sized head n) h = (found_more limits bytes more head.value h.0, h.1)
 progress_longer limits bytes more (progress.Chunked head place content) h = (
-  found_more limits bytes more head h.0,
+  found_more limits bytes more head.value h.0,
   h.1,
   subst (λ (t : List ℕ). IsSoFarAt limits.body t content.items place.at place.left)
-      (sym (drop-append-le head.length bytes more (head_within limits bytes head h.0)))
-      (so_far_longer limits.body (drop head.length bytes) more content.items place.at place.left h.2),
+      (sym (drop-append-le head.value.length bytes more (head_within limits bytes head.value h.0)))
+      (so_far_longer limits.body (drop head.value.length bytes) more content.items place.at place.left h.2),
 )
 
 -- chunks of which none was read
@@ -82,7 +82,7 @@ pub now : (limits : Limits) (bytes : List ℕ) (x : Next) → IsSettled limits b
 now limits bytes x h = subst (λ (t : List ℕ). IsNext limits t x) (append-nil bytes) (h [])
 
 pub head_refused : (limits : Limits) (bytes : List ℕ) → is_blank bytes ≡ false → NeverHasHead limits bytes
-    → ReadsOn limits bytes (step.Next (next.Refused wrong.Head))
+    → ReadsOn limits bytes (step.Refused wrong.Head)
 head_refused limits bytes some never = (tt, λ more. (blank_more bytes more some, never more))
 
 module _ (limits : Limits) (bytes : List ℕ) (head : Head) (h : HeadFound limits bytes head)
@@ -153,11 +153,3 @@ module _ (limit : ℕ) (text content : List ℕ) where
 
 pub so_far_at : {limit : ℕ} {text other bytes : List ℕ} {at' left : ℕ} → text ≡ other → IsSoFarAt limit text bytes at' left → IsSoFarAt limit other bytes at' left
 so_far_at {limit} {text} {other} {bytes} {at'} {left} e s = subst (λ (t : List ℕ). IsSoFarAt limit t bytes at' left) e s
-
--- the message that was made of these parts
-pub known_message : (limits : Limits) (bytes : List ℕ) (head : Head) (m : Message) (content content' : List ℕ) (used : ℕ) → content' ≡ content
-    → m ≡ message_of head content' used → IsSettled limits bytes (next.Message (message_of head content used)) → ReadsOn limits bytes (step.Next (next.Message m))
-known_message limits bytes head m content content' used same is known = (
-  tt,
-  subst (λ (x : Message). IsSettled limits bytes (next.Message x)) (sym (is ∙ ap (λ (c : List ℕ). message_of head c used) same)) known,
-)

@@ -68,7 +68,7 @@ pub record Takes (name target : List ℕ) (fields : List FieldPair) : Type 0 whe
 -- the head of these parts, or that they do not take all of them
 abbrev pub HeadOf : List ℕ → List ℕ → ℕ → List FieldPair → ℕ → HeadRead → Type 0
 HeadOf name target minor fields size (read.Head head) =
-    IsHeadOf name target minor fields size head
+    IsHeadOf name target minor fields size head.value
 HeadOf name target minor fields size read.Refused = ¬ (Takes name target fields)
 HeadOf name target minor fields size read.Unfinished = ⊥
 

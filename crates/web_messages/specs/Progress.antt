@@ -17,7 +17,7 @@ use Rattle.web_messages.specs.declared.progress.Step.TheVariants as step
 use Rattle.web_messages.specs.Chunking.{IsSoFarAt}
 use Rattle.web_messages.specs.EmptyLines.{BeginsBlank, is_blank}
 use Rattle.web_messages.specs.Heads.{Begins}
-use Rattle.web_messages.specs.NextMessage.{IsNext, framing_in}
+use Rattle.web_messages.specs.NextMessage.{IsNext, framing_in, message_of}
 
 -- the first bytes are CR or LF, and each head in the bytes ends behind those that were searched
 pub record IsSearch (bytes : List ℕ) (s : Search) : Type 0 where
@@ -36,10 +36,10 @@ pub record HeadFound (limits : Limits) (bytes : List ℕ) (head : Head) : Type 0
 abbrev pub IsProgress : Limits → List ℕ → Progress → Type 0
 IsProgress limits bytes (progress.Head s) = IsSearch bytes s
 IsProgress limits bytes (progress.Sized head n) =
-    HeadFound limits bytes head × (framing_in head ≡ framing.Length n)
+    HeadFound limits bytes head.value × (framing_in head.value ≡ framing.Length n)
 IsProgress limits bytes (progress.Chunked head place body) =
-    HeadFound limits bytes head × (framing_in head ≡ framing.Chunked)
-    × IsSoFarAt limits.body (drop head.length bytes) body.items place.at place.left
+    HeadFound limits bytes head.value × (framing_in head.value ≡ framing.Chunked)
+    × IsSoFarAt limits.body (drop head.value.length bytes) body.items place.at place.left
 
 -- what is next where no byte follows
 abbrev pub next_at_end : Progress → ℕ → Next
@@ -65,14 +65,17 @@ MayStand (next.Refused wrong.Cut) = ⊥
 -- what is known: the next message whatever follows; or how far it was read, and what it is where
 -- nothing follows, which is no message and no refusal that stands
 abbrev pub ReadsOn : Limits → List ℕ → Step → Type 0
-ReadsOn limits bytes (step.Next x) = MayStand x × IsSettled limits bytes x
+ReadsOn limits bytes (step.Message head content used) =
+    IsSettled limits bytes (next.Message (message_of head.value content used))
+ReadsOn limits bytes (step.Refused w) =
+    MayStand (next.Refused w) × IsSettled limits bytes (next.Refused w)
 ReadsOn limits bytes (step.Unfinished p) =
     IsProgress limits bytes p × IsNext limits bytes (next_at_end p (length bytes))
 
 -- a refusal of a body: what ends inside may go on
 abbrev pub stopped : Wrong → Progress → Step
 stopped wrong.Cut p = step.Unfinished p
-stopped wrong.Head p = step.Next (next.Refused wrong.Head)
-stopped wrong.Length p = step.Next (next.Refused wrong.Length)
-stopped wrong.TooLarge p = step.Next (next.Refused wrong.TooLarge)
-stopped wrong.Chunk p = step.Next (next.Refused wrong.Chunk)
+stopped wrong.Head p = step.Refused wrong.Head
+stopped wrong.Length p = step.Refused wrong.Length
+stopped wrong.TooLarge p = step.Refused wrong.TooLarge
+stopped wrong.Chunk p = step.Refused wrong.Chunk

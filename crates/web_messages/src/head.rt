@@ -38,7 +38,7 @@ pub struct Head {
 #[derive(Drop)]
 pub enum HeadRead {
     /// A head within the limits.
-    Head(Head),
+    Head(Box<Head>),
     /// No head within the limits whose parts are taken, whatever bytes follow.
     Refused,
     /// No head yet, and there is room for more of it.
@@ -142,13 +142,17 @@ fn head_of(
     let _ = headers.reserve(spans.len());
     let taken = add_fields(alloc, text, spans, &mut headers)?;
     if taken {
-        Ok(HeadRead::Head(Head {
+        let head = Head {
             method,
             uri,
             version: version_of(found.version),
             headers,
             length: found.len,
-        }))
+        };
+        match Box::new(alloc, head) {
+            Ok(head) => Ok(HeadRead::Head(head)),
+            Err(_) => Err(NoMemory),
+        }
     } else {
         Ok(HeadRead::Refused)
     }

@@ -34,16 +34,18 @@ pub enum Progress {
     /// Its head was looked for.
     Head(Search),
     /// Its head was read; its body has so many bytes.
-    Sized(Head, u64),
+    Sized(Box<Head>, u64),
     /// Its head was read, and the chunks of its body up to a place, which have these bytes.
-    Chunked(Head, Place, Vec<u8>),
+    Chunked(Box<Head>, Place, Vec<u8>),
 }
 
 /// What is known of the next message.
 #[derive(Drop)]
 pub enum Step {
-    /// It is known, whatever bytes follow.
-    Next(Next),
+    /// It has this head and this body, and so many bytes in all, whatever bytes follow.
+    Message(Box<Head>, Bytes, usize),
+    /// None is taken, whatever bytes follow.
+    Refused(Wrong),
     /// More bytes decide.
     Unfinished(Progress),
 }
@@ -82,7 +84,7 @@ fn stopped(wrong: Wrong, progress: Progress) -> Step
 {
     match wrong {
         Wrong::Cut => Step::Unfinished(progress),
-        _ => Step::Next(Next::Refused(wrong)),
+        _ => Step::Refused(wrong),
     }
 }
 
@@ -91,18 +93,14 @@ fn read_sized_on(
     alloc: Global,
     limits: &Limits,
     bytes: &[u8],
-    head: Head,
+    head: Box<Head>,
     length: u64,
 ) -> Result<Step, NoMemory>
     requires { IsProgress limits.now bytes.now (progress.Sized head length) }
     ensures { IfOk result (ReadsOn limits.now bytes.now) }
 {
     match read_sized(alloc, limits.body, length, &bytes[head.length..])? {
-        BodyRead::Body(body, left) => Ok(Step::Next(Next::Message(message_of(
-            head,
-            body,
-            bytes.len() - left,
-        )))),
+        BodyRead::Body(body, left) => Ok(Step::Message(head, body, bytes.len() - left)),
         BodyRead::Refused(wrong) => Ok(stopped(wrong, Progress::Sized(head, length))),
     }
 }
@@ -111,7 +109,7 @@ fn read_sized_on(
 fn read_chunked_on(
     limits: &Limits,
     bytes: &[u8],
-    head: Head,
+    head: Box<Head>,
     place: Place,
     body: Vec<u8>,
 ) -> Result<Step, NoMemory>
@@ -124,17 +122,22 @@ fn read_chunked_on(
         Chunked::Body(rest) => {
             let used = bytes.len() - rest.len();
             let body = Bytes::from_vec(body)?;
-            Ok(Step::Next(Next::Message(message_of(head, body, used))))
+            Ok(Step::Message(head, body, used))
         }
-        Chunked::TooLarge => Ok(Step::Next(Next::Refused(Wrong::TooLarge))),
+        Chunked::TooLarge => Ok(Step::Refused(Wrong::TooLarge)),
         Chunked::Unfinished => Ok(Step::Unfinished(Progress::Chunked(head, place, body))),
-        Chunked::Wrong => Ok(Step::Next(Next::Refused(Wrong::Chunk))),
+        Chunked::Wrong => Ok(Step::Refused(Wrong::Chunk)),
     }
 }
 
 /// Begins the body behind a head.
-fn read_body(alloc: Global, limits: &Limits, bytes: &[u8], head: Head) -> Result<Step, NoMemory>
-    requires { HeadFound limits.now bytes.now head }
+fn read_body(
+    alloc: Global,
+    limits: &Limits,
+    bytes: &[u8],
+    head: Box<Head>,
+) -> Result<Step, NoMemory>
+    requires { HeadFound limits.now bytes.now head.value }
     ensures { IfOk result (ReadsOn limits.now bytes.now) }
 {
     match framing_of(&head.headers) {
@@ -146,7 +149,7 @@ fn read_body(alloc: Global, limits: &Limits, bytes: &[u8], head: Head) -> Result
             };
             read_chunked_on(limits, bytes, head, place, Vec::new(alloc))
         }
-        Framing::Refused => Ok(Step::Next(Next::Refused(Wrong::Length))),
+        Framing::Refused => Ok(Step::Refused(Wrong::Length)),
     }
 }
 
@@ -189,7 +192,7 @@ fn read_head_on(
     }
     match read_head(alloc, limits, bytes, room)? {
         HeadRead::Head(head) => read_body(alloc, limits, bytes, head),
-        HeadRead::Refused => Ok(Step::Next(Next::Refused(Wrong::Head))),
+        HeadRead::Refused => Ok(Step::Refused(Wrong::Head)),
         HeadRead::Unfinished => Ok(Step::Unfinished(progress)),
     }
 }
@@ -228,7 +231,11 @@ pub fn read_last(
     ensures { IfOk result (IsNext limits.now bytes.now) }
 {
     match read_on(alloc, limits, bytes, progress, room)? {
-        Step::Next(next) => Ok(next),
+        Step::Message(head, body, used) => {
+            let message = message_of(Box::into_inner(head), body, used);
+            Ok(Next::Message(message))
+        }
+        Step::Refused(wrong) => Ok(Next::Refused(wrong)),
         Step::Unfinished(progress) => Ok(progress.at_end(bytes.len())),
     }
 }

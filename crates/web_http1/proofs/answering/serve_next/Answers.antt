@@ -1,23 +1,40 @@
 use Rattle.std.proofs.Common.{refl, arith}
+use Rattle.web_messages.specs.NextMessage.{message_of}
+use Rattle.web_messages.specs.declared.message.Next.TheVariants as next
 use Rattle.web_worker.specs.Setting.{setting_of}
-use Rattle.web_http1.proofs.ConnectionLemmas.{all_open, fewer_left, some_rest}
+use Rattle.web_http1.proofs.ConnectionLemmas.{all_open, fewer_left, refused_steps, served_known, served_turns, some_rest}
 use Rattle.web_http1.proofs.answering.serve_next.Goals as goal
 
-pub serve_known-requires-clause-room : goal.serve_known-requires-clause-room
-serve_known-requires-clause-room g c =
-    let known = rw c.in-Next.is at c.in-Ok.ensures in
-    let some = some_rest c.args.limits.now c.args.rest.now c.in-Next.next known.0 known.1 in
+pub serve_message-requires-clause-room : goal.serve_message-requires-clause-room
+serve_message-requires-clause-room g c =
+    let known = rw c.in-Message.is at c.in-Ok.ensures in
+    let some = some_rest c.args.limits.now c.args.rest.now (next.Message (message_of c.in-Message.head.value c.in-Message.body c.in-Message.used)) tt known in
     let room = c.requires.room in
     omega (arith, some, room)
 
-pub returns-in-Next-clause-made : goal.returns-in-Next-clause-made
-returns-in-Next-clause-made g c =
+pub returns-in-Message-clause-made : goal.returns-in-Message-clause-made
+returns-in-Message-clause-made g c =
     let s = setting_of g.Args.FromRequest.means g.Args.Error.Into.converts (g.H.Handler.answers c.args.handler.now) g.H.Output.Responder.responds g.A.Source.Source.feed g.Args.Future.Poll.gives g.H.Future.Poll.gives c.args.worker.now in
-    let known = rw c.in-Next.is at c.in-Ok.ensures in
-    let some = some_rest c.args.limits.now c.args.rest.now c.in-Next.next known.0 known.1 in
-    fewer_left s c.args.limits.now c.args.rest.now c.args.out.now.items c.serve_known.new.out.items c.serve_known.result c.args.worker.now.made
-    c.serve_known.new.worker.made c.serve_known.ensures.known (c.serve_known.ensures.turned c.args.limits.now c.args.rest.now known.0 known.1) some
-    c.serve_known.ensures.made
+    let known = rw c.in-Message.is at c.in-Ok.ensures in
+    let m = message_of c.in-Message.head.value c.in-Message.body c.in-Message.used in
+    let some = some_rest c.args.limits.now c.args.rest.now (next.Message m) tt known in
+    fewer_left s c.args.limits.now c.args.rest.now c.args.out.now.items c.serve_message.new.out.items c.serve_message.result c.args.worker.now.made
+    c.serve_message.new.worker.made (served_known s m c.args.out.now.items c.serve_message.new.out.items c.serve_message.result c.serve_message.ensures.turned)
+    (served_turns s c.args.limits.now c.args.rest.now m c.args.out.now.items c.serve_message.new.out.items c.serve_message.result known c.serve_message.ensures.turned)
+    some c.serve_message.ensures.made
+
+pub returns-in-Message-clause-turned : goal.returns-in-Message-clause-turned
+returns-in-Message-clause-turned g c =
+    let s = setting_of g.Args.FromRequest.means g.Args.Error.Into.converts (g.H.Handler.answers c.args.handler.now) g.H.Output.Responder.responds g.A.Source.Source.feed g.Args.Future.Poll.gives g.H.Future.Poll.gives c.args.worker.now in
+    let known = rw c.in-Message.is at c.in-Ok.ensures in
+    let m = message_of c.in-Message.head.value c.in-Message.body c.in-Message.used in
+    served_turns s c.args.limits.now c.args.rest.now m c.args.out.now.items c.serve_message.new.out.items c.serve_message.result known c.serve_message.ensures.turned
+
+pub returns-in-Refused-clause-turned : goal.returns-in-Refused-clause-turned
+returns-in-Refused-clause-turned g c =
+    let s = setting_of g.Args.FromRequest.means g.Args.Error.Into.converts (g.H.Handler.answers c.args.handler.now) g.H.Output.Responder.responds g.A.Source.Source.feed g.Args.Future.Poll.gives g.H.Future.Poll.gives c.args.worker.now in
+    let known = rw c.in-Refused.is at c.in-Ok.ensures in
+    refused_steps s c.args.limits.now c.args.rest.now c.in-Refused.wrong c.refuse.result c.args.out.now.items c.refuse.new.out.items known.0 known.1 c.refuse.ensures
 
 pub returns-in-Unfinished-clause-turned : goal.returns-in-Unfinished-clause-turned
 returns-in-Unfinished-clause-turned g c =

@@ -4,6 +4,6 @@ use Rattle.web_http1.proofs.polled.reply_to.Goals as goal
 
 pub returns-clause-reply : goal.returns-clause-reply
 returns-clause-reply g c = λ d r once few.
-    let size : c.in_ok-flights.flights.len ≡ length c.poll_flight.new.flights = sym (c.poll_flight.auto.flights ∙ c.as_mut_slice.ensures.len) in
-    let back = lent_back c.in_ok-flights.flights.len c.poll_flight.new.flights (drop (length c.poll_flight.new.flights) c.in_ok-flights.flights.items) size in
-    c.take_reply.ensures r (rw back (c.poll_flight.ensures.answered c.args.exchange d r (c.as_mut_slice.ensures.value ∙ c.in_ok-flights.ensures) once few))
+    let size : c.put_waiting.new.flights.len ≡ length c.poll_flight.new.flights = sym (c.poll_flight.auto.flights ∙ c.as_mut_slice.ensures.len) in
+    let back = lent_back c.put_waiting.new.flights.len c.poll_flight.new.flights (drop (length c.poll_flight.new.flights) c.put_waiting.new.flights.items) size in
+    c.take_reply.ensures r (rw back (c.poll_flight.ensures.answered c.args.exchange d r (c.as_mut_slice.ensures.value ∙ c.in_ok-put_waiting.ensures) once few))
