@@ -1,34 +1,27 @@
 -- Reading on: what is known of the next message, and that it holds of more bytes too.
-use Rattle.std.proofs.Common.{◌≡◌, ℕ, inl, inr, ◌+◌, ◌-◌, ◌<◌, ◌≤◌, ◌==◌, Bool, true, false, List, [], ◌∷◌, ◌++◌, length, take, drop, refl, sym, ap, ◌∙◌, subst, arith, append-nil, length-append, length-drop, if◌then◌else◌, Vec, Global}
+use Rattle.std.proofs.Common.{◌≡◌, ℕ, inl, inr, ◌+◌, ◌<◌, ◌≤◌, ◌==◌, Bool, true, false, List, [], ◌++◌, length, drop, refl, sym, ap, subst, arith, append-nil, length-append, if◌then◌else◌}
 use Rattle.std.specs.Borrow.{Bor}
 use Rattle.std.proofs.lemmas.List.{drop-append-le}
 use Rattle.std.proofs.lemmas.Bool.Decides.{eqb_tells}
 use Rattle.httparse.specs.Grammar.{HasNoRequest, print_request}
-use Rattle.web_messages.specs.declared.chunked.Chunked.{Chunked}
 use Rattle.web_messages.specs.declared.chunked.Chunked.TheVariants as chunked
-use Rattle.web_messages.specs.declared.chunked.Place.{Place}
 use Rattle.web_messages.specs.declared.framing.Framing.{Framing}
-use Rattle.web_messages.specs.declared.framing.Framing.TheVariants as framing
 use Rattle.web_messages.specs.declared.head.Head.{Head}
 use Rattle.web_messages.specs.declared.limits.Limits.{Limits}
 use Rattle.web_messages.specs.declared.limits.Wrong.{Wrong}
 use Rattle.web_messages.specs.declared.limits.Wrong.TheVariants as wrong
 use Rattle.web_messages.specs.declared.message.BodyRead.TheVariants as body
-use Rattle.web_messages.specs.declared.message.Message.{Message}
 use Rattle.web_messages.specs.declared.message.Next.{Next}
 use Rattle.web_messages.specs.declared.message.Next.TheVariants as next
 use Rattle.web_messages.specs.declared.progress.Progress.{Progress}
 use Rattle.web_messages.specs.declared.progress.Progress.TheVariants as progress
-use Rattle.web_messages.specs.declared.progress.Search.{Search}
 use Rattle.web_messages.specs.declared.progress.Step.TheVariants as step
 use Rattle.web_messages.specs.Chunking.{IsChunked, IsSoFar, IsSoFarAt}
 use Rattle.web_messages.specs.EmptyLines.{BlankFront, is_blank}
 use Rattle.web_messages.specs.HeadReadings.{NeverHasHead}
-use Rattle.web_messages.specs.Heads.{HasNoHead}
 use Rattle.web_messages.specs.NextMessage.{BodyIs, ChunkedBodyIs, IsFinal, IsNext, framing_in, message_of}
-use Rattle.web_messages.specs.Progress.{HeadFound, IsProgress, IsSearch, IsSettled, ReadsOn, next_at_end, stopped}
+use Rattle.web_messages.specs.Progress.{HeadFound, IsProgress, IsSettled, ReadsOn, next_at_end, stopped}
 use Rattle.web_messages.proofs.ChunkLemmas.{so_far_more, at_start}
-use Rattle.web_messages.proofs.HeadLemmas.{behind_head}
 use Rattle.web_messages.proofs.MoreLemmas.{begins_more, blank_more, message_stays, refused_stays}
 use Rattle.web_messages.proofs.NextLemmas.{left_fits, message_next, not_head, refused_next}
 use Rattle.web_messages.proofs.SearchLemmas.{all_blank, blank_no_head, search_longer, searched_all, some_behind}

@@ -1,5 +1,4 @@
-use Rattle.std.proofs.Common.{◌≡◌, length, take, refl, sym, subst, arith}
-use Rattle.web_messages.specs.HeadReadings.{IsHeadRead}
+use Rattle.std.proofs.Common.{◌≡◌, length, take, refl, arith}
 use Rattle.web_messages.proofs.HeadLemmas.{IsFront, if_ok_map}
 use Rattle.web_messages.proofs.HeadReadLemmas.{found_head_in, full_read, head_of_copy}
 use Rattle.web_messages.proofs.head.find_head.Goals as goal

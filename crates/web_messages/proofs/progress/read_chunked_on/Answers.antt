@@ -1,4 +1,4 @@
-use Rattle.std.proofs.Common.{◌-◌, ◌∙◌, ℕ, List, ap, drop, length, refl, sym, subst, arith}
+use Rattle.std.proofs.Common.{◌-◌, ◌∙◌, ℕ, List, ap, drop, length, sym, subst, arith}
 use Rattle.std.proofs.lemmas.List.{take_rest}
 use Rattle.web_messages.specs.declared.framing.Framing.TheVariants as framing
 use Rattle.web_messages.specs.declared.head.Head.{Head}

@@ -1,4 +1,4 @@
-use Rattle.std.proofs.Common.{◌<◌, length, arith}
+use Rattle.std.proofs.Common.{arith}
 use Rattle.web_messages.proofs.ProgressLemmas.{blank_step, head_refused, open_step}
 use Rattle.web_messages.proofs.SearchLemmas.{some_behind}
 use Rattle.web_messages.proofs.progress.read_head_on.Goals as goal
