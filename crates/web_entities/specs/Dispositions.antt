@@ -1,6 +1,6 @@
 -- Content-Disposition (RFC 6266, section 4).
 use Rattle.std.specs.Prelude.{ℕ, ◌-◌, ◌==◌, ◌||◌, List, [], ◌∷◌, length, take, drop}
-use Rattle.std.specs.Prelude.{slice_index, codes, Option, None, Some, if◌then◌else◌}
+use Rattle.std.specs.Prelude.{slice_index, codes, Option, None, Some, if◌then◌else◌, ⊤}
 use Rattle.std.specs.Option.{option_map, option_and_then}
 use Rattle.std.specs.Str.{bytes_eq, str_eq_ignore_ascii_case, is_utf8}
 use Rattle.web_texts.specs.Blanks.{trimmed}
@@ -67,6 +67,13 @@ type_of name =
     else if str_eq_ignore_ascii_case name (codes "attachment") then kind.Attachment
     else if str_eq_ignore_ascii_case name (codes "form-data") then kind.FormData
     else kind.Ext name
+
+-- a type that is known, in which no text is kept
+abbrev pub IsKnown : DispositionType → Type 0
+IsKnown kind.Inline = ⊤
+IsKnown kind.Attachment = ⊤
+IsKnown kind.FormData = ⊤
+IsKnown (kind.Ext name) = ⊥
 
 abbrev pub parts_or_all : List ℕ → Option (List ℕ × List ℕ) → List ℕ × List ℕ
 parts_or_all text None = (text, [])

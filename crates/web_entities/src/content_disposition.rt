@@ -1,5 +1,5 @@
 //! Content-Disposition.
-ghost use Rattle.std.specs.Prelude.{◌≡◌, IfOk};
+ghost use Rattle.std.specs.Prelude.{◌≡◌, IfOk, IsOk};
 ghost use Rattle.std.specs.Option.{option_map, option_copied};
 ghost use Rattle.http_header.specs.HeaderMap.{get_all};
 ghost use Rattle.web_texts.specs.Cut.{split_once};
@@ -7,7 +7,7 @@ ghost use Rattle.web_texts.specs.TextReaders.{Reads};
 ghost use Rattle.web_texts.specs.HeaderTexts.{value_bytes};
 ghost use Rattle.web_entities.specs.Dispositions.{type_of, typed_disposition, disposition_of};
 ghost use Rattle.web_entities.specs.Dispositions.{raw_disposition_of, parts_or_all};
-ghost use Rattle.web_entities.specs.Dispositions.{first_disposition, attachment_of};
+ghost use Rattle.web_entities.specs.Dispositions.{IsKnown, first_disposition, attachment_of};
 ghost use Rattle.web_entities.specs.DispositionParts as part;
 
 use crate::disposition_param::{
@@ -49,9 +49,10 @@ pub struct ContentDisposition {
 }
 
 impl DispositionType {
-    /// The type of this name.
+    /// The type of this name. One that is known takes no memory.
     pub fn of(alloc: Global, name: &str) -> Result<Self, NoMemory>
-        ensures { IfOk result (λ made. made ≡ type_of name.now) }
+        ensures value { IfOk result (λ made. made ≡ type_of name.now) }
+        ensures memory { IsKnown (type_of name.now) → IsOk result }
     {
         if name.eq_ignore_ascii_case("inline") {
             return Ok(DispositionType::Inline);

@@ -59,7 +59,7 @@ pub fn read_pair(first: &str, last: &str) -> Option<(u64, u64)>
 
 impl ReadText for ByteRangeSpec {
     ghost use Rattle.web_texts.specs.TextReaders.{Reads};
-    ghost use Rattle.web_headers.specs.TypedHeaders.{NeverNoMemory};
+    ghost use Rattle.web_texts.specs.TextReaders.{NeverNoMemory};
     ghost use Rattle.web_entities.specs.ByteRanges.{byte_range_of};
 
     ghost reads = { byte_range_of };

@@ -4,12 +4,6 @@ use Rattle.http_header.specs.FieldValue.{FieldValue, IsFieldValue}
 use Rattle.web_texts.specs.declared.memory.Fail.{Fail}
 use Rattle.web_texts.specs.declared.memory.Fail.TheVariants as fail
 
--- no failed allocation
-abbrev pub NeverNoMemory : {T E : Type 0} → Result T (Fail E) → Type 0
-NeverNoMemory (Ok x) = Unit {0}
-NeverNoMemory (Err fail.NoMemory) = ⊥
-NeverNoMemory (Err (fail.Of e)) = Unit {0}
-
 -- Ok with what the values say, or an error of the reader's own where they say nothing; allocation
 -- may always fail.
 abbrev pub ReadsAs : {T E : Type 0} → (Option T → Type 0) → Result T (Fail E) → Type 0

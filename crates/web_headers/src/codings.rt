@@ -112,7 +112,7 @@ fn known_coding(text: &str) -> Option<ContentEncoding>
 impl ReadText for Encoding {
     ghost use Rattle.std.specs.Prelude.{IfSome};
     ghost use Rattle.web_texts.specs.TextReaders.{Reads};
-    ghost use Rattle.web_headers.specs.TypedHeaders.{NeverNoMemory};
+    ghost use Rattle.web_texts.specs.TextReaders.{NeverNoMemory};
     ghost use Rattle.web_headers.specs.Codings.{encoding_of, known_coding as known_spec};
 
     ghost reads = { encoding_of };

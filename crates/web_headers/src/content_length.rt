@@ -44,7 +44,7 @@ impl From<ContentLength> for usize {
 impl ReadText for ContentLength {
     ghost use Rattle.std.specs.Option.{option_map};
     ghost use Rattle.web_texts.specs.TextReaders.{Reads};
-    ghost use Rattle.web_headers.specs.TypedHeaders.{NeverNoMemory};
+    ghost use Rattle.web_texts.specs.TextReaders.{NeverNoMemory};
     ghost use Rattle.web_headers.specs.ValueHeaders.{length_of};
 
     ghost reads = { λ text. option_map (λ n. record { 0 = n }) (length_of text) };
@@ -68,7 +68,8 @@ impl Header for ContentLength {
     ghost use Rattle.std.specs.Option.{option_map};
     ghost use Rattle.http_header.specs.HeaderMap.{get_all};
     ghost use Rattle.web_texts.specs.HeaderTexts.{value_bytes};
-    ghost use Rattle.web_headers.specs.TypedHeaders.{ReadsAs, NeverNoMemory};
+    ghost use Rattle.web_texts.specs.TextReaders.{NeverNoMemory};
+    ghost use Rattle.web_headers.specs.TypedHeaders.{ReadsAs};
     ghost use Rattle.web_headers.specs.ValueHeaders.{content_length_of};
 
     ghost says = { λ values said.

@@ -96,7 +96,8 @@ impl TryIntoHeaderValue for Vec<u8> {
 
 impl TryIntoHeaderValue for Bytes {
     ghost use Rattle.http_header.specs.FieldValue.{plain_value};
-    ghost use Rattle.web_headers.specs.TypedHeaders.{GivesValue, NeverNoMemory};
+    ghost use Rattle.web_texts.specs.TextReaders.{NeverNoMemory};
+    ghost use Rattle.web_headers.specs.TypedHeaders.{GivesValue};
 
     ghost value = { λ bytes. plain_value bytes };
 

@@ -19,7 +19,8 @@ impl Header for IfUnmodifiedSince {
     ghost use Rattle.http_header.specs.HeaderMap.{get_all};
     ghost use Rattle.web_headers.specs.DateHeaders.{ValuesSayDate};
     ghost use Rattle.web_texts.specs.HeaderTexts.{value_bytes};
-    ghost use Rattle.web_headers.specs.TypedHeaders.{ReadsAs, NeverNoMemory};
+    ghost use Rattle.web_texts.specs.TextReaders.{NeverNoMemory};
+    ghost use Rattle.web_headers.specs.TypedHeaders.{ReadsAs};
 
     ghost says = { ValuesSayDate (λ header. header.0) };
 

@@ -58,7 +58,7 @@ impl<T: ReadText + Drop> ReadText for Preference<T> {
     ghost use Rattle.std.specs.Str.{bytes_eq};
     ghost use Rattle.web_texts.specs.Blanks.{trimmed};
     ghost use Rattle.web_texts.specs.TextReaders.{Reads};
-    ghost use Rattle.web_headers.specs.TypedHeaders.{NeverNoMemory};
+    ghost use Rattle.web_texts.specs.TextReaders.{NeverNoMemory};
     ghost use Rattle.web_headers.specs.Preferences.{preference_of};
 
     ghost reads = { preference_of T.reads };

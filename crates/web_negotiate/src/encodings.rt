@@ -1,5 +1,5 @@
 //! Choices among the codings of Accept-Encoding.
-ghost use Rattle.std.specs.Prelude.{◌≡◌, List, IfOk};
+ghost use Rattle.std.specs.Prelude.{◌≡◌, ◌⊎◌, List, [], IfOk, IsOk};
 ghost use Rattle.std.specs.List.{list_any};
 ghost use Rattle.web_headers.specs.declared.codings.Encoding.{Encoding as AnyEncoding};
 ghost use Rattle.web_texts.specs.declared.quality_item.QualityItem.{QualityItem as Weighted};
@@ -142,9 +142,11 @@ pub trait AcceptEncodingChoices {
 
     /// The coding that is preferred: `Any` where the header is empty; else the first item of the
     /// greatest quality above zero and, at equal quality, of the greatest class, as `ranked` says.
-    /// Where there is none, `None` if `*` or identity is named, and else identity.
+    /// Where there is none, `None` if `*` or identity is named, and else identity. That of an
+    /// empty header takes no memory.
     fn preference(&self, alloc: Global) -> Result<Option<Preference<Encoding>>, NoMemory>
-        ensures { IfOk result (IsCodingPreference (items self.now)) };
+        ensures value { IfOk result (IsCodingPreference (items self.now)) }
+        ensures memory { items self.now ≡ [] → IsOk result };
 
     /// The codings by quality, the greatest first. At equal quality above zero they come in the
     /// order brotli, zstd, gzip, deflate, unknown ones, identity and `*`; equal ones keep their
@@ -156,9 +158,10 @@ pub trait AcceptEncodingChoices {
     /// quality above zero and is supported; else identity where it is acceptable, supported or
     /// not; else `None`. Identity is acceptable where it is named with a quality above zero, or is
     /// not named and `*` has such a quality or is not there. An empty header gives identity, and
-    /// `None` is given where nothing is supported.
+    /// `None` is given where nothing is supported; neither takes memory.
     fn negotiate(&self, alloc: Global, supported: &[Encoding]) -> Result<Option<Encoding>, NoMemory>
-        ensures { IfOk result (IsNegotiated (items self.now) supported.now) };
+        ensures value { IfOk result (IsNegotiated (items self.now) supported.now) }
+        ensures memory { (items self.now ≡ []) ⊎ (supported.now ≡ []) → IsOk result };
 }
 
 fn or_identity(items: &[Coding]) -> Option<Preference<Encoding>>

@@ -7,6 +7,7 @@ ghost use Rattle.web_reply.specs.Replies.{Reply, after_giving, default_reply, gi
 ghost use Rattle.web_reply.specs.Replies.{fault_of};
 ghost use Rattle.web_reply.specs.declared.body.WholeBody.{WholeBody};
 ghost use Rattle.web_reply.specs.declared.cause.Cause.TheVariants.{Several};
+ghost use Rattle.web_reply.specs.declared.prepared.Prepared.TheVariants.{Never};
 
 use crate::body::WholeBody;
 use crate::cause::{Cause, HttpError, IoKind};
@@ -188,11 +189,13 @@ impl Error {
     }
 
     /// The reply: a prepared one once, then an empty 500; where none was prepared, that to the
-    /// cause. Where allocation fails, the error is unchanged.
+    /// cause. Where allocation fails, the error is unchanged; a prepared one and the empty 500
+    /// take no memory.
     pub fn error_response(&mut self, alloc: Global) -> Result<HttpResponse<WholeBody>, NoMemory>
         ensures value { IfOk result (λ reply. reply ≡ given_reply self.old) }
         ensures after { OnOk result (self.new ≡ after_giving self.old) }
         ensures kept { OnErr result (self.new ≡ self.old) }
+        ensures memory { OnErr result (self.old.prepared ≡ Never) }
     {
         match self.prepared.give() {
             Prepared::Never => self.cause.error_response(alloc),
@@ -201,13 +204,14 @@ impl Error {
         }
     }
 
-    /// The errors as one. A single error is given back as it is. Of two or more the cause is
-    /// `Cause::Several`: the status and the text of each cause in order, where a cause that is
-    /// `Several` itself stands by its own. Nothing is kept of replies that were prepared and of
-    /// mappers.
+    /// The errors as one. A single error is given back as it is, which takes no memory. Of two or
+    /// more the cause is `Cause::Several`: the status and the text of each cause in order, where a
+    /// cause that is `Several` itself stands by its own. Nothing is kept of replies that were
+    /// prepared and of mappers.
     pub fn join(alloc: Global, mut errors: Vec<Error>) -> Result<Error, NoMemory>
         requires some { 0 < length errors.items }
-        ensures { IfOk result (λ error. join errors.items ≡ Some error) }
+        ensures value { IfOk result (λ error. join errors.items ≡ Some error) }
+        ensures memory { OnErr result (1 < length errors.items) }
     {
         if errors.len() > 1 {
             return join_all(alloc, errors);

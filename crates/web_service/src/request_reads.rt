@@ -1,5 +1,5 @@
 //! What is read of the request of a `ServiceRequest`. Each call is that of the request.
-ghost use Rattle.std.specs.Prelude.{◌≡◌, IfOk, OnErr, OnOk, option_copied};
+ghost use Rattle.std.specs.Prelude.{◌≡◌, IfOk, IsOk, IsSome, OnErr, OnOk, option_copied};
 ghost use Rattle.std.specs.Option.{option_and_then};
 ghost use Rattle.std.specs.Borrow.{sem};
 ghost use Rattle.std.specs.Io.BufRead.{Rests};
@@ -117,6 +117,7 @@ impl<A: App> ServiceRequest<A> {
     /// allocation failed; the request is then as before.
     pub fn connection_info(&mut self, alloc: Global) -> Result<&ConnectionInfo, NoMemory>
         ensures value { IfOk result (λ info. info.now ≡ known_connection self.old.request) }
+        ensures memory { IsSome self.old.request.kept.connection → IsOk result }
         ensures* after { sem 𝓛 (Rests
             (the_row A.row A.Layer.row A.Local.row A.Conn.row A.Source.row
             A.Layer.AppLayer A.Source.Source)
@@ -132,6 +133,7 @@ impl<A: App> ServiceRequest<A> {
     pub fn cookies(&mut self, alloc: Global) -> Result<&[Cookie], Fail<CookieParseError>>
         ensures value { ReturnsBy (λ cookies. cookies.now) result
             (known_cookies self.old.request) }
+        ensures memory { IsSome self.old.request.kept.decoded → IsOk result }
         ensures* after { sem 𝓛 (Rests
             (the_row A.row A.Layer.row A.Local.row A.Conn.row A.Source.row
             A.Layer.AppLayer A.Source.Source)
@@ -145,6 +147,7 @@ impl<A: App> ServiceRequest<A> {
     pub fn cookies_raw(&mut self, alloc: Global) -> Result<&[Cookie], Fail<CookieParseError>>
         ensures value { ReturnsBy (λ cookies. cookies.now) result
             (known_raw_cookies self.old.request) }
+        ensures memory { IsSome self.old.request.kept.raw → IsOk result }
         ensures* after { sem 𝓛 (Rests
             (the_row A.row A.Layer.row A.Local.row A.Conn.row A.Source.row
             A.Layer.AppLayer A.Source.Source)

@@ -1,11 +1,12 @@
 -- Forms as arguments.
-use Rattle.std.specs.Prelude.{◌≡◌, ℕ, List, Option, Result, min, refl}
+use Rattle.std.specs.Prelude.{◌≡◌, ℕ, List, Option, None, Result, codes, min, refl}
 use Rattle.http_header.specs.FieldValue.{FieldValue}
 use Rattle.http_header.specs.HeaderMap.{Entries}
 use Rattle.web_texts.specs.declared.text.Pair.{Pair}
 use Rattle.web_request.specs.declared.source.Mark.{Mark}
 use Rattle.web_request.specs.Feed.{Feed}
 use Rattle.web_request.specs.Head.{Head}
+use Rattle.web_request.specs.MessageFields.{first_content_type}
 use Rattle.web_values.specs.declared.faults.ReadFault.{ReadFault}
 use Rattle.web_values.specs.DecodedForms.{PairReader}
 use Rattle.web_body.specs.declared.form_error.UrlencodedError.{UrlencodedError}
@@ -14,6 +15,7 @@ use Rattle.web_decoders.specs.DecoderSettings.{FormSettings}
 use Rattle.web_decoders.specs.FormBodies.{FormAnswer, FormBody, PollsFormBody, form_answer}
 use Rattle.web_decoders.specs.FormBodies.{form_answer_some}
 use Rattle.web_decoders.specs.FormHeads.{form_head, form_refusal, takes_form}
+use Rattle.web_decoders.specs.WrittenTypes.{NeedsNoReading}
 use Rattle.web_reply.specs.Replies.{Fault}
 use Rattle.web_extract.specs.Extracts.{AllowsSome}
 use Rattle.web_extract.specs.LayerConfigurations.{Configurations, form_settings}
@@ -34,6 +36,12 @@ capped_form cap settings = record settings { limit = min settings.limit cap }
 abbrev pub form_handler : {L J F P Q T : Type 0}
     → (L → Configurations J F P Q T) → List L → Option F
 form_handler of_layer layers = (form_settings of_layer layers).handler
+
+-- to begin allocates nothing: no handler is configured, and no media type is read
+abbrev pub FormNeedsNoMemory : {H : Type 0} → FormSettings H → Entries FieldValue → Type 0
+FormNeedsNoMemory settings headers =
+    (settings.handler ≡ None)
+    × NeedsNoReading (codes "application/x-www-form-urlencoded") (first_content_type headers)
 
 -- the marks that are left: a head that names no form or no readable length leaves them
 abbrev pub form_rest : Entries FieldValue → List Mark → List Mark

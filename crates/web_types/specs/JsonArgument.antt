@@ -1,5 +1,6 @@
 -- JSON values as arguments and as responses.
-use Rattle.std.specs.Prelude.{◌≡◌, ℕ, Bool, List, Option, Result, min, refl}
+use Rattle.std.specs.Prelude.{◌≡◌, ◌⊎◌, ℕ, Bool, false, List, Option, None, Result, codes}
+use Rattle.std.specs.Prelude.{min, refl}
 use Rattle.http_header.specs.FieldValue.{FieldValue}
 use Rattle.http_header.specs.HeaderMap.{Entries}
 use Rattle.serde_json.specs.Data.{Data}
@@ -7,6 +8,7 @@ use Rattle.web_texts.specs.MediaTypes.{MediaType}
 use Rattle.web_request.specs.declared.source.Mark.{Mark}
 use Rattle.web_request.specs.Feed.{Feed}
 use Rattle.web_request.specs.Head.{Head}
+use Rattle.web_request.specs.MessageFields.{first_content_type}
 use Rattle.web_values.specs.declared.faults.ReadFault.{ReadFault}
 use Rattle.web_values.specs.DecodedJson.{JsonReader}
 use Rattle.web_body.specs.declared.json_error.JsonPayloadError.{JsonPayloadError}
@@ -16,6 +18,7 @@ use Rattle.web_decoders.specs.JsonBodies.{JsonAnswer, JsonBody, PollsJsonBody, j
 use Rattle.web_decoders.specs.JsonBodies.{json_answer_some}
 use Rattle.web_decoders.specs.JsonHeads.{head_under, json_head, json_refusal}
 use Rattle.web_decoders.specs.TypePredicates.{Predicate, ReadsType}
+use Rattle.web_decoders.specs.WrittenTypes.{NeedsNoReading}
 use Rattle.web_types.specs.ReadTypes.{reads_type, reads_type_some}
 use Rattle.web_reply.specs.Replies.{Fault}
 use Rattle.web_extract.specs.Extracts.{AllowsSome}
@@ -37,6 +40,13 @@ capped_json cap settings = record settings { limit = min settings.limit cap }
 abbrev pub json_handler : {L J F P Q T : Type 0}
     → (L → Configurations J F P Q T) → List L → Option J
 json_handler of_layer layers = (json_settings of_layer layers).handler
+
+-- to begin allocates nothing: no handler is configured, and no media type is read
+abbrev pub JsonNeedsNoMemory : {H P : Type 0} → JsonSettings H P → Entries FieldValue → Type 0
+JsonNeedsNoMemory settings headers =
+    (settings.handler ≡ None)
+    × ((settings.type_required ≡ false)
+    ⊎ NeedsNoReading (codes "application/json") (first_content_type headers))
 
 -- the first test of the head that refuses a body, whose media type may be read or not
 abbrev pub json_head_refusal : ℕ → Bool → Entries FieldValue → Option JsonPayloadError

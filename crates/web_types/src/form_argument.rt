@@ -1,9 +1,11 @@
 //! A form as an argument.
-ghost use Rattle.std.specs.Prelude.{◌≡◌, ◌⊎◌, false, IfOk, min, option_copied};
+ghost use Rattle.std.specs.Prelude.{◌≡◌, ◌⊎◌, false, IfOk, IsOk, codes, min, option_copied};
 ghost use Rattle.std.specs.Option.{unwrap_or};
+ghost use Rattle.web_request.specs.MessageFields.{first_content_type};
 ghost use Rattle.web_body.specs.Payload.{payload_feed};
 ghost use Rattle.web_decoders.specs.DecoderSettings.{default_form_settings};
 ghost use Rattle.web_decoders.specs.FormBodies.{form_body_finished, form_gives};
+ghost use Rattle.web_decoders.specs.WrittenTypes.{NeedsNoReading};
 ghost use Rattle.web_extract.specs.Extracts.{Extracts};
 ghost use Rattle.web_types.specs.FormArgument.{MeansFormBody};
 
@@ -35,7 +37,7 @@ where
 {
     ghost use Rattle.web_extract.specs.LayerConfigurations.{form_settings};
     ghost use Rattle.web_extract.specs.SomeAnswer.{itself};
-    ghost use Rattle.web_types.specs.FormArgument.{MeansForm, form_some};
+    ghost use Rattle.web_types.specs.FormArgument.{FormNeedsNoMemory, MeansForm, form_some};
 
     type Error = Error;
 
@@ -44,6 +46,9 @@ where
     ghost means = { λ q m rest n x. MeansForm
         (form_settings A.Layer.Configs.configurations q.layers) A.Layer.OnForm.refuses
         T.reads_pairs q.head m rest n x };
+
+    ghost needs_no_memory = { λ q. FormNeedsNoMemory
+        (form_settings A.Layer.Configs.configurations q.layers) q.head.headers };
 
     ghost some = { λ q m. form_some
         (form_settings A.Layer.Configs.configurations q.layers) A.Layer.OnForm.refuses
@@ -69,11 +74,15 @@ where
     A::Layer: Configs,
 {
     ghost use Rattle.web_extract.specs.LayerConfigurations.{form_settings};
-    ghost use Rattle.web_types.specs.FormArgument.{MeansForm, capped_form, form_some};
+    ghost use Rattle.web_types.specs.FormArgument.{FormNeedsNoMemory, MeansForm};
+    ghost use Rattle.web_types.specs.FormArgument.{capped_form, form_some};
 
     ghost means_capped = { λ cap q m rest n x. MeansForm
         (capped_form cap (form_settings A.Layer.Configs.configurations q.layers))
         A.Layer.OnForm.refuses T.reads_pairs q.head m rest n x };
+
+    ghost capped_needs_no_memory = { λ q. FormNeedsNoMemory
+        (form_settings A.Layer.Configs.configurations q.layers) q.head.headers };
 
     ghost some_capped = { λ cap q m. form_some
         (capped_form cap (form_settings A.Layer.Configs.configurations q.layers))
@@ -106,6 +115,8 @@ fn form_body<A: App, T: ReadPairs>(
         (payload_feed A.Source.feed payload.old).marks
         (payload_feed A.Source.feed payload.new).marks) }
     ensures payload { (payload.new ≡ payload.old) ⊎ (payload.new ≡ Payload.None) }
+    ensures memory { NeedsNoReading (codes "application/x-www-form-urlencoded")
+        (first_content_type req.now.request.head.headers) → IsOk result }
 {
     UrlEncoded::under_limit(alloc, req, payload, limit)
 }

@@ -1,9 +1,12 @@
 //! A JSON value as an argument.
-ghost use Rattle.std.specs.Prelude.{◌≡◌, ◌⊎◌, false, IfOk, IfSome, min, option_copied};
+ghost use Rattle.std.specs.Prelude.{◌≡◌, ◌⊎◌, false, IfOk, IfSome, IsOk, min, option_copied};
+ghost use Rattle.std.specs.Prelude.{codes};
 ghost use Rattle.std.specs.Option.{unwrap_or};
+ghost use Rattle.web_request.specs.MessageFields.{first_content_type};
 ghost use Rattle.web_body.specs.Payload.{payload_feed};
 ghost use Rattle.web_decoders.specs.DecoderSettings.{default_json_settings};
 ghost use Rattle.web_decoders.specs.JsonBodies.{json_body_finished, json_gives};
+ghost use Rattle.web_decoders.specs.WrittenTypes.{NeedsNoReading};
 ghost use Rattle.web_extract.specs.Extracts.{Extracts};
 ghost use Rattle.web_extract.specs.LayerConfigurations.{IsReady};
 ghost use Rattle.web_types.specs.JsonArgument.{MeansJsonBody};
@@ -35,7 +38,7 @@ where
 {
     ghost use Rattle.web_extract.specs.LayerConfigurations.{json_settings};
     ghost use Rattle.web_extract.specs.SomeAnswer.{itself};
-    ghost use Rattle.web_types.specs.JsonArgument.{MeansJson, json_some};
+    ghost use Rattle.web_types.specs.JsonArgument.{JsonNeedsNoMemory, MeansJson, json_some};
 
     type Error = Error;
 
@@ -44,6 +47,9 @@ where
     ghost means = { λ q m rest n x. MeansJson
         (json_settings A.Layer.Configs.configurations q.layers) A.Layer.OnJson.refuses
         A.Layer.JsonType.allows_type T.reads q.head m rest n x };
+
+    ghost needs_no_memory = { λ q. JsonNeedsNoMemory
+        (json_settings A.Layer.Configs.configurations q.layers) q.head.headers };
 
     ghost some = { λ q m. json_some
         (json_settings A.Layer.Configs.configurations q.layers) A.Layer.OnJson.refuses
@@ -69,11 +75,15 @@ where
     A::Layer: Configs,
 {
     ghost use Rattle.web_extract.specs.LayerConfigurations.{json_settings};
-    ghost use Rattle.web_types.specs.JsonArgument.{MeansJson, capped_json, json_some};
+    ghost use Rattle.web_types.specs.JsonArgument.{JsonNeedsNoMemory, MeansJson};
+    ghost use Rattle.web_types.specs.JsonArgument.{capped_json, json_some};
 
     ghost means_capped = { λ cap q m rest n x. MeansJson
         (capped_json cap (json_settings A.Layer.Configs.configurations q.layers))
         A.Layer.OnJson.refuses A.Layer.JsonType.allows_type T.reads q.head m rest n x };
+
+    ghost capped_needs_no_memory = { λ q. JsonNeedsNoMemory
+        (json_settings A.Layer.Configs.configurations q.layers) q.head.headers };
 
     ghost some_capped = { λ cap q m. json_some
         (capped_json cap (json_settings A.Layer.Configs.configurations q.layers))
@@ -110,6 +120,9 @@ fn json_body<A: App, T: ReadJson, H, P: AllowType>(
         (payload_feed A.Source.feed payload.old).marks
         (payload_feed A.Source.feed payload.new).marks) }
     ensures payload { (payload.new ≡ payload.old) ⊎ (payload.new ≡ Payload.None) }
+    ensures memory { ((unwrap_or (option_copied config.entry) default_json_settings).type_required
+        ≡ false) ⊎ NeedsNoReading (codes "application/json")
+        (first_content_type req.now.request.head.headers) → IsOk result }
 {
     JsonBody::under_limit(
         alloc,
