@@ -2,4 +2,3 @@ pub mod DemoFunctions
 pub mod DemoReplies
 pub mod DemoTexts
 pub mod PartsTexts
-pub mod ServiceFunctions

@@ -1,4 +1,5 @@
 pub mod BoxedFuturesLemmas
 pub mod ItemArgumentsLemmas
 pub mod PickedArgumentsLemmas
+pub mod PickedFunctionsLemmas
 pub mod SeenArgumentsLemmas

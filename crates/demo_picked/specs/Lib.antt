@@ -4,5 +4,7 @@ pub mod BoxedFutures
 pub mod ItemArguments
 pub mod PartsArgument
 pub mod PickedArguments
+pub mod PickedFunctions
 pub mod PickedRequests
 pub mod Picking
+pub mod ServiceFunctions

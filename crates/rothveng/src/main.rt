@@ -9,10 +9,13 @@
 //! and 64 where the arguments are no command.
 #![tactic(auto)]
 
+mod program;
+
+use program::run_program;
 use std::env;
 use std::io::ErrorKind;
 use std::process::ExitCode;
-use web_cli::{Status, StdInput, StdOutput, run_program};
+use web_cli::{Status, StdInput, StdOutput};
 
 /// The arguments without the program's name, or the status where they are no UTF-8 or allocation
 /// failed.

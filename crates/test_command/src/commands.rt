@@ -1,7 +1,8 @@
 //! Runs of the command, and their comparison with what is expected.
+use demo_handler::DemoHandler;
 use std::alloc::Global;
 use std::process::Abort;
-use web_cli::{Input, Output, Status, run_program};
+use web_cli::{Input, Output, Status, run};
 
 /// The arguments that serve a script.
 pub(crate) const SERVE: &[&str] = &["serve", "--pool=0"];
@@ -25,7 +26,7 @@ pub(crate) fn run_words<I: Input, O: Output>(
     output: &mut O,
 ) -> Status {
     let words = words(rt, alloc, arguments);
-    run_program(alloc, &words, input, output)
+    run(alloc, &words, input, output, &mut DemoHandler::new())
 }
 
 /// What a run is compared by: its status, and whether the rest is as expected.

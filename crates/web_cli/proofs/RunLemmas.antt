@@ -1,11 +1,8 @@
 -- What the parts of a run say of its status.
-use Rattle.std.proofs.Common.{◌≡◌, ℕ, true, List, inl, inr, ◌⊎◌, ◌∙◌}
+use Rattle.std.proofs.Common.{◌≡◌, ℕ, true, List, inl, inr, ◌⊎◌}
 use Rattle.std.specs.Prelude.{Some}
 use Rattle.cli_io.specs.IoState.{InputState, OutputState}
 use Rattle.cli_io.specs.WholeReading.{IsAll}
-use Rattle.demo_handler.specs.DemoFunctions.{demo_handler}
-use Rattle.demo_handler.specs.DemoReplies.{HandlerAnswers, output_reply}
-use Rattle.demo_handler.specs.ServiceFunctions.{HandlerMeets}
 use Rattle.web_cli.specs.ScriptAnswers.{is_valid_script}
 use Rattle.web_cli.specs.Run.{HasNoMemory, Headline, IsRefused, ServeResult, WritesAlone, WritesReplies}
 use Rattle.web_cli.specs.CommandWords.{usage}
@@ -120,7 +117,3 @@ module _ (P Q : List ℕ → Type 0) (c d : Type 0) (f : (text : List ℕ) → P
   pub alone_as : (a : Status) (i j : InputState) (o p : OutputState)
       → WritesAlone P c a i j o p → WritesAlone Q d a i j o p
   alone_as a i j o p h = record { input = h.input; text_written = text_as a o p h.text_written }
-
--- the program's handler meets its functions
-pub demo_meets : HandlerMeets (λ p n y. HandlerAnswers p n y) (λ y q r. r ≡ output_reply y) demo_handler
-demo_meets v n y answers = (answers.0, λ q r responds. responds ∙ answers.1)

@@ -15,7 +15,6 @@ use Rattle.web_http1.specs.declared.ended.Ended.{Ended}
 use Rattle.demo_app.specs.DemoRequests.{DemoRequest}
 use Rattle.demo_picked.specs.declared.picked.Picked.{Picked}
 use Rattle.demo_picked.specs.PickedArguments.{MeansPicked}
-use Rattle.demo_handler.specs.DemoReplies.{HandlerAnswers, output_reply}
 use Rattle.web_cli.specs.DemoExchanges.{demo_pool}
 use Rattle.web_cli.specs.Run.{AllocationFails, FailsToRead, HasNoMemory, too_long_text}
 use Rattle.web_cli.specs.declared.status.Status.{Status}
@@ -46,12 +45,6 @@ abbrev pub ArePickedAnswers : {Y : Type 0} → (Picked → ℕ → Y → Type 0)
 ArePickedAnswers answers responds capacity bytes text =
     AreAnswers (λ q m rest n x. MeansPicked q m rest n x) (λ e f. f ≡ e) answers responds capacity
     bytes text
-
--- the same by the program's own handler
-abbrev pub AreDemoAnswers : ℕ → List ℕ → List ℕ → Type 0
-AreDemoAnswers capacity bytes text =
-    ArePickedAnswers (λ p n y. HandlerAnswers p n y) (λ y q r. r ≡ output_reply y) capacity bytes
-    text
 
 -- `answers` relates the bytes that came and the text that answers them
 module _ (answers : List ℕ → List ℕ → Type 0) where

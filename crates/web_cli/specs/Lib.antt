@@ -1,7 +1,7 @@
 pub mod CommandWords
 pub mod DemoExchanges
-pub mod DemoScripts
 pub mod LoadTexts
+pub mod PickedScripts
 pub mod Run
 pub mod ConnectionAnswers
 pub mod ScriptAnswers

@@ -10,7 +10,7 @@ use crate::status::Status;
 use crate::writing::{TOO_LONG, write_or_fault};
 use bytes::Bytes;
 use cli_io::{Input, Output, ReadWhole, read_whole};
-use demo_handler::Demo;
+use demo_app::Demo;
 use std::alloc::Global;
 use web_body::Marks;
 use web_extract::FromRequest;

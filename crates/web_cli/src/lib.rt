@@ -23,12 +23,12 @@ pub use cli_script::{
     ExchangeSink, InvalidScript, LayerSettings, Reason, Script, ScriptedExchange, first_fault_law,
     read_script, read_script_into, target_law,
 };
-pub use demo_flights::DemoFlights;
-pub use demo_handler::{
-    AllLines, Answer, Answering, CookieArguments, DataArguments, Delayed, Demo, DemoConn,
-    DemoHandler, DemoLayer, DemoLocal, DemoOutput, Item, Late, LateFuture, Picked, PickedFuture,
-    RawBody, Wait, demo_law, picked_law,
+pub use demo_app::{Demo, DemoConn, DemoLayer, DemoLocal, Item};
+pub use demo_arguments::{
+    AllLines, CookieArguments, DataArguments, Delayed, Late, LateFuture, RawBody, Wait,
 };
-pub use serving::{run, run_program};
+pub use demo_flights::DemoFlights;
+pub use demo_picked::{Picked, PickedFuture, picked_law};
+pub use serving::run;
 pub use status::Status;
 pub use words::{Command, command_of};

@@ -16,7 +16,7 @@ use cli_io::Output;
 use cli_load::{Load, script_text};
 use cli_print::summarized;
 use cli_script::read_script_into;
-use demo_handler::Demo;
+use demo_app::Demo;
 use std::alloc::Global;
 use web_extract::FromRequest;
 use web_reply::Responder;

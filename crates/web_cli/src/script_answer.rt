@@ -15,7 +15,7 @@ use crate::demo_worker::new_worker;
 use bytes::Bytes;
 use cli_print::printed;
 use cli_script::{InvalidScript, read_script_into};
-use demo_handler::Demo;
+use demo_app::Demo;
 use std::alloc::Global;
 use web_extract::FromRequest;
 use web_reply::Responder;

@@ -5,11 +5,11 @@ ghost use Rattle.web_worker.specs.HandlerPromises.{SamePromises};
 ghost use Rattle.web_cli.specs.DemoExchanges.{demo_pool};
 ghost use Rattle.web_cli.specs.CommandWords.{IfUncalled, IsConnect, IsGenerate, IsReplay, IsServe};
 ghost use Rattle.web_cli.specs.CommandWords.{command_of};
-ghost use Rattle.web_cli.specs.ConnectionAnswers.{AllAnswered, AreAnswers, AreDemoAnswers};
+ghost use Rattle.web_cli.specs.ConnectionAnswers.{AllAnswered, AreAnswers};
 ghost use Rattle.web_cli.specs.ConnectionAnswers.{ArePickedAnswers, ConnectionResult};
-ghost use Rattle.web_cli.specs.DemoScripts.{AppendsPickedCalls, ArePickedReplies};
-ghost use Rattle.web_cli.specs.DemoScripts.{IsDemoSummary, IsDemoText, IsPickedSummary};
 ghost use Rattle.web_cli.specs.LoadTexts.{IsSummary, load_script, replay_capacity};
+ghost use Rattle.web_cli.specs.PickedScripts.{AppendsPickedCalls, ArePickedReplies};
+ghost use Rattle.web_cli.specs.PickedScripts.{IsPickedSummary};
 ghost use Rattle.web_cli.specs.Run.{Headline, ReadFaultIsReported, RefusesWords, ServeResult};
 ghost use Rattle.web_cli.specs.Run.{TooLongIsReported, WriteFaultIsReported, WritesAlone};
 ghost use Rattle.web_cli.specs.ScriptAnswers.{AppendsScriptCalls, AreReplies};
@@ -21,7 +21,8 @@ use crate::status::Status;
 use crate::words::{Command, USAGE, command_of};
 use crate::writing::{TOO_LONG, write_or_fault};
 use cli_io::{Input, Output, ReadWhole, read_whole};
-use demo_handler::{Demo, DemoHandler, Picked};
+use demo_app::Demo;
+use demo_picked::Picked;
 use std::alloc::Global;
 use web_extract::FromRequest;
 use web_reply::Responder;
@@ -232,39 +233,4 @@ where
     ensures too_long { TooLongIsReported result (I.state input.old) (I.state input.new) }
 {
     run_over::<I, O, Picked, H>(alloc, words, input, output, handler)
-}
-
-/// Runs the program: [`run`] with the program's own handler. `main` calls it and nothing else.
-pub fn run_program<I: Input, O: Output>(
-    alloc: Global,
-    words: &[String],
-    input: &mut I,
-    output: &mut O,
-) -> Status
-    ensures no_command { command_of (map string_bytes words.now) ≡ None → RefusesWords result
-        (I.state input.old) (I.state input.new) (O.state output.old) (O.state output.new) }
-    ensures serves { (capacity : ℕ) → IsServe (map string_bytes words.now) capacity
-        → (came : List ℕ) × ServeResult
-        (IsDemoText capacity) (λ _. ⊤) ⊤ result came
-        (I.state input.old) (I.state input.new) (O.state output.old) (O.state output.new) }
-    ensures headline { (capacity : ℕ) → IsServe (map string_bytes words.now) capacity → Headline
-        (IsDemoText capacity) (λ _. ⊤) result
-        (I.state input.old) (I.state input.new) (O.state output.old) (O.state output.new) }
-    ensures generates { (load : Load) → IsGenerate (map string_bytes words.now) load → WritesAlone
-        (λ text. text ≡ load_script load) ⊤ result
-        (I.state input.old) (I.state input.new) (O.state output.old) (O.state output.new) }
-    ensures replays { (load : Load) → IsReplay (map string_bytes words.now) load → WritesAlone
-        (IsDemoSummary (load_script load)) ⊤ result
-        (I.state input.old) (I.state input.new) (O.state output.old) (O.state output.new) }
-    ensures connects { (capacity : ℕ) → IsConnect (map string_bytes words.now) capacity
-        → (came : List ℕ) × ConnectionResult (AreDemoAnswers capacity) ⊤ result came
-        (I.state input.old) (I.state input.new) (O.state output.old) (O.state output.new) }
-    ensures answered { (capacity : ℕ) → IsConnect (map string_bytes words.now) capacity
-        → AllAnswered (AreDemoAnswers capacity) result
-        (I.state input.old) (I.state input.new) (O.state output.old) (O.state output.new) }
-    ensures read_fault { ReadFaultIsReported result (I.state input.old) (I.state input.new) }
-    ensures write_fault { WriteFaultIsReported result (O.state output.old) (O.state output.new) }
-    ensures too_long { TooLongIsReported result (I.state input.old) (I.state input.new) }
-{
-    run(alloc, words, input, output, &mut DemoHandler::new())
 }

@@ -1,9 +1,8 @@
 -- The second that a text shows, by the relation of dates.
-use Rattle.std.proofs.Common.{◌≡◌, ℕ, Bool, true, false, List, [], ◌∷◌, Option, None, Some, refl, sym, ap, ◌∙◌}
-use Rattle.std.proofs.lemmas.Bool.{cond-true, cond-false}
-use Rattle.std.proofs.lemmas.Option.{same_Some}
-use Rattle.std.specs.Prelude.{slice_get}
-use Rattle.std.specs.Option.{option_and_then}
+use Rattle.std.proofs.Common.{◌≡◌, ℕ, Bool, true, false, List, [], ◌∷◌, Option, None, Some, refl, ap, ◌∙◌}
+use Rattle.std.proofs.lemmas.Bool.{cond-true, cond-false, false≢true}
+use Rattle.std.specs.Prelude.{nat_eq, slice_get}
+use Rattle.std.specs.Option.{option_and_then, option_eq}
 use Rattle.http_header.specs.FieldValue.{FieldValue}
 use Rattle.httpdate.specs.declared.parts.Parts.{Parts}
 use Rattle.httpdate.specs.declared.date.HttpDate.{HttpDate}
@@ -12,9 +11,12 @@ use Rattle.httpdate.specs.Reader.{parse}
 use Rattle.httpdate.specs.Valid.{IsValid, is_valid}
 use Rattle.httpdate.proofs.FormatLemmas.{parse_complete, parse_sound}
 use Rattle.httpdate.proofs.ValidLemmas.{is_valid_complete, is_valid_sound}
-use Rattle.web_texts.specs.HeaderTexts.{header_text, value_bytes}
+use Rattle.web_texts.specs.HeaderTexts.{first_text_of, value_bytes}
 use Rattle.web_headers.specs.DateHeaders.{HasNoDate, SaysDate}
-use Rattle.web_docs.specs.Conditions.{is_there, range_condition, text_names_version}
+use Rattle.web_entities.specs.EntityTags.{Tag, strong_eq}
+use Rattle.web_entities.specs.IfRanges.{FirstTextSays}
+use Rattle.web_entities.specs.declared.if_range.IfRange.TheVariants as if_range
+use Rattle.web_docs.specs.Conditions.{is_there, names_version, range_condition, text_names_version}
 use Rattle.web_docs.specs.declared.document.Document.{Document}
 
 valid : (d : HttpDate) → IsValid d.parts
@@ -51,13 +53,21 @@ secs_unsaid (Some text) says = no_secs text says
 -- ---- If-Range
 
 module _ (d : Document) where
-  pub range_absent : (vs : List FieldValue) → None ≡ slice_get vs 0 → range_condition d (value_bytes vs) ≡ true
-  range_absent [] is = refl
-  range_absent (v ∷ vs) is = absurd (cc)
+  pub range_tag : (t : Option (List ℕ)) (n : Tag) → FirstTextSays t (Some (if_range.EntityTag n)) → text_names_version d t ≡ strong_eq n d.tag
+  range_tag None n says = absurd (cc)
+  range_tag (Some text) n says = ap (names_version d text) says
 
-  pub range_there : (vs : List FieldValue) (x : FieldValue) → Some x ≡ slice_get vs 0 → range_condition d (value_bytes vs) ≡ text_names_version d (header_text x)
-  range_there [] x is = absurd (cc)
-  range_there (v ∷ vs) x is = ap (λ (w : FieldValue). text_names_version d (header_text w)) (sym (same_Some _ _ is))
+  pub range_date : (t : Option (List ℕ)) (date : HttpDate) → FirstTextSays t (Some (if_range.Date date)) → text_names_version d t ≡ nat_eq (unix_secs date) (unix_secs d.modified)
+  range_date None date says = absurd (cc)
+  range_date (Some text) date says = ap (names_version d text) says.0 ∙ ap (λ s. option_eq nat_eq s (Some (unix_secs d.modified))) (date_secs text date says.1)
+
+  pub range_none : (t : Option (List ℕ)) → FirstTextSays t None → text_names_version d t ≡ false
+  range_none None says = refl
+  range_none (Some text) says = ap (names_version d text) says.0 ∙ ap (λ s. option_eq nat_eq s (Some (unix_secs d.modified))) (no_secs text says.1)
+
+  pub range_there : (vs : List FieldValue) → is_there vs ≡ true → range_condition d (value_bytes vs) ≡ text_names_version d (first_text_of (value_bytes vs))
+  range_there [] is = absurd (false≢true is)
+  range_there (v ∷ vs) is = refl
 
 -- ---- a header that is there
 

@@ -1,34 +1,29 @@
 //! The conditions of a request, as the document meets them.
-ghost use Rattle.std.specs.Prelude.{◌≡◌, IfOk, Some, codes, nat_eq};
+ghost use Rattle.std.specs.Prelude.{◌≡◌, IfOk, codes};
 ghost use Rattle.std.specs.List.{list_any};
-ghost use Rattle.std.specs.Option.{option_eq};
 ghost use Rattle.http_header.specs.HeaderMap.{get_all};
-ghost use Rattle.httpdate.specs.Date.{parse_secs, unix_secs};
-ghost use Rattle.web_texts.specs.HeaderTexts.{header_text as header_text_lem};
 ghost use Rattle.web_headers.specs.HeaderReaders.{one_value_of};
 ghost use Rattle.web_entities.specs.ByteRanges.{range_of};
-ghost use Rattle.web_entities.specs.EntityTags.{strong_eq, tag_of, weak_eq};
+ghost use Rattle.web_entities.specs.EntityTags.{strong_eq, weak_eq};
 ghost use Rattle.web_docs.specs.Conditions.{asked_if_match, asked_if_none_match, values};
 ghost use Rattle.web_docs.specs.Conditions.{if_modified_since as if_modified_since_lem};
 ghost use Rattle.web_docs.specs.Conditions.{if_unmodified_since as if_unmodified_since_lem};
 ghost use Rattle.web_docs.specs.Conditions.{is_there, lists_strongly as lists_strongly_lem};
 ghost use Rattle.web_docs.specs.Conditions.{lists_weakly as lists_weakly_lem};
 ghost use Rattle.web_docs.specs.Conditions.{match_condition as match_condition_lem};
-ghost use Rattle.web_docs.specs.Conditions.{names_version as names_version_lem};
 ghost use Rattle.web_docs.specs.Conditions.{none_match_condition as none_match_condition_lem};
 ghost use Rattle.web_docs.specs.Conditions.{one_range, range_condition as range_condition_lem};
-ghost use Rattle.web_docs.specs.Conditions.{seconds_of, text_names_version};
+ghost use Rattle.web_docs.specs.Conditions.{seconds_of};
 
 use crate::document::Document;
 use http_header::{
     HeaderMap, HeaderName, HeaderValue, IF_MATCH, IF_MODIFIED_SINCE, IF_NONE_MATCH, IF_RANGE,
     IF_UNMODIFIED_SINCE,
 };
-use httpdate::HttpDate;
 use std::alloc::Global;
-use web_entities::{ByteRangeSpec, EntityTag, IfMatch, IfNoneMatch, Range};
+use web_entities::{ByteRangeSpec, EntityTag, IfMatch, IfNoneMatch, IfRange, Range};
 use web_headers::{Header, from_one_date};
-use web_texts::{Fail, NoMemory, ReadText, header_text};
+use web_texts::{Fail, NoMemory};
 
 /// Whether there is a header of this name.
 fn has_header(headers: &HeaderMap<HeaderValue>, name: &HeaderName) -> bool
@@ -165,46 +160,7 @@ pub fn none_match_condition(
     }
 }
 
-/// Whether the text of If-Range is the date of this version of the document.
-fn names_date(document: &Document, text: &str) -> bool
-    ensures { result
-        ≡ option_eq nat_eq (parse_secs text.now) (Some (unix_secs document.now.modified)) }
-{
-    match HttpDate::parse_ascii(text.as_bytes()) {
-        Ok(date) => date.unix_secs() == document.modified.unix_secs(),
-        Err(_) => false,
-    }
-}
-
-/// Whether the text of If-Range names this version of the document, by its tag or by its date.
-fn names_version(alloc: Global, document: &Document, text: &str) -> Result<bool, NoMemory>
-    ensures { IfOk result (λ names. names
-        ≡ names_version_lem document.now text.now (tag_of text.now)) }
-{
-    match EntityTag::parse(alloc, text) {
-        Ok(tag) => Ok(tag.strong_eq(&document.tag)),
-        Err(Fail::NoMemory) => Err(NoMemory),
-        Err(Fail::Of(_)) => Ok(names_date(document, text)),
-    }
-}
-
-/// Whether a value of If-Range can be read and names this version of the document.
-fn value_names_version(
-    alloc: Global,
-    document: &Document,
-    value: &HeaderValue,
-) -> Result<bool, NoMemory>
-    ensures { IfOk result (λ names. names
-        ≡ text_names_version document.now (header_text_lem value.now)) }
-{
-    match header_text(value) {
-        Some(text) => names_version(alloc, document, text),
-        None => Ok(false),
-    }
-}
-
 /// Whether If-Range is absent, or names this version of the document.
-#[tactic(auto, using(crate::proofs::DateLemmas::range_absent))]
 pub fn range_condition(
     alloc: Global,
     document: &Document,
@@ -213,9 +169,14 @@ pub fn range_condition(
     ensures { IfOk result (λ holds. holds
         ≡ range_condition_lem document.now (values (codes "if-range") headers.now)) }
 {
-    match headers.get(&IF_RANGE) {
-        Some(value) => value_names_version(alloc, document, value),
-        None => Ok(true),
+    if !has_header(headers, &IF_RANGE) {
+        return Ok(true);
+    }
+    match IfRange::parse(alloc, headers) {
+        Ok(IfRange::EntityTag(tag)) => Ok(tag.strong_eq(&document.tag)),
+        Ok(IfRange::Date(date)) => Ok(date.unix_secs() == document.modified.unix_secs()),
+        Err(Fail::NoMemory) => Err(NoMemory),
+        Err(Fail::Of(_)) => Ok(false),
     }
 }
 
@@ -227,7 +188,7 @@ pub fn read_range(
     ensures { IfOk result (λ range. range
         ≡ one_range (one_value_of range_of (values (codes "range") headers.now))) }
 {
-    match <Range as Header>::parse(alloc, headers) {
+    match Range::parse(alloc, headers) {
         Ok(Range::Bytes(specs)) => match specs.as_slice() {
             [spec] => Ok(Some(*spec)),
             _ => Ok(None),

@@ -4,8 +4,7 @@ ghost use Rattle.http_header.specs.FieldValue.{plain_value};
 ghost use Rattle.http_header.specs.HeaderMap.{insert};
 
 use http_header::{
-    ACCEPT_RANGES, CONTENT_RANGE, CONTENT_TYPE, ETAG, HeaderMap, HeaderName, HeaderValue,
-    LAST_MODIFIED,
+    ACCEPT_RANGES, CONTENT_TYPE, ETAG, HeaderMap, HeaderName, HeaderValue, LAST_MODIFIED,
 };
 use std::alloc::Global;
 use web_texts::NoMemory;
@@ -55,15 +54,5 @@ pub fn whole_map(
     put(&mut map, CONTENT_TYPE, media_type)?;
     put(&mut map, ETAG, tag)?;
     put(&mut map, LAST_MODIFIED, modified)?;
-    Ok(map)
-}
-
-/// The headers of a part: those of the document, and a Content-Range that each part has its own of.
-pub fn part_map(whole: &HeaderMap<HeaderValue>) -> Result<HeaderMap<HeaderValue>, NoMemory>
-    ensures { IfOk result (λ map. map
-        ≡ insert whole.now (codes "content-range") (plain_value [])) }
-{
-    let mut map = whole.clone()?;
-    put(&mut map, CONTENT_RANGE, HeaderValue::from_static(""))?;
     Ok(map)
 }

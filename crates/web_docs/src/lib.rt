@@ -3,7 +3,6 @@
 
 mod answer;
 mod conditions;
-mod content_range;
 mod document;
 mod header_maps;
 mod laws;

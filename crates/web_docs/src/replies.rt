@@ -6,10 +6,9 @@ ghost use Rattle.web_negotiate.specs.SelectedPositions.{AreEnds, Selects};
 ghost use Rattle.web_docs.specs.DocumentReplies.{IsPartReply, RepliesTo};
 ghost use Rattle.web_docs.specs.DocumentReplies.{for_method as for_method_lem};
 ghost use Rattle.web_docs.specs.DocumentReplies.{partial_reply as partial_reply_lem};
-ghost use Rattle.web_docs.specs.DocumentReplies.{reply_with};
+ghost use Rattle.web_docs.specs.DocumentReplies.{range_value, reply_with};
 ghost use Rattle.web_docs.specs.DocumentReplies.{unsatisfiable_reply as unsatisfiable_reply_lem};
 
-use crate::content_range::content_range;
 use crate::header_maps::put;
 use crate::stored::StoredDocument;
 use crate::verdict::{Verdict, is_head};
@@ -17,7 +16,8 @@ use bytes::Bytes;
 use http::{Method, StatusCode};
 use http_header::{ALLOW, CONTENT_RANGE, HeaderMap, HeaderValue};
 use std::alloc::Global;
-use web_entities::ByteRangeSpec;
+use web_entities::{ByteRangeSpec, ContentRangeSpec};
+use web_headers::TryIntoHeaderValue;
 use web_negotiate::prelude::SatisfiableRange;
 use web_reply::{HttpResponse, WholeBody};
 use web_texts::NoMemory;
@@ -49,6 +49,23 @@ fn allow_map(alloc: Global) -> Result<HeaderMap<HeaderValue>, NoMemory>
     Ok(map)
 }
 
+fn content_range(
+    alloc: Global,
+    ends: Option<(u64, u64)>,
+    size: u64,
+) -> Result<HeaderValue, NoMemory>
+    ensures { IfOk result (λ value. value ≡ range_value ends size) }
+{
+    let spec = ContentRangeSpec::Bytes {
+        range: ends,
+        instance_length: Some(size),
+    };
+    match spec.try_into_value(alloc) {
+        Ok(value) => Ok(value),
+        Err(_) => Err(NoMemory),
+    }
+}
+
 /// The bytes from one position to another, both included. They are shared.
 fn bytes_between(body: &Bytes, first: u64, last: u64) -> Result<Bytes, NoMemory>
     requires order { first ≤ last }
@@ -74,7 +91,7 @@ fn partial_reply(
 {
     let size = document.body().len() as u64;
     let body = bytes_between(document.body(), ends.0, ends.1)?;
-    let mut map = document.part()?;
+    let mut map = document.whole()?;
     let range = content_range(alloc, Some(ends), size)?;
     put(&mut map, CONTENT_RANGE, range)?;
     Ok(response(

@@ -1,12 +1,11 @@
 //! Documents with the headers that they are sent with, printed once.
-ghost use Rattle.std.specs.Prelude.{◌≡◌, ◌∷◌, ◌++◌, [], IfOk, IfSome, codes};
-ghost use Rattle.http_header.specs.FieldValue.{plain_value};
+ghost use Rattle.std.specs.Prelude.{◌≡◌, IfOk, IfSome};
 ghost use Rattle.web_docs.specs.DocumentReplies.{validator_headers, whole_headers};
 ghost use Rattle.web_docs.specs.Documents.{StoresDocument, date_value, field_value_of};
 ghost use Rattle.web_docs.specs.Documents.{text_values as text_values_lem};
 
 use crate::document::{Document, StoreFault};
-use crate::header_maps::{part_map, validator_map, whole_map};
+use crate::header_maps::{validator_map, whole_map};
 use bytes::Bytes;
 use http_header::{HeaderMap, HeaderValue};
 use httpdate::HttpDate;
@@ -16,13 +15,12 @@ use std::marker::Model;
 use web_headers::printed_value;
 use web_texts::{Fail, NoMemory};
 
-/// A document, with the headers of a 304, those of the document itself and those of a part.
+/// A document, with the headers of a 304 and those of the document itself.
 #[derive(Drop)]
 pub struct StoredDocument {
     document: Document,
     validators: HeaderMap<HeaderValue>,
     whole: HeaderMap<HeaderValue>,
-    part: HeaderMap<HeaderValue>,
 }
 
 impl Model for StoredDocument {
@@ -92,12 +90,10 @@ impl StoredDocument {
                 let modified = date_field_value(alloc, document.modified)?;
                 let validators = validator_map(alloc, &values.1, &modified)?;
                 let whole = whole_map(alloc, values.0, values.1, modified)?;
-                let part = part_map(&whole)?;
                 Ok(StoredDocument {
                     document,
                     validators,
                     whole,
-                    part,
                 })
             }
             None => Err(Fail::Of(StoreFault::Value(document.path))),
@@ -128,13 +124,5 @@ impl StoredDocument {
         ensures { IfOk result (λ map. map ≡ whole_headers self.now) }
     {
         Ok(self.whole.clone()?)
-    }
-
-    /// A copy of the headers of a part, whose Content-Range is still to be set.
-    pub fn part(&self) -> Result<HeaderMap<HeaderValue>, NoMemory>
-        ensures { IfOk result (λ map. map
-            ≡ whole_headers self.now ++ (codes "content-range", plain_value [] ∷ []) ∷ []) }
-    {
-        Ok(self.part.clone()?)
     }
 }

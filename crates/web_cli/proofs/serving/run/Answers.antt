@@ -1,8 +1,8 @@
 use Rattle.std.proofs.Common.{◌≡◌}
-use Rattle.demo_handler.specs.DemoFunctions.{picked_arguments}
 use Rattle.demo_picked.specs.PickedArguments.{MeansPicked}
-use Rattle.demo_handler.proofs.DemoFunctionsLemmas.{picked_meets}
-use Rattle.web_cli.specs.DemoScripts.{AppendsPickedCalls, ArePickedReplies, IsPickedSummary}
+use Rattle.demo_picked.specs.PickedFunctions.{picked_arguments}
+use Rattle.demo_picked.proofs.PickedFunctionsLemmas.{picked_meets}
+use Rattle.web_cli.specs.PickedScripts.{AppendsPickedCalls, ArePickedReplies, IsPickedSummary}
 use Rattle.web_cli.specs.LoadTexts.{IsSummary, load_script}
 use Rattle.web_cli.specs.ScriptAnswers.{AppendsScriptCalls, AreReplies}
 use Rattle.web_cli.proofs.DemoSettingLemmas.{demo_setting}

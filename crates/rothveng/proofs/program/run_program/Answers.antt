@@ -1,11 +1,12 @@
 use Rattle.std.specs.Prelude.{◌≡◌, None, ⊤}
 use Rattle.demo_handler.specs.DemoFunctions.{demo_handler}
 use Rattle.demo_handler.specs.DemoReplies.{HandlerAnswers, output_reply}
-use Rattle.web_cli.specs.DemoScripts.{AppendsPickedCalls, ArePickedReplies, IsDemoSummary, IsDemoText}
-use Rattle.web_cli.specs.DemoScripts.{IsPickedSummary}
+use Rattle.demo_handler.proofs.DemoFunctionsLemmas.{demo_meets}
 use Rattle.web_cli.specs.LoadTexts.{load_script}
-use Rattle.web_cli.proofs.RunLemmas.{alone_as, demo_meets, headline_as, result_as}
-use Rattle.web_cli.proofs.serving.run_program.Goals as goal
+use Rattle.web_cli.specs.PickedScripts.{AppendsPickedCalls, ArePickedReplies, IsPickedSummary}
+use Rattle.web_cli.proofs.RunLemmas.{alone_as, headline_as, result_as}
+use Rattle.rothveng.specs.DemoAnswers.{IsDemoSummary, IsDemoText}
+use Rattle.rothveng.proofs.program.run_program.Goals as goal
 
 pub returns-clause-serves : goal.returns-clause-serves
 returns-clause-serves g c = λ capacity words.

@@ -1,12 +1,12 @@
--- The replies to a script with the program's own arguments, and with its own handler.
+-- The replies to a script with the program's own arguments.
 use Rattle.std.specs.Prelude.{◌≡◌, ◌++◌, ℕ, List, Option}
 use Rattle.std.specs.Option.{option_map}
 use Rattle.web_reply.specs.ResponseBodies.{Plain}
 use Rattle.web_reply.specs.Replies.{Reply}
 use Rattle.demo_picked.specs.declared.picked.Picked.{Picked}
 use Rattle.demo_app.specs.DemoRequests.{DemoRequest}
-use Rattle.demo_handler.specs.DemoFunctions.{demo_handler, picked_arguments}
-use Rattle.demo_handler.specs.ServiceFunctions.{HandlerFunctions, HandlerMeets}
+use Rattle.demo_picked.specs.PickedFunctions.{picked_arguments}
+use Rattle.demo_picked.specs.ServiceFunctions.{HandlerFunctions, HandlerMeets}
 use Rattle.web_cli.specs.LoadTexts.{summary_text}
 use Rattle.web_cli.specs.ScriptAnswers.{replies_text, script_calls}
 
@@ -29,11 +29,3 @@ IsPickedSummary answers responds script text =
 abbrev pub AppendsPickedCalls : Option (List Picked) → Option (List Picked) → List ℕ → Type 0
 AppendsPickedCalls old new script =
     new ≡ option_map (λ calls. calls ++ script_calls picked_arguments script) old
-
--- this is the text of the replies to the script by the program's own handler
-abbrev pub IsDemoText : ℕ → List ℕ → List ℕ → Type 0
-IsDemoText capacity script text = text ≡ replies_text picked_arguments demo_handler capacity script
-
--- this is the summary of the script by the program's own handler
-abbrev pub IsDemoSummary : List ℕ → List ℕ → Type 0
-IsDemoSummary script text = text ≡ summary_text picked_arguments demo_handler script
