@@ -1,5 +1,5 @@
 -- Reading on: what is known of the next message, and that it holds of more bytes too.
-use Rattle.std.proofs.Common.{◌≡◌, ℕ, inl, inr, ◌+◌, ◌<◌, ◌≤◌, ◌==◌, Bool, true, false, List, [], ◌++◌, length, drop, refl, sym, ap, subst, arith, append-nil, length-append, if◌then◌else◌}
+use Rattle.std.proofs.Common.{◌≡◌, ℕ, inl, inr, ◌+◌, ◌<◌, ◌≤◌, ◌==◌, Bool, true, false, List, [], ◌++◌, length, drop, Option, None, Some, refl, sym, ap, subst, arith, append-nil, length-append, if◌then◌else◌}
 use Rattle.std.specs.Borrow.{Bor}
 use Rattle.std.proofs.lemmas.List.{drop-append-le}
 use Rattle.std.proofs.lemmas.Bool.Decides.{eqb_tells}
@@ -16,7 +16,8 @@ use Rattle.web_messages.specs.declared.message.Next.TheVariants as next
 use Rattle.web_messages.specs.declared.progress.Progress.{Progress}
 use Rattle.web_messages.specs.declared.progress.Progress.TheVariants as progress
 use Rattle.web_messages.specs.declared.progress.Step.TheVariants as step
-use Rattle.web_messages.specs.Chunking.{IsChunked, IsSoFar, IsSoFarAt}
+use Rattle.web_messages.specs.declared.trailers.Trailers.{Trailers}
+use Rattle.web_messages.specs.Chunking.{EndRead, HasChunks, IsChunked, IsSoFar, IsSoFarAt}
 use Rattle.web_messages.specs.EmptyLines.{BlankFront, is_blank}
 use Rattle.web_messages.specs.HeadReadings.{NeverHasHead}
 use Rattle.web_messages.specs.NextMessage.{BodyIs, ChunkedBodyIs, IsFinal, IsNext, framing_in, message_of}
@@ -25,6 +26,8 @@ use Rattle.web_messages.proofs.ChunkLemmas.{so_far_more, at_start}
 use Rattle.web_messages.proofs.MoreLemmas.{begins_more, blank_more, message_stays, refused_stays}
 use Rattle.web_messages.proofs.NextLemmas.{left_fits, message_next, not_head, refused_next}
 use Rattle.web_messages.proofs.SearchLemmas.{all_blank, blank_no_head, search_longer, searched_all, some_behind}
+use Rattle.web_messages.proofs.StableLemmas.{chunks_more, no_excess_behind}
+use Rattle.web_messages.proofs.TrailerLemmas.{read_longer}
 
 -- ---- more bytes
 
@@ -50,6 +53,16 @@ so_far_longer limit text more bytes at' left s = record {
       (so_far_more limit text (drop at' text) bytes left more s.so_far);
 }
 
+end_longer : (limit : ℕ) (text more bytes : List ℕ) (t : Option Trailers) → EndRead limit text bytes t → EndRead limit (text ++ more) bytes t
+end_longer limit text more bytes None h = tt
+end_longer limit text more bytes (Some t) h = (
+  no_excess_behind limit text bytes (drop t.start text) more h.1 h.0,
+  subst (λ (r : List ℕ). HasChunks (text ++ more) bytes r)
+      (sym (drop-append-le t.start text more (omega (arith, h.2.order, h.2.inside))))
+      (chunks_more text bytes (drop t.start text) more h.1),
+  read_longer text more t h.2,
+)
+
 pub progress_longer : (limits : Limits) (bytes more : List ℕ) (p : Progress) → IsProgress limits bytes p → IsProgress limits (bytes ++ more) p
 progress_longer limits bytes more (progress.Head s) h = search_longer bytes more s h
 progress_longer limits bytes more (progress.Sized head n) h = (found_more limits bytes more head.value h.0, h.1)
@@ -59,6 +72,9 @@ progress_longer limits bytes more (progress.Chunked head place content) h = (
   subst (λ (t : List ℕ). IsSoFarAt limits.body t content.items place.at place.left)
       (sym (drop-append-le head.value.length bytes more (head_within limits bytes head.value h.0)))
       (so_far_longer limits.body (drop head.value.length bytes) more content.items place.at place.left h.2),
+  subst (λ (t : List ℕ). EndRead limits.body t content.items place.trailers)
+      (sym (drop-append-le head.value.length bytes more (head_within limits bytes head.value h.0)))
+      (end_longer limits.body (drop head.value.length bytes) more content.items place.trailers h.3),
 )
 
 -- chunks of which none was read
@@ -146,3 +162,6 @@ module _ (limit : ℕ) (text content : List ℕ) where
 
 pub so_far_at : {limit : ℕ} {text other bytes : List ℕ} {at' left : ℕ} → text ≡ other → IsSoFarAt limit text bytes at' left → IsSoFarAt limit other bytes at' left
 so_far_at {limit} {text} {other} {bytes} {at'} {left} e s = subst (λ (t : List ℕ). IsSoFarAt limit t bytes at' left) e s
+
+pub end_at : (limit : ℕ) (text other bytes : List ℕ) (t : Option Trailers) → text ≡ other → EndRead limit text bytes t → EndRead limit other bytes t
+end_at limit text other bytes t e h = subst (λ (x : List ℕ). EndRead limit x bytes t) e h

@@ -1,11 +1,13 @@
 //! A body in chunks.
-ghost use Rattle.std.specs.Prelude.{IfOk, OnOk};
-ghost use Rattle.web_messages.specs.Chunking.{ChunksOf, IsChunked, IsSoFarAt};
+ghost use Rattle.std.specs.Prelude.{◌≡◌, ℕ, IfOk, List, OnOk, drop};
+ghost use Rattle.web_messages.specs.ChunkedBody.{IsTooLarge};
+ghost use Rattle.web_messages.specs.Chunking.{ChunksOf, EndRead, HasChunks, IsChunked};
+ghost use Rattle.web_messages.specs.Chunking.{IsSoFarAt, TrailersRead};
 
 use crate::data::read_data;
 use crate::reading::Reading;
 use crate::size_line::read_size_line;
-use crate::trailers::read_trailers;
+use crate::trailers::{Trailers, read_trailers};
 use web_texts::NoMemory;
 
 /// What a text that should begin with a body in chunks begins with.
@@ -21,13 +23,15 @@ pub(crate) enum Chunked<T> {
     Wrong,
 }
 
-/// How far the chunks of a body were read.
+/// How far a body in chunks was read.
 #[derive(Clone, Copy, Debug, PartialEq, Eq)]
 pub struct Place {
     /// The number of bytes up to the end of the last whole chunk.
     pub at: usize,
     /// The most bytes that the chunks behind it may have.
     pub left: u64,
+    /// How far the trailers were read, once the last size line was.
+    pub trailers: Option<Trailers>,
 }
 
 /// Reads on from a place: the chunks up to the size line of size 0. Adds their bytes to `out`, and
@@ -43,6 +47,7 @@ fn read_chunks<'b>(
     ensures chunks { IfOk result (ChunksOf limit text.now out.new.items) }
     ensures place { OnOk result
         (IsSoFarAt limit text.now out.new.items place.new.at place.new.left) }
+    ensures trailers { OnOk result (place.new.trailers ≡ place.old.trailers) }
 {
     'chunks: loop {
         let (_, rest) = text.split_at(place.at);
@@ -69,6 +74,22 @@ fn read_chunks<'b>(
     }
 }
 
+/// Reads on in the trailers behind the chunks, and returns the text behind the body.
+fn read_end<'b>(text: &'b [u8], read: &mut Trailers) -> Chunked<&'b [u8]>
+    requires { TrailersRead text.now read.old }
+    ensures body { (limit : ℕ) (bytes : List ℕ) → ¬ (IsTooLarge limit text.now)
+        → HasChunks text.now bytes (drop read.old.start text.now)
+        → IsChunked limit text.now bytes result }
+    ensures start { read.new.start ≡ read.old.start }
+    ensures read { TrailersRead text.now read.new }
+{
+    match read_trailers(text, read) {
+        Reading::Whole(behind) => Chunked::Body(behind),
+        Reading::Unfinished => Chunked::Unfinished,
+        Reading::Wrong => Chunked::Wrong,
+    }
+}
+
 /// Reads on from a place to the end of the body, and returns the text behind it.
 pub(crate) fn read_chunked<'b>(
     text: &'b [u8],
@@ -76,17 +97,31 @@ pub(crate) fn read_chunked<'b>(
     place: &mut Place,
     out: &mut Vec<u8>,
 ) -> Result<Chunked<&'b [u8]>, NoMemory>
-    requires { IsSoFarAt limit text.now out.old.items place.old.at place.old.left }
+    requires chunks { IsSoFarAt limit text.now out.old.items place.old.at place.old.left }
+    requires end { EndRead limit text.now out.old.items place.old.trailers }
     ensures body { IfOk result (IsChunked limit text.now out.new.items) }
     ensures place { OnOk result
         (IsSoFarAt limit text.now out.new.items place.new.at place.new.left) }
+    ensures end { OnOk result (EndRead limit text.now out.new.items place.new.trailers) }
 {
+    if let Some(read) = place.trailers {
+        let mut read = read;
+        let body = read_end(text, &mut read);
+        place.trailers = Some(read);
+        return Ok(body);
+    }
     match read_chunks(text, limit, place, out)? {
-        Chunked::Body(rest) => match read_trailers(rest) {
-            Reading::Whole(behind) => Ok(Chunked::Body(behind)),
-            Reading::Unfinished => Ok(Chunked::Unfinished),
-            Reading::Wrong => Ok(Chunked::Wrong),
-        },
+        Chunked::Body(rest) => {
+            let start = text.len() - rest.len();
+            let mut read = Trailers {
+                start,
+                line: start,
+                known: 0,
+            };
+            let body = read_end(text, &mut read);
+            place.trailers = Some(read);
+            Ok(body)
+        }
         Chunked::TooLarge => Ok(Chunked::TooLarge),
         Chunked::Unfinished => Ok(Chunked::Unfinished),
         Chunked::Wrong => Ok(Chunked::Wrong),

@@ -26,3 +26,4 @@ pub use laws::{more_bytes_law, one_body_law, one_next_law, progress_law};
 pub use limits::{Limits, Wrong};
 pub use message::{Message, Next};
 pub use progress::{Progress, Search, Step, next_message, next_message_with, read_last, read_on};
+pub use trailers::Trailers;

@@ -146,6 +146,7 @@ fn read_body(
             let place = Place {
                 at: 0,
                 left: limits.body as u64,
+                trailers: None,
             };
             read_chunked_on(limits, bytes, head, place, Vec::new(alloc))
         }
@@ -200,7 +201,8 @@ fn read_head_on(
 /// Reads on in the next message, of which so much was read, when more bytes came behind those at
 /// hand then. `bytes` are all from the first of the message on. A head is parsed once it has an
 /// empty line behind it, or as many bytes as it may have; the bytes of a body are read once, but
-/// for a size line, a chunk that is not whole, and trailers. `NoMemory` where an allocation failed.
+/// for a size line, which is read again until its chunk is whole. `NoMemory` where an allocation
+/// failed.
 pub fn read_on(
     alloc: Global,
     limits: &Limits,

@@ -11,19 +11,19 @@ use Rattle.web_messages.proofs.chunked.read_chunks.Goals as goal
 
 pub returns-in-Unfinished-clause-chunks : goal.returns-in-Unfinished-clause-chunks
 returns-in-Unfinished-clause-chunks c =
-    let s = subst (λ (t : List ℕ). IsSoFar c.args.limit c.args.text.now t c.chunks.out.items c.chunks.place.left) (sym c.split_at.ensures.back) c.chunks.invariant.so_far in
+    let s = subst (λ (t : List ℕ). IsSoFar c.args.limit c.args.text.now t c.chunks.out.items c.chunks.place.left) (sym c.split_at.ensures.back) c.chunks.invariant.place.so_far in
     let e = c.in-Unfinished.ensures in
     (no_line_no_excess s e.0, unfinished_line s e.1, no_line_no_body s e.0)
 
 pub returns-in-Wrong-clause-chunks : goal.returns-in-Wrong-clause-chunks
 returns-in-Wrong-clause-chunks c =
-    let s = subst (λ (t : List ℕ). IsSoFar c.args.limit c.args.text.now t c.chunks.out.items c.chunks.place.left) (sym c.split_at.ensures.back) c.chunks.invariant.so_far in
+    let s = subst (λ (t : List ℕ). IsSoFar c.args.limit c.args.text.now t c.chunks.out.items c.chunks.place.left) (sym c.split_at.ensures.back) c.chunks.invariant.place.so_far in
     let e = c.in-Wrong.ensures in
     (no_line_no_excess s (never_not_yet e), wrong_line s e)
 
 pub returns-then-size-eq0-clause-chunks : goal.returns-then-size-eq0-clause-chunks
 returns-then-size-eq0-clause-chunks c =
-    let s = subst (λ (t : List ℕ). IsSoFar c.args.limit c.args.text.now t c.chunks.out.items c.chunks.place.left) (sym c.split_at.ensures.back) c.chunks.invariant.so_far in
+    let s = subst (λ (t : List ℕ). IsSoFar c.args.limit c.args.text.now t c.chunks.out.items c.chunks.place.left) (sym c.split_at.ensures.back) c.chunks.invariant.place.so_far in
     let e = c.in-Whole.ensures in
     let text = e.2.1 ∙ ap (λ (t : List ℕ). print_size_line e.0 ++ t) (sym e.3.1) in
     let ends = sym e.3.0 ∙ c.if-size-eq0.true in (
@@ -33,7 +33,7 @@ returns-then-size-eq0-clause-chunks c =
 
 pub chunks-preserved : goal.chunks-preserved
 chunks-preserved c =
-    let s = subst (λ (t : List ℕ). IsSoFar c.args.limit c.args.text.now t c.chunks.out.items c.chunks.place.left) (sym c.split_at.ensures.back) c.chunks.invariant.so_far in
+    let s = subst (λ (t : List ℕ). IsSoFar c.args.limit c.args.text.now t c.chunks.out.items c.chunks.place.left) (sym c.split_at.ensures.back) c.chunks.invariant.place.so_far in
     let e = c.in-Whole.ensures in
     let g = c.in-Whole-read_data.ensures in
     let text = e.2.1 ∙ ap (λ (t : List ℕ). print_size_line e.0 ++ t) (sym e.3.1) in
@@ -41,12 +41,15 @@ chunks-preserved c =
     let step = with_chunk s e.0 c.in-Whole.line.1.now e.2.0 text g.0 g.1 (omega (arith, size, c.if-size-eq0.false))
     (omega (arith, size, c.if-size-place.false)) (subst (λ (n : ℕ). DataLine n g.0 c.in-Whole.line.1.now g.1) size g.2) in
     record {
-      inside = omega arith;
-      so_far = so_far_same _ _ _ _ _ (drop (length c.args.text.now - length c.in-Whole-read_data.next.now) c.args.text.now)
-          c.extend_from_slice.new.self.items (c.chunks.place.left - c.in-Whole.line.0)
-          (ap (λ (t : List ℕ). drop (length c.args.text.now - length t) c.args.text.now) g.3.1 ∙ place_behind step)
-          (c.in_ok-extend_from_slice-in-Whole-read_data.ensures.items ∙ ap (λ (t : List ℕ). c.chunks.out.items ++ t) g.3.0)
-          (omega (arith, size)) step;
+      place = record {
+        inside = omega arith;
+        so_far = so_far_same _ _ _ _ _ (drop (length c.args.text.now - length c.in-Whole-read_data.next.now) c.args.text.now)
+            c.extend_from_slice.new.self.items (c.chunks.place.left - c.in-Whole.line.0)
+            (ap (λ (t : List ℕ). drop (length c.args.text.now - length t) c.args.text.now) g.3.1 ∙ place_behind step)
+            (c.in_ok-extend_from_slice-in-Whole-read_data.ensures.items ∙ ap (λ (t : List ℕ). c.chunks.out.items ++ t) g.3.0)
+            (omega (arith, size)) step;
+      };
+      trailers = c.chunks.invariant.trailers;
     }
 
 pub chunks-smaller : goal.chunks-smaller
@@ -68,7 +71,7 @@ chunks-smaller c =
 
 pub returns-in-Unfinished-read_data-clause-chunks : goal.returns-in-Unfinished-read_data-clause-chunks
 returns-in-Unfinished-read_data-clause-chunks c =
-    let s = subst (λ (t : List ℕ). IsSoFar c.args.limit c.args.text.now t c.chunks.out.items c.chunks.place.left) (sym c.split_at.ensures.back) c.chunks.invariant.so_far in
+    let s = subst (λ (t : List ℕ). IsSoFar c.args.limit c.args.text.now t c.chunks.out.items c.chunks.place.left) (sym c.split_at.ensures.back) c.chunks.invariant.place.so_far in
     let e = c.in-Whole.ensures in
     let text = e.2.1 ∙ ap (λ (t : List ℕ). print_size_line e.0 ++ t) (sym e.3.1) in
     let size = e.3.0 in
@@ -82,7 +85,7 @@ returns-in-Unfinished-read_data-clause-chunks c =
 
 pub returns-in-Wrong-read_data-clause-chunks : goal.returns-in-Wrong-read_data-clause-chunks
 returns-in-Wrong-read_data-clause-chunks c =
-    let s = subst (λ (t : List ℕ). IsSoFar c.args.limit c.args.text.now t c.chunks.out.items c.chunks.place.left) (sym c.split_at.ensures.back) c.chunks.invariant.so_far in
+    let s = subst (λ (t : List ℕ). IsSoFar c.args.limit c.args.text.now t c.chunks.out.items c.chunks.place.left) (sym c.split_at.ensures.back) c.chunks.invariant.place.so_far in
     let e = c.in-Whole.ensures in
     let text = e.2.1 ∙ ap (λ (t : List ℕ). print_size_line e.0 ++ t) (sym e.3.1) in
     let size = e.3.0 in
