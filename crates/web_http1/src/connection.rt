@@ -93,6 +93,15 @@ impl Connection {
         self.ended
     }
 
+    /// How many bytes are kept: those that came behind the last message that was answered. No limit
+    /// bounds them. A loop may end a connection that keeps too many by `finish`, which writes
+    /// nothing where they are empty lines alone.
+    pub fn kept(&self) -> usize
+        ensures { result ≡ length self.now.left }
+    {
+        self.buffer.len() - self.start
+    }
+
     /// Drops the bytes that were answered, where they are at least half of all.
     fn drop_answered(&mut self, alloc: Global) -> Result<(), NoMemory>
         ensures { self.new ≡ self.old }
