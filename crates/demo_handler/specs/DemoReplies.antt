@@ -30,8 +30,29 @@ use Rattle.demo_picked.specs.declared.picked.Picked.TheVariants as picked
 
 -- how many polls of the handler return Pending
 abbrev pub wait_of : Picked → ℕ
+wait_of (picked.Bytes bytes) = 0
+wait_of (picked.Text text) = 0
+wait_of (picked.Json json) = 0
+wait_of (picked.Capped capped) = 0
+wait_of (picked.CappedJson capped) = 0
+wait_of (picked.Form form) = 0
+wait_of (picked.Either either) = 0
+wait_of (picked.Option item left) = 0
+wait_of (picked.Result read) = 0
+wait_of (picked.Path path) = 0
+wait_of (picked.Query query) = 0
+wait_of (picked.Header header) = 0
+wait_of (picked.Data arguments) = 0
+wait_of (picked.Raw body) = 0
+wait_of (picked.Who info) = 0
+wait_of (picked.Cookies said) = 0
+wait_of (picked.Lines lines) = 0
+wait_of (picked.Parts parts) = 0
+wait_of (picked.Document q) = 0
+wait_of (picked.Variant q) = 0
+wait_of (picked.Both text late) = 0
 wait_of (picked.Wait wait) = wait.0
-wait_of _ = 0
+wait_of picked.Other = 0
 
 -- 200 with the item as JSON
 abbrev pub json_reply : Item → Reply Plain
@@ -128,10 +149,23 @@ AnswersWithoutMemory (picked.Json json) = ⊤
 AnswersWithoutMemory (picked.Capped capped) = ⊤
 AnswersWithoutMemory (picked.CappedJson capped) = ⊤
 AnswersWithoutMemory (picked.Form form) = ⊤
+AnswersWithoutMemory (picked.Either either) = ⊥
+AnswersWithoutMemory (picked.Option item left) = ⊥
+AnswersWithoutMemory (picked.Result read) = ⊥
+AnswersWithoutMemory (picked.Path path) = ⊥
+AnswersWithoutMemory (picked.Query query) = ⊥
+AnswersWithoutMemory (picked.Header header) = ⊥
+AnswersWithoutMemory (picked.Data arguments) = ⊥
+AnswersWithoutMemory (picked.Raw body) = ⊥
+AnswersWithoutMemory (picked.Who info) = ⊥
+AnswersWithoutMemory (picked.Cookies said) = ⊥
+AnswersWithoutMemory (picked.Lines lines) = ⊥
+AnswersWithoutMemory (picked.Parts parts) = ⊥
+AnswersWithoutMemory (picked.Document q) = ⊥
+AnswersWithoutMemory (picked.Variant q) = ⊥
 AnswersWithoutMemory (picked.Both text late) = ⊤
 AnswersWithoutMemory (picked.Wait wait) = ⊤
 AnswersWithoutMemory picked.Other = ⊤
-AnswersWithoutMemory _ = ⊥
 
 -- an output of this reply alone, after this number of polls alone
 abbrev pub HandlerAnswers : Picked → ℕ → Answer Feed → Type 0

@@ -31,7 +31,28 @@ fn wait_of(picked: &Picked) -> u64
 {
     match picked {
         Picked::Wait(wait) => wait.0,
-        _ => 0,
+        Picked::Bytes(_)
+        | Picked::Text(_)
+        | Picked::Json(_)
+        | Picked::Capped(_)
+        | Picked::CappedJson(_)
+        | Picked::Form(_)
+        | Picked::Either(_)
+        | Picked::Option(_, _)
+        | Picked::Result(_)
+        | Picked::Path(_)
+        | Picked::Query(_)
+        | Picked::Header(_)
+        | Picked::Data(_)
+        | Picked::Raw(_)
+        | Picked::Who(_)
+        | Picked::Cookies(_)
+        | Picked::Lines(_)
+        | Picked::Parts(_)
+        | Picked::Document(_)
+        | Picked::Variant(_)
+        | Picked::Both(_, _)
+        | Picked::Other => 0,
     }
 }
 
