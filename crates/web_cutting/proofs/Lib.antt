@@ -4,3 +4,4 @@ mod CutValuesLemmas
 mod CutRepliesLemmas
 mod TakingLemmas
 mod CutPartsLemmas
+mod PoolCallsLemmas

@@ -1,3 +1,4 @@
 pub mod CutFree
 pub mod CutDecoders
 pub mod CutReplies
+pub mod PoolCalls

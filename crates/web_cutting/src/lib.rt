@@ -1,5 +1,5 @@
-//! Laws of bodies that are cut into pieces in more than one way, and of what arguments leave of a
-//! body.
+//! Laws over many crates: of bodies that are cut into pieces in more than one way, of what
+//! arguments leave of a body, and of any list of calls of a pool.
 #![tactic(auto)]
 
 mod argument_cutting;
@@ -8,6 +8,9 @@ mod first_takers;
 mod head_cutting;
 mod list_cutting;
 mod multipart_cutting;
+#[cfg(test)]
+mod pool_call_tests;
+mod pool_calls;
 mod reply_cutting;
 mod value_cutting;
 
@@ -20,5 +23,6 @@ pub use first_takers::{
 pub use head_cutting::{data_cutting_law, head_cutting_law, read_cutting_law};
 pub use list_cutting::list_cutting_law;
 pub use multipart_cutting::{multipart_cutting_law, multipart_taking_law};
+pub use pool_calls::{PoolCall, make_calls};
 pub use reply_cutting::reply_cutting_law;
 pub use value_cutting::{either_cutting_law, value_cutting_law};

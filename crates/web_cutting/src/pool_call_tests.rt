@@ -1,0 +1,89 @@
+//! Calls of a pool that keeps one record.
+use crate::pool_calls::{PoolCall, make_calls};
+use http::{Method, Version};
+use http_header::HeaderMap;
+use http_uri::Uri;
+use std::alloc::Global;
+use std::process::Abort;
+use std::rc::Rc;
+use web_request::{
+    App, AppConfig, HttpRequest, HttpRequestPool, IpAddr, NoData, PlainApp, RequestHead,
+    RequestParts, SocketAddr,
+};
+use web_body::Marks;
+use web_texts::Text;
+
+/// A pool that keeps one record.
+fn pool_of_one(rt: &impl Abort, alloc: Global) -> HttpRequestPool<PlainApp<Marks>> {
+    let root = Rc::new(alloc, NoData).expect(rt, "memory");
+    let config = AppConfig {
+        host: Text::of(alloc, "localhost:8080").expect(rt, "memory"),
+        secure: false,
+        local_addr: SocketAddr {
+            ip: IpAddr::V4([127, 0, 0, 1]),
+            port: 8080,
+        },
+    };
+    HttpRequestPool::with_capacity(alloc, root, config, 1).expect(rt, "memory")
+}
+
+/// A start of a request without parameters, layers and data.
+fn start<A: App>(rt: &impl Abort, alloc: Global) -> PoolCall<RequestParts<A>> {
+    let head = RequestHead {
+        uri: Uri::from_static("/").expect(rt, "a target"),
+        method: Method::GET,
+        version: Version::HTTP_11,
+        headers: HeaderMap::new(alloc),
+        peer_addr: None,
+    };
+    PoolCall::Start(RequestParts {
+        head,
+        params: Vec::new(alloc),
+        layers: Vec::new(alloc),
+        conn: None,
+        local: None,
+    })
+}
+
+/// Makes the calls, and compares the numbers that the pool keeps, how many it made, and the numbers
+/// of the records that are held.
+fn assert_after<A: App>(
+    rt: &impl Abort,
+    alloc: Global,
+    pool: &mut HttpRequestPool<A>,
+    held: &mut Vec<HttpRequest<A>>,
+    calls: Vec<PoolCall<RequestParts<A>>>,
+    expected: (&[u64], u64, &[u64]),
+) {
+    assert!(rt; pool.made() < 9 && calls.len() < 9);
+    make_calls(alloc, pool, held, calls).expect(rt, "memory");
+    assert_eq!(rt; pool.serials(), expected.0);
+    assert_eq!(rt; pool.made(), expected.1);
+    let mut numbers = Vec::new(alloc);
+    for request in held.as_slice() {
+        numbers.push(request.serial()).expect(rt, "memory");
+    }
+    assert_eq!(rt; numbers.as_slice(), expected.2);
+}
+
+#[test]
+fn records_are_kept_used_again_and_dropped(rt: HostRuntime) {
+    let alloc = rt.alloc();
+    let (mut pool, mut held) = (pool_of_one(&rt, alloc), Vec::new(alloc));
+    // One of two records is kept, and is used again.
+    let calls = vec![in alloc;
+        start(&rt, alloc),
+        start(&rt, alloc),
+        PoolCall::GiveBack(1),
+        PoolCall::GiveBack(0),
+        PoolCall::GiveBack(0),
+        start(&rt, alloc),
+        start(&rt, alloc),
+    ];
+    let calls = calls.expect(&rt, "memory");
+    assert_after(&rt, alloc, &mut pool, &mut held, calls, (&[], 3, &[1, 2]));
+    // A disabled pool keeps none.
+    let calls = vec![in alloc; PoolCall::GiveBack(0), PoolCall::Disable, PoolCall::GiveBack(0)];
+    let calls = calls.expect(&rt, "memory");
+    assert_after(&rt, alloc, &mut pool, &mut held, calls, (&[], 3, &[]));
+}
