@@ -14,6 +14,8 @@ mod flights;
 #[cfg(test)]
 mod poll_order;
 #[cfg(test)]
+mod pool_calls;
+#[cfg(test)]
 mod relays;
 #[cfg(test)]
 mod replies;

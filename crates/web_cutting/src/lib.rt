@@ -8,8 +8,6 @@ mod first_takers;
 mod head_cutting;
 mod list_cutting;
 mod multipart_cutting;
-#[cfg(test)]
-mod pool_call_tests;
 mod pool_calls;
 mod reply_cutting;
 mod value_cutting;

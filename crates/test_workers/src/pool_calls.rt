@@ -1,16 +1,16 @@
 //! Calls of a pool that keeps one record.
-use crate::pool_calls::{PoolCall, make_calls};
 use http::{Method, Version};
 use http_header::HeaderMap;
 use http_uri::Uri;
 use std::alloc::Global;
 use std::process::Abort;
 use std::rc::Rc;
+use web_body::Marks;
+use web_cutting::{PoolCall, make_calls};
 use web_request::{
     App, AppConfig, HttpRequest, HttpRequestPool, IpAddr, NoData, PlainApp, RequestHead,
     RequestParts, SocketAddr,
 };
-use web_body::Marks;
 use web_texts::Text;
 
 /// A pool that keeps one record.
@@ -83,7 +83,11 @@ fn records_are_kept_used_again_and_dropped(rt: HostRuntime) {
     let calls = calls.expect(&rt, "memory");
     assert_after(&rt, alloc, &mut pool, &mut held, calls, (&[], 3, &[1, 2]));
     // A disabled pool keeps none.
-    let calls = vec![in alloc; PoolCall::GiveBack(0), PoolCall::Disable, PoolCall::GiveBack(0)];
+    let calls = vec![in alloc;
+        PoolCall::GiveBack(0),
+        PoolCall::Disable,
+        PoolCall::GiveBack(0),
+    ];
     let calls = calls.expect(&rt, "memory");
     assert_after(&rt, alloc, &mut pool, &mut held, calls, (&[], 3, &[]));
 }
