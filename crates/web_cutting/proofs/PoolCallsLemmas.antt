@@ -1,5 +1,5 @@
 -- Any list of calls of a pool: one call more, how many records it makes, and distinct numbers.
-use Rattle.std.proofs.Common.{◌≡◌, ◌==◌, ℕ, zero, suc, ◌+◌, ◌<◌, ◌≤◌, ◌^◌, cond, List, [], ◌∷◌, ◌++◌, length, map, length-append, refl, sym, ◌∙◌, ap, arith, subst}
+use Rattle.std.proofs.Common.{◌≡◌, ◌==◌, ℕ, zero, suc, ◌+◌, ◌<◌, ◌≤◌, cond, List, [], ◌∷◌, ◌++◌, length, length-append, refl, sym, ◌∙◌, ap, arith, subst}
 use Rattle.std.specs.Prelude.{Option, None, Some, slice_get}
 use Rattle.std.specs.List.{remove}
 use Rattle.std.proofs.lemmas.Option.{slice_get_past}
@@ -85,7 +85,7 @@ return_distinct s place (Some r) e once =
     (λ y. let o = once y in let less = count_less s.held place r y e in omega (arith, o, less))
 
 call_distinct : {L D C : Type 0} (s : PoolInUse L D C) (call : PoolCall (Parts L D C)) → HasDistinctSerials s → HasDistinctSerials (after_call s call)
-call_distinct s (Start parts) once y =
+call_distinct s (Start parts) once = λ y.
     let took = start_once s.pool (held_serials s.held) once y in
     let more = count_more s.held (new_record s.pool.root s.pool.config (next_serial s.pool) parts) y in
     omega (arith, took, more)

@@ -1,18 +1,17 @@
-use Rattle.std.proofs.Common.{◌≡◌, ◌∙◌, ◌++◌, ◌∷◌, [], List, ap, append-nil, append_assoc, rules, sym}
+use Rattle.std.proofs.Common.{◌≡◌, ◌∙◌, ◌++◌, ◌∷◌, [], ap, append-nil, append_assoc, sym}
 use Rattle.std.proofs.lemmas.List.{nil_from_length}
 use Rattle.std.proofs.lemmas.Result.{err_from_is_err_and}
 use Rattle.std.specs.Vec.Iter.{into_iter_items}
-use Rattle.web_request.specs.Request.{Parts}
-use Rattle.web_cutting.specs.declared.pool_calls.PoolCall.{PoolCall}
 use Rattle.web_cutting.specs.PoolCalls.{PoolInUse, after_call, after_calls, in_use}
 use Rattle.web_cutting.proofs.PoolCallsLemmas.{calls_more, room_left, still_distinct}
 use Rattle.web_cutting.proofs.pool_calls.make_calls.Goals as goal
 
 pub make_call-requires : goal.make_call-requires
-make_call-requires g c =
-    room_left (in_use c.args.pool.now c.args.held.now.items) (in_use c.loop-call.pool c.loop-call.held.items) c.args.calls.items
-    c.loop-call.yielded (into_iter_items c.next.new.self) c.in-Some.call _ c.loop-call.invariant.so_far
-    (ap (λ cs. c.loop-call.yielded ++ cs) (sym c.in-Some.ensures.steps.0) ∙ c.loop-call.invariant.rest) c.requires.counted
+make_call-requires g c = record {
+  counted = room_left (in_use c.args.pool.now c.args.held.now.items) (in_use c.loop-call.pool c.loop-call.held.items) c.args.calls.items
+      c.loop-call.yielded (into_iter_items c.next.new.self) c.in-Some.call _ c.loop-call.invariant.so_far
+      (ap (λ cs. c.loop-call.yielded ++ cs) (sym c.in-Some.ensures.steps.0) ∙ c.loop-call.invariant.rest) c.requires.counted;
+}
 
 pub loop-call-preserved : goal.loop-call-preserved
 loop-call-preserved g c =
