@@ -12,11 +12,12 @@ use Rattle.web_cli.specs.ScriptAnswers.{replies_text}
 abbrev pub IsDemoText : ℕ → List ℕ → List ℕ → Type 0
 IsDemoText capacity script text = text ≡ replies_text picked_arguments demo_handler capacity script
 
--- this is the summary of the script
+-- this is the summary of the script, as `replay` serves it
 abbrev pub IsDemoSummary : List ℕ → List ℕ → Type 0
 IsDemoSummary script text = text ≡ summary_text picked_arguments demo_handler script
 
--- the text has the answers of the bytes of a connection
+-- where each message has one reply, the text has the answers of the bytes of a connection, by a
+-- worker whose pool has this capacity
 abbrev pub AreDemoAnswers : ℕ → List ℕ → List ℕ → Type 0
 AreDemoAnswers capacity bytes text =
     ArePickedAnswers (λ p n y. HandlerAnswers p n y) (λ y q r. r ≡ output_reply y) capacity bytes

@@ -1,12 +1,13 @@
-//! Serves the exchanges of a script, in the order of its plan.
+//! The command with the demo's handler: it serves a script or a connection.
 //!
-//! `rothveng serve --pool=N` reads a script from standard input and writes the replies to standard
-//! output; N is how many records the worker keeps, 0 to 1024. `rothveng generate SEED COUNT` writes
-//! a script of so many exchanges, drawn from the seed, and `rothveng replay SEED COUNT` serves that
-//! script and writes a summary. `rothveng http1 --pool=N` reads the bytes of a connection of
-//! HTTP/1.1 and writes its answers. The exit status is 0 where all was served and written, 2 where
-//! the script is refused, 3 where a read failed, 4 where a write failed, 5 where allocation failed,
-//! and 64 where the arguments are no command.
+//! `rothveng serve --pool=N` reads a script from standard input, serves its exchanges in the order
+//! of its plan, and writes the replies to standard output; N is how many records the worker keeps
+//! at most, 0 to 1024. `rothveng generate SEED COUNT` writes a script of so many exchanges, drawn
+//! from the seed, and `rothveng replay SEED COUNT` serves that script and writes a summary.
+//! `rothveng http1 --pool=N` reads the bytes of a connection of HTTP/1.1 and writes its answers.
+//! The exit status is 0 where all was served and written, 2 where the script is refused or a
+//! connection is too long, 3 where a read failed, 4 where a write failed, 5 where allocation
+//! failed, and 64 where the arguments are no command.
 #![tactic(auto)]
 
 mod program;
