@@ -1,5 +1,5 @@
 //! What is computed of a request once and then kept.
-ghost use Rattle.std.specs.Prelude.{◌≡◌, IfOk, IsOk, IsSome, OnErr, OnOk, option_copied};
+ghost use Rattle.std.specs.Prelude.{◌≡◌, IfOk, IsOk, IsSome, None, OnErr, OnOk, option_copied};
 ghost use Rattle.std.specs.Borrow.{sem};
 ghost use Rattle.std.specs.Io.BufRead.{Rests};
 ghost use Rattle.web_texts.specs.Returns.{ReturnsBy};
@@ -124,11 +124,13 @@ impl<A: App> HttpRequest<A> {
     }
 
     /// A copy of the first of `cookies` that has this name, which are read and kept as by that
-    /// call. `None` also where they cannot be read. Returns `NoMemory` where allocation failed; the
-    /// request is then as before.
+    /// call. `None` also where they cannot be read. Returns `NoMemory` where allocation failed, as it
+    /// does not where none of those that are kept has the name; the request is then as before.
     pub fn cookie(&mut self, alloc: Global, name: &str) -> Result<Option<Cookie>, NoMemory>
         ensures value { IfOk result (λ found.
             found ≡ cookie_named name.now (known_cookies self.old)) }
+        ensures memory { IsSome self.old.kept.decoded
+            → cookie_named name.now (known_cookies self.old) ≡ None → IsOk result }
         ensures after { OnOk result (self.new ≡ with_cookies (known_cookies self.old) self.old) }
         ensures err { OnErr result (self.new ≡ self.old) }
     {
@@ -188,6 +190,8 @@ impl<A: App> HttpRequest<A> {
     pub fn cookie_raw(&mut self, alloc: Global, name: &str) -> Result<Option<Cookie>, NoMemory>
         ensures value { IfOk result (λ found.
             found ≡ cookie_named name.now (known_raw_cookies self.old)) }
+        ensures memory { IsSome self.old.kept.raw
+            → cookie_named name.now (known_raw_cookies self.old) ≡ None → IsOk result }
         ensures after { OnOk result
             (self.new ≡ with_raw_cookies (known_raw_cookies self.old) self.old) }
         ensures err { OnErr result (self.new ≡ self.old) }

@@ -1,5 +1,5 @@
 //! What is read of the request of a `ServiceRequest`. Each call is that of the request.
-ghost use Rattle.std.specs.Prelude.{◌≡◌, IfOk, IsOk, IsSome, OnErr, OnOk, option_copied};
+ghost use Rattle.std.specs.Prelude.{◌≡◌, IfOk, IsOk, IsSome, None, OnErr, OnOk, option_copied};
 ghost use Rattle.std.specs.Option.{option_and_then};
 ghost use Rattle.std.specs.Borrow.{sem};
 ghost use Rattle.std.specs.Io.BufRead.{Rests};
@@ -158,11 +158,13 @@ impl<A: App> ServiceRequest<A> {
     }
 
     /// A copy of the first of `cookies` that has this name, which are read and kept as by that
-    /// call. `None` also where they cannot be read. Returns `NoMemory` where allocation failed; the
-    /// request is then as before.
+    /// call. `None` also where they cannot be read. Returns `NoMemory` where allocation failed, as it
+    /// does not where none of those that are kept has the name; the request is then as before.
     pub fn cookie(&mut self, alloc: Global, name: &str) -> Result<Option<Cookie>, NoMemory>
         ensures value { IfOk result (λ found.
             found ≡ cookie_named name.now (known_cookies self.old.request)) }
+        ensures memory { IsSome self.old.request.kept.decoded
+            → cookie_named name.now (known_cookies self.old.request) ≡ None → IsOk result }
         ensures after { OnOk result (self.new ≡ record self.old {
           request = with_cookies (known_cookies self.old.request) self.old.request;
         }) }
@@ -175,6 +177,8 @@ impl<A: App> ServiceRequest<A> {
     pub fn cookie_raw(&mut self, alloc: Global, name: &str) -> Result<Option<Cookie>, NoMemory>
         ensures value { IfOk result (λ found.
             found ≡ cookie_named name.now (known_raw_cookies self.old.request)) }
+        ensures memory { IsSome self.old.request.kept.raw
+            → cookie_named name.now (known_raw_cookies self.old.request) ≡ None → IsOk result }
         ensures after { OnOk result (self.new ≡ record self.old {
           request = with_raw_cookies (known_raw_cookies self.old.request) self.old.request;
         }) }
