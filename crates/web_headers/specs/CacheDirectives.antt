@@ -1,6 +1,6 @@
 -- Cache directives (RFC 9111, section 5.2).
 use Rattle.std.specs.Prelude.{ℕ, List, ◌∷◌, ◌++◌, codes, decimal, Option, None, Some}
-use Rattle.std.specs.Prelude.{if◌then◌else◌}
+use Rattle.std.specs.Prelude.{if◌then◌else◌, ⊤}
 use Rattle.std.specs.Option.{option_map}
 use Rattle.std.specs.Str.{bytes_eq}
 use Rattle.web_texts.specs.Bytes.{unquoted}
@@ -22,6 +22,22 @@ plain_directive text =
     else if bytes_eq text (codes "private") then Some directive.Private
     else if bytes_eq text (codes "proxy-revalidate") then Some directive.ProxyRevalidate
     else None
+
+-- a directive in which no text is kept
+abbrev pub TakesNoMemory : CacheDirective → Type 0
+TakesNoMemory directive.NoCache = ⊤
+TakesNoMemory directive.NoStore = ⊤
+TakesNoMemory directive.NoTransform = ⊤
+TakesNoMemory directive.OnlyIfCached = ⊤
+TakesNoMemory (directive.MaxAge n) = ⊤
+TakesNoMemory (directive.MaxStale n) = ⊤
+TakesNoMemory (directive.MinFresh n) = ⊤
+TakesNoMemory directive.MustRevalidate = ⊤
+TakesNoMemory directive.Public = ⊤
+TakesNoMemory directive.Private = ⊤
+TakesNoMemory directive.ProxyRevalidate = ⊤
+TakesNoMemory (directive.SMaxAge n) = ⊤
+TakesNoMemory (directive.Extension name argument) = ⊥
 
 -- up to 2^32 - 1
 abbrev pub seconds_of : List ℕ → Option ℕ

@@ -1,12 +1,12 @@
 //! Cache-Control.
-ghost use Rattle.std.specs.Prelude.{◌≡◌, ◌++◌, IfOk, Some, decimal};
+ghost use Rattle.std.specs.Prelude.{◌≡◌, ◌++◌, IfOk, IfSome, Some, decimal};
 ghost use Rattle.std.specs.Fmt.{WritesOnOk};
 ghost use Rattle.std.specs.Str.{bytes_eq};
 ghost use Rattle.web_texts.specs.Cut.{split_once};
-ghost use Rattle.web_texts.specs.TextReaders.{Reads};
+ghost use Rattle.web_texts.specs.TextReaders.{NeverNoMemory, Reads};
 ghost use Rattle.web_headers.specs.CacheDirectives.{plain_directive as plain_spec, seconds_of};
 ghost use Rattle.web_headers.specs.CacheDirectives.{argument_directive, named_directive};
-ghost use Rattle.web_headers.specs.CacheDirectives.{extension_text};
+ghost use Rattle.web_headers.specs.CacheDirectives.{extension_text, TakesNoMemory};
 ghost use Rattle.web_headers.specs.declared.cache_control.CacheDirective.TheVariants as directive;
 
 use crate::header_value::{TryIntoHeaderValue, printed_value};
@@ -110,7 +110,9 @@ fn read_argument(
     name: &str,
     argument: &str,
 ) -> Result<CacheDirective, Fail<ParseError>>
-    ensures { Reads result (argument_directive name.now argument.now) }
+    ensures value { Reads result (argument_directive name.now argument.now) }
+    ensures memory { IfSome (argument_directive name.now argument.now) TakesNoMemory
+        → NeverNoMemory result }
 {
     let known = if is_same(name, "max-age") {
         read_seconds(argument).map(CacheDirective::MaxAge)
@@ -127,7 +129,9 @@ fn read_argument(
 }
 
 fn read_named(alloc: Global, text: &str) -> Result<CacheDirective, Fail<ParseError>>
-    ensures { Reads result (named_directive text.now (split_once 61 text.now)) }
+    ensures value { Reads result (named_directive text.now (split_once 61 text.now)) }
+    ensures memory { IfSome (named_directive text.now (split_once 61 text.now)) TakesNoMemory
+        → NeverNoMemory result }
 {
     match cut_at(text, b'=') {
         Some((_, argument)) if argument.is_empty() => Err(Fail::Of(ParseError::Header)),
@@ -137,14 +141,20 @@ fn read_named(alloc: Global, text: &str) -> Result<CacheDirective, Fail<ParseErr
 }
 
 impl ReadText for CacheDirective {
-    ghost use Rattle.web_headers.specs.CacheDirectives.{cache_directive_of};
+    ghost use Rattle.std.specs.Prelude.{IfSome};
+    ghost use Rattle.web_texts.specs.TextReaders.{NeverNoMemory, Reads};
+    ghost use Rattle.web_headers.specs.CacheDirectives.{cache_directive_of, TakesNoMemory};
 
     ghost reads = { cache_directive_of };
 
     /// Reads a directive. The names that are known are in lower case, and seconds are at most
     /// 2^32 - 1. `ParseError::Header` comes for the empty text, where nothing stands behind the
-    /// first `=`, and for seconds that are no such number.
-    fn parse(alloc: Global, text: &str) -> Result<CacheDirective, Fail<ParseError>> {
+    /// first `=`, and for seconds that are no such number. Only an `Extension` takes memory.
+    fn parse(alloc: Global, text: &str) -> Result<CacheDirective, Fail<ParseError>>
+        ensures value { Reads result (cache_directive_of text.now) }
+        ensures memory { IfSome (cache_directive_of text.now) TakesNoMemory
+            → NeverNoMemory result }
+    {
         if text.is_empty() {
             return Err(Fail::Of(ParseError::Header));
         }
@@ -212,7 +222,14 @@ fn duplicate_argument(argument: &Option<Text>, alloc: Global) -> Result<Option<T
 }
 
 impl Duplicate for CacheDirective {
-    fn duplicate(&self, alloc: Global) -> Result<CacheDirective, NoMemory> {
+    ghost use Rattle.std.specs.Prelude.{◌≡◌, Ok, IfOk};
+    ghost use Rattle.web_headers.specs.CacheDirectives.{TakesNoMemory};
+
+    /// A copy. Only that of an `Extension` takes memory.
+    fn duplicate(&self, alloc: Global) -> Result<CacheDirective, NoMemory>
+        ensures value { IfOk result (λ copy. copy ≡ self.now) }
+        ensures memory { TakesNoMemory self.now → result ≡ Ok self.now }
+    {
         Ok(match self {
             CacheDirective::NoCache => CacheDirective::NoCache,
             CacheDirective::NoStore => CacheDirective::NoStore,
