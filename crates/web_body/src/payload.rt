@@ -37,6 +37,8 @@ impl<S> Payload<S> {
 impl<S: Source> Payload<S> {
     /// The next piece, stall, fault or end: of a stream what its source gives, of a body in memory
     /// its one piece and then the end. `NoMemory` comes only from a stream.
+    // Inlined as `Held::add` is.
+    #[inline(always)]
     pub fn poll_next(&mut self) -> Turn
         ensures next { Next result (payload_feed S.feed self.old) (payload_feed S.feed self.new) }
         ensures gave { GivesBytes S.feed self.old (bytes_given result) self.new }

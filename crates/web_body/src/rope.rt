@@ -1,5 +1,5 @@
 //! Pieces in a row, which are joined once.
-ghost use Rattle.std.specs.Prelude.{◌≡◌, ◌++◌, ◌<◌, ◌^◌, [], length, IfOk, OnErr, OnOk};
+ghost use Rattle.std.specs.Prelude.{◌≡◌, ◌+◌, ◌++◌, ◌<◌, ◌^◌, [], length, IfOk, IsTrue, OnErr, OnOk};
 
 use bytes::{Bytes, BytesQueue};
 use std::alloc::Global;
@@ -51,6 +51,28 @@ impl Rope {
         self.pieces.len() + self.small.len()
     }
 
+    /// Whether there are bytes, and a small piece of this size can be appended to them.
+    // Inlined as `Held::add` is.
+    #[inline(always)]
+    pub fn takes_small(&self, size: usize) -> bool
+        ensures some { IsTrue result → 0 < length self.now }
+        ensures fits { IsTrue result → length self.now + size < 2 ^ 63 }
+    {
+        let held = self.len();
+        0 < held && held <= MOST_BYTES - SMALL && size < SMALL
+    }
+
+    /// Appends a small piece.
+    // Inlined as `Held::add` is.
+    #[inline(always)]
+    pub fn push_small(&mut self, piece: &[u8]) -> Result<(), NoMemory>
+        requires fits { length self.old + length piece.now < 2 ^ 63 }
+        ensures pushed { OnOk result (self.new ≡ self.old ++ piece.now) }
+        ensures kept { OnErr result (self.new ≡ self.old) }
+    {
+        Ok(self.small.extend_from_slice(piece)?)
+    }
+
     /// Appends a piece.
     pub fn push(&mut self, alloc: Global, piece: Bytes) -> Result<(), NoMemory>
         ensures pushed { OnOk result (self.new ≡ self.old ++ piece) }
@@ -60,7 +82,7 @@ impl Rope {
             return Err(NoMemory);
         }
         if piece.len() < SMALL {
-            return Ok(self.small.extend_from_slice(piece.as_slice())?);
+            return self.push_small(piece.as_slice());
         }
         share_small(alloc, &mut self.pieces, &mut self.small)?;
         Ok(self.pieces.push(piece)?)
