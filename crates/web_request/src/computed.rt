@@ -124,8 +124,8 @@ impl<A: App> HttpRequest<A> {
     }
 
     /// A copy of the first of `cookies` that has this name, which are read and kept as by that
-    /// call. `None` also where they cannot be read. Returns `NoMemory` where allocation failed, as it
-    /// does not where none of those that are kept has the name; the request is then as before.
+    /// call. `None` also where they cannot be read. Returns `NoMemory` where allocation failed, but
+    /// not where none of those that are kept has the name; the request is then as before.
     pub fn cookie(&mut self, alloc: Global, name: &str) -> Result<Option<Cookie>, NoMemory>
         ensures value { IfOk result (λ found.
             found ≡ cookie_named name.now (known_cookies self.old)) }
