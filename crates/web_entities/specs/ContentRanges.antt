@@ -1,6 +1,6 @@
 -- Content-Range (RFC 9110, section 14.4).
 use Rattle.std.specs.Prelude.{ℕ, List, [], ◌∷◌, ◌++◌, codes, decimal}
-use Rattle.std.specs.Prelude.{Option, None, Some, if◌then◌else◌}
+use Rattle.std.specs.Prelude.{Option, None, Some, if◌then◌else◌, ⊤}
 use Rattle.std.specs.Option.{option_map, option_and_then}
 use Rattle.std.specs.Str.{bytes_eq}
 use Rattle.web_texts.specs.Cut.{split_once}
@@ -28,6 +28,11 @@ abbrev pub content_range_of : List ℕ → Option ContentRangeSpec
 content_range_of text = option_and_then (λ parts.
     if bytes_eq parts.0 (codes "bytes") then bytes_range_of parts.1
     else Some (kind.Unregistered parts.0 parts.1)) (split_once 32 text)
+
+-- a range of bytes, in which no text is kept
+abbrev pub TakesNoMemory : ContentRangeSpec → Type 0
+TakesNoMemory (kind.Bytes range len) = ⊤
+TakesNoMemory (kind.Unregistered unit resp) = ⊥
 
 abbrev pub positions_text : Option (ℕ × ℕ) → List ℕ
 positions_text None = codes "*"

@@ -69,11 +69,11 @@ type_of name =
     else kind.Ext name
 
 -- a type that is known, in which no text is kept
-abbrev pub IsKnown : DispositionType → Type 0
-IsKnown kind.Inline = ⊤
-IsKnown kind.Attachment = ⊤
-IsKnown kind.FormData = ⊤
-IsKnown (kind.Ext name) = ⊥
+abbrev pub TakesNoMemory : DispositionType → Type 0
+TakesNoMemory kind.Inline = ⊤
+TakesNoMemory kind.Attachment = ⊤
+TakesNoMemory kind.FormData = ⊤
+TakesNoMemory (kind.Ext name) = ⊥
 
 abbrev pub parts_or_all : List ℕ → Option (List ℕ × List ℕ) → List ℕ × List ℕ
 parts_or_all text None = (text, [])

@@ -7,7 +7,8 @@ ghost use Rattle.web_texts.specs.TextReaders.{Reads};
 ghost use Rattle.web_texts.specs.HeaderTexts.{value_bytes};
 ghost use Rattle.web_entities.specs.Dispositions.{type_of, typed_disposition, disposition_of};
 ghost use Rattle.web_entities.specs.Dispositions.{raw_disposition_of, parts_or_all};
-ghost use Rattle.web_entities.specs.Dispositions.{IsKnown, first_disposition, attachment_of};
+ghost use Rattle.web_entities.specs.Dispositions.{TakesNoMemory, first_disposition};
+ghost use Rattle.web_entities.specs.Dispositions.{attachment_of};
 ghost use Rattle.web_entities.specs.DispositionParts as part;
 
 use crate::disposition_param::{
@@ -52,7 +53,7 @@ impl DispositionType {
     /// The type of this name. One that is known takes no memory.
     pub fn of(alloc: Global, name: &str) -> Result<Self, NoMemory>
         ensures value { IfOk result (λ made. made ≡ type_of name.now) }
-        ensures memory { IsKnown (type_of name.now) → IsOk result }
+        ensures memory { TakesNoMemory (type_of name.now) → IsOk result }
     {
         if name.eq_ignore_ascii_case("inline") {
             return Ok(DispositionType::Inline);
@@ -232,7 +233,14 @@ impl Header for ContentDisposition {
 }
 
 impl Duplicate for DispositionType {
-    fn duplicate(&self, alloc: Global) -> Result<Self, NoMemory> {
+    ghost use Rattle.std.specs.Prelude.{◌≡◌, Ok, IfOk};
+    ghost use Rattle.web_entities.specs.Dispositions.{TakesNoMemory};
+
+    /// A copy. That of a known type takes no memory.
+    fn duplicate(&self, alloc: Global) -> Result<Self, NoMemory>
+        ensures value { IfOk result (λ copy. copy ≡ self.now) }
+        ensures memory { TakesNoMemory self.now → result ≡ Ok self.now }
+    {
         match self {
             DispositionType::Inline => Ok(DispositionType::Inline),
             DispositionType::Attachment => Ok(DispositionType::Attachment),

@@ -77,11 +77,18 @@ fn read_bytes(text: &str) -> Option<ContentRangeSpec>
 }
 
 impl ReadText for ContentRangeSpec {
-    ghost use Rattle.web_entities.specs.ContentRanges.{content_range_of};
+    ghost use Rattle.std.specs.Prelude.{IfSome};
+    ghost use Rattle.web_texts.specs.TextReaders.{NeverNoMemory, Reads};
+    ghost use Rattle.web_entities.specs.ContentRanges.{content_range_of, TakesNoMemory};
 
     ghost reads = { content_range_of };
 
-    fn parse(alloc: Global, text: &str) -> Result<Self, Fail<ParseError>> {
+    /// Reads a value. Only one of another unit takes memory.
+    fn parse(alloc: Global, text: &str) -> Result<Self, Fail<ParseError>>
+        ensures value { Reads result (content_range_of text.now) }
+        ensures memory { IfSome (content_range_of text.now) TakesNoMemory
+            → NeverNoMemory result }
+    {
         let Some((unit, resp)) = cut_at(text, b' ') else {
             return Err(Fail::Of(ParseError::Header));
         };
@@ -147,7 +154,14 @@ impl DerefMut for ContentRange {
 }
 
 impl Duplicate for ContentRangeSpec {
-    fn duplicate(&self, alloc: Global) -> Result<Self, NoMemory> {
+    ghost use Rattle.std.specs.Prelude.{◌≡◌, Ok, IfOk};
+    ghost use Rattle.web_entities.specs.ContentRanges.{TakesNoMemory};
+
+    /// A copy. That of a range of bytes takes no memory.
+    fn duplicate(&self, alloc: Global) -> Result<Self, NoMemory>
+        ensures value { IfOk result (λ copy. copy ≡ self.now) }
+        ensures memory { TakesNoMemory self.now → result ≡ Ok self.now }
+    {
         match self {
             ContentRangeSpec::Bytes {
                 range,
@@ -166,7 +180,14 @@ impl Duplicate for ContentRangeSpec {
 }
 
 impl Duplicate for ContentRange {
-    fn duplicate(&self, alloc: Global) -> Result<Self, NoMemory> {
+    ghost use Rattle.std.specs.Prelude.{◌≡◌, Ok, IfOk};
+    ghost use Rattle.web_entities.specs.ContentRanges.{TakesNoMemory};
+
+    /// A copy. That of a range of bytes takes no memory.
+    fn duplicate(&self, alloc: Global) -> Result<Self, NoMemory>
+        ensures value { IfOk result (λ copy. copy ≡ self.now) }
+        ensures memory { TakesNoMemory self.now.0 → result ≡ Ok self.now }
+    {
         let spec = self.0.duplicate(alloc)?;
         Ok(ContentRange(spec))
     }

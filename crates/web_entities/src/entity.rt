@@ -175,11 +175,17 @@ fn is_marked_weak(text: &str) -> bool
 }
 
 impl ReadText for EntityTag {
+    ghost use Rattle.std.specs.Prelude.{◌≡◌, None};
+    ghost use Rattle.web_texts.specs.TextReaders.{NeverNoMemory, Reads};
     ghost use Rattle.web_entities.specs.EntityTags.{tag_of};
 
     ghost reads = { tag_of };
 
-    fn parse(alloc: Global, text: &str) -> Result<Self, Fail<ParseError>> {
+    /// Reads a tag. A text that is none takes no memory.
+    fn parse(alloc: Global, text: &str) -> Result<Self, Fail<ParseError>>
+        ensures value { Reads result (tag_of text.now) }
+        ensures memory { tag_of text.now ≡ None → NeverNoMemory result }
+    {
         let weak = is_marked_weak(text);
         let quoted = if weak { &text[2..] } else { text };
         match quoted_tag(quoted) {

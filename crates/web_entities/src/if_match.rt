@@ -19,8 +19,12 @@ pub enum IfMatch {
 }
 
 impl Header for IfMatch {
-    ghost use Rattle.std.specs.Prelude.{◌≡◌, codes};
-    ghost use Rattle.web_entities.specs.TagLists.{if_match_of};
+    ghost use Rattle.std.specs.Prelude.{◌≡◌, codes, IsTrue};
+    ghost use Rattle.http_header.specs.HeaderMap.{get_all};
+    ghost use Rattle.web_texts.specs.HeaderTexts.{value_bytes};
+    ghost use Rattle.web_texts.specs.TextReaders.{NeverNoMemory};
+    ghost use Rattle.web_headers.specs.TypedHeaders.{ReadsAs};
+    ghost use Rattle.web_entities.specs.TagLists.{if_match_of, is_any};
 
     ghost says = { λ values said. if_match_of values ≡ said };
 
@@ -30,7 +34,13 @@ impl Header for IfMatch {
         IF_MATCH
     }
 
-    fn parse(alloc: Global, headers: &HeaderMap<HeaderValue>) -> Result<Self, Fail<ParseError>> {
+    /// Reads the header. `*` takes no memory.
+    fn parse(alloc: Global, headers: &HeaderMap<HeaderValue>) -> Result<Self, Fail<ParseError>>
+        ensures says { ReadsAs (λ said.
+            if_match_of (value_bytes (get_all headers.now (codes "if-match"))) ≡ said) result }
+        ensures memory { IsTrue (is_any (value_bytes (get_all headers.now (codes "if-match"))))
+            → NeverNoMemory result }
+    {
         if says_any(headers, &IF_MATCH) {
             return Ok(IfMatch::Any);
         }
@@ -42,7 +52,14 @@ impl Header for IfMatch {
 }
 
 impl Duplicate for IfMatch {
-    fn duplicate(&self, alloc: Global) -> Result<Self, NoMemory> {
+    ghost use Rattle.std.specs.Prelude.{◌≡◌, Ok, IfOk};
+    ghost use Rattle.web_entities.specs.declared.if_match.IfMatch.TheVariants as if_match;
+
+    /// A copy. That of `Any` takes no memory.
+    fn duplicate(&self, alloc: Global) -> Result<Self, NoMemory>
+        ensures value { IfOk result (λ copy. copy ≡ self.now) }
+        ensures memory { self.now ≡ if_match.Any → result ≡ Ok self.now }
+    {
         match self {
             IfMatch::Any => Ok(IfMatch::Any),
             IfMatch::Items(tags) => Ok(IfMatch::Items(tags.duplicate(alloc)?)),

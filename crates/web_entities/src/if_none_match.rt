@@ -19,8 +19,12 @@ pub enum IfNoneMatch {
 }
 
 impl Header for IfNoneMatch {
-    ghost use Rattle.std.specs.Prelude.{◌≡◌, codes};
-    ghost use Rattle.web_entities.specs.TagLists.{if_none_match_of};
+    ghost use Rattle.std.specs.Prelude.{◌≡◌, codes, IsTrue};
+    ghost use Rattle.http_header.specs.HeaderMap.{get_all};
+    ghost use Rattle.web_texts.specs.HeaderTexts.{value_bytes};
+    ghost use Rattle.web_texts.specs.TextReaders.{NeverNoMemory};
+    ghost use Rattle.web_headers.specs.TypedHeaders.{ReadsAs};
+    ghost use Rattle.web_entities.specs.TagLists.{if_none_match_of, is_any};
 
     ghost says = { λ values said. if_none_match_of values ≡ said };
 
@@ -30,7 +34,13 @@ impl Header for IfNoneMatch {
         IF_NONE_MATCH
     }
 
-    fn parse(alloc: Global, headers: &HeaderMap<HeaderValue>) -> Result<Self, Fail<ParseError>> {
+    /// Reads the header. `*` takes no memory.
+    fn parse(alloc: Global, headers: &HeaderMap<HeaderValue>) -> Result<Self, Fail<ParseError>>
+        ensures says { ReadsAs (λ said.
+            if_none_match_of (value_bytes (get_all headers.now (codes "if-none-match"))) ≡ said) result }
+        ensures memory { IsTrue (is_any (value_bytes (get_all headers.now (codes "if-none-match"))))
+            → NeverNoMemory result }
+    {
         if says_any(headers, &IF_NONE_MATCH) {
             return Ok(IfNoneMatch::Any);
         }
@@ -42,7 +52,14 @@ impl Header for IfNoneMatch {
 }
 
 impl Duplicate for IfNoneMatch {
-    fn duplicate(&self, alloc: Global) -> Result<Self, NoMemory> {
+    ghost use Rattle.std.specs.Prelude.{◌≡◌, Ok, IfOk};
+    ghost use Rattle.web_entities.specs.declared.if_none_match.IfNoneMatch.TheVariants as if_none_match;
+
+    /// A copy. That of `Any` takes no memory.
+    fn duplicate(&self, alloc: Global) -> Result<Self, NoMemory>
+        ensures value { IfOk result (λ copy. copy ≡ self.now) }
+        ensures memory { self.now ≡ if_none_match.Any → result ≡ Ok self.now }
+    {
         match self {
             IfNoneMatch::Any => Ok(IfNoneMatch::Any),
             IfNoneMatch::Items(tags) => Ok(IfNoneMatch::Items(tags.duplicate(alloc)?)),

@@ -55,7 +55,14 @@ impl Header for IfRange {
 }
 
 impl Duplicate for IfRange {
-    fn duplicate(&self, alloc: Global) -> Result<Self, NoMemory> {
+    ghost use Rattle.std.specs.Prelude.{◌≡◌, Ok, IfOk};
+    ghost use Rattle.web_entities.specs.IfRanges.{TakesNoMemory};
+
+    /// A copy. That of a date takes no memory.
+    fn duplicate(&self, alloc: Global) -> Result<Self, NoMemory>
+        ensures value { IfOk result (λ copy. copy ≡ self.now) }
+        ensures memory { TakesNoMemory self.now → result ≡ Ok self.now }
+    {
         match self {
             IfRange::EntityTag(tag) => Ok(IfRange::EntityTag(tag.duplicate(alloc)?)),
             IfRange::Date(date) => Ok(IfRange::Date(*date)),
