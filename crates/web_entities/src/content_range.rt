@@ -1,10 +1,14 @@
 //! Content-Range.
-ghost use Rattle.std.specs.Prelude.{◌≡◌};
+ghost use Rattle.std.specs.Prelude.{◌≡◌, ◌++◌, IfOk, OnOk, decimal, string_bytes};
 ghost use Rattle.web_texts.specs.Digits.{number_of};
 ghost use Rattle.web_entities.specs.ContentRanges.{star_or, positions_of, bytes_range_of};
+ghost use Rattle.web_entities.specs.ContentRanges.{content_range_text, length_text};
+ghost use Rattle.web_entities.specs.ContentRanges.{positions_text};
+ghost use Rattle.web_entities.specs.declared.content_range.ContentRangeSpec.TheVariants as kind;
 
 use crate::ranges::{read_number, read_pair};
 use http_header::{CONTENT_RANGE, HeaderMap, HeaderName, HeaderValue};
+use itoa::Buffer;
 use std::alloc::Global;
 use std::fmt;
 use std::ops::{Deref, DerefMut};
@@ -262,6 +266,51 @@ impl fmt::Display for ContentRange {
     }
 }
 
+fn push_number(text: &mut String, number: u64) -> Result<(), NoMemory>
+    ensures { OnOk result (string_bytes text.new ≡ string_bytes text.old ++ decimal number) }
+{
+    let mut buffer = Buffer::new();
+    Ok(text.push_str(buffer.format(number))?)
+}
+
+fn push_positions(text: &mut String, positions: Option<(u64, u64)>) -> Result<(), NoMemory>
+    ensures { OnOk result (string_bytes text.new
+        ≡ string_bytes text.old ++ positions_text positions) }
+{
+    let Some((first, last)) = positions else {
+        return Ok(text.push_str("*")?);
+    };
+    push_number(text, first)?;
+    text.push_str("-")?;
+    push_number(text, last)
+}
+
+fn push_length(text: &mut String, length: Option<u64>) -> Result<(), NoMemory>
+    ensures { OnOk result (string_bytes text.new ≡ string_bytes text.old ++ length_text length) }
+{
+    match length {
+        Some(length) => push_number(text, length),
+        None => Ok(text.push_str("*")?),
+    }
+}
+
+/// The text of a range of bytes, in one allocation: three numbers have at most 60 digits.
+fn bytes_text(
+    alloc: Global,
+    range: Option<(u64, u64)>,
+    length: Option<u64>,
+) -> Result<String, NoMemory>
+    ensures { IfOk result (λ text.
+        string_bytes text ≡ content_range_text (kind.Bytes range length)) }
+{
+    let mut text = String::with_capacity(alloc, 68)?;
+    text.push_str("bytes ")?;
+    push_positions(&mut text, range)?;
+    text.push_str("/")?;
+    push_length(&mut text, length)?;
+    Ok(text)
+}
+
 impl TryIntoHeaderValue for ContentRangeSpec {
     ghost use Rattle.http_header.specs.FieldValue.{plain_value};
     ghost use Rattle.web_entities.specs.ContentRanges.{content_range_text};
@@ -269,7 +318,13 @@ impl TryIntoHeaderValue for ContentRangeSpec {
     ghost value = { λ r. plain_value (content_range_text r) };
 
     fn try_into_value(self, alloc: Global) -> Result<HeaderValue, Fail<InvalidHeaderValue>> {
-        printed_value(alloc, &self)
+        match self {
+            ContentRangeSpec::Bytes {
+                range,
+                instance_length,
+            } => Text::from(bytes_text(alloc, range, instance_length)?).try_into_value(alloc),
+            unregistered => printed_value(alloc, &unregistered),
+        }
     }
 }
 
@@ -280,6 +335,6 @@ impl TryIntoHeaderValue for ContentRange {
     ghost value = { λ c. plain_value (content_range_text c.0) };
 
     fn try_into_value(self, alloc: Global) -> Result<HeaderValue, Fail<InvalidHeaderValue>> {
-        printed_value(alloc, &self)
+        self.0.try_into_value(alloc)
     }
 }

@@ -53,12 +53,12 @@ impl Header for IfMatch {
 
 impl Duplicate for IfMatch {
     ghost use Rattle.std.specs.Prelude.{◌≡◌, Ok, IfOk};
-    ghost use Rattle.web_entities.specs.declared.if_match.IfMatch.TheVariants as if_match;
+    ghost use Rattle.web_entities.specs.declared.if_match.IfMatch.TheVariants as kind;
 
     /// A copy. That of `Any` takes no memory.
     fn duplicate(&self, alloc: Global) -> Result<Self, NoMemory>
         ensures value { IfOk result (λ copy. copy ≡ self.now) }
-        ensures memory { self.now ≡ if_match.Any → result ≡ Ok self.now }
+        ensures memory { self.now ≡ kind.Any → result ≡ Ok self.now }
     {
         match self {
             IfMatch::Any => Ok(IfMatch::Any),

@@ -37,7 +37,8 @@ impl Header for IfNoneMatch {
     /// Reads the header. `*` takes no memory.
     fn parse(alloc: Global, headers: &HeaderMap<HeaderValue>) -> Result<Self, Fail<ParseError>>
         ensures says { ReadsAs (λ said.
-            if_none_match_of (value_bytes (get_all headers.now (codes "if-none-match"))) ≡ said) result }
+            if_none_match_of (value_bytes (get_all headers.now (codes "if-none-match"))) ≡ said)
+            result }
         ensures memory { IsTrue (is_any (value_bytes (get_all headers.now (codes "if-none-match"))))
             → NeverNoMemory result }
     {
@@ -53,12 +54,12 @@ impl Header for IfNoneMatch {
 
 impl Duplicate for IfNoneMatch {
     ghost use Rattle.std.specs.Prelude.{◌≡◌, Ok, IfOk};
-    ghost use Rattle.web_entities.specs.declared.if_none_match.IfNoneMatch.TheVariants as if_none_match;
+    ghost use Rattle.web_entities.specs.declared.if_none_match.IfNoneMatch.TheVariants as kind;
 
     /// A copy. That of `Any` takes no memory.
     fn duplicate(&self, alloc: Global) -> Result<Self, NoMemory>
         ensures value { IfOk result (λ copy. copy ≡ self.now) }
-        ensures memory { self.now ≡ if_none_match.Any → result ≡ Ok self.now }
+        ensures memory { self.now ≡ kind.Any → result ≡ Ok self.now }
     {
         match self {
             IfNoneMatch::Any => Ok(IfNoneMatch::Any),
