@@ -150,9 +150,10 @@ pub trait AcceptEncodingChoices {
 
     /// The codings by quality, the greatest first. At equal quality above zero they come in the
     /// order brotli, zstd, gzip, deflate, unknown ones, identity and `*`; equal ones keep their
-    /// order. Those of quality zero stand at the end.
+    /// order. Those of quality zero stand at the end. Those of an empty header take no memory.
     fn ranked(&self, alloc: Global) -> Result<Vec<Preference<Encoding>>, NoMemory>
-        ensures { IfOk result (λ ranked. IsCodingRanking (items self.now) ranked.items) };
+        ensures value { IfOk result (λ ranked. IsCodingRanking (items self.now) ranked.items) }
+        ensures memory { items self.now ≡ [] → IsOk result };
 
     /// The coding to send, of those that are supported: the first ranked one that is named, has a
     /// quality above zero and is supported; else identity where it is acceptable, supported or

@@ -1,5 +1,5 @@
 //! Choices among the languages of Accept-Language.
-ghost use Rattle.std.specs.Prelude.{List, IfOk};
+ghost use Rattle.std.specs.Prelude.{◌≡◌, List, [], IfOk, IsOk};
 ghost use Rattle.web_texts.specs.declared.quality_item.QualityItem.{QualityItem as Weighted};
 ghost use Rattle.web_negotiate.specs.LanguageChoices.{Language, IsLanguagePreference};
 ghost use Rattle.web_negotiate.specs.LanguageChoices.{IsLanguageRanking};
@@ -14,14 +14,17 @@ use web_texts::{Duplicate, LanguageTag, NoMemory};
 pub trait AcceptLanguageChoices {
     ghost items: { Self → List (Weighted Language) };
 
-    /// The first language of the greatest quality above zero, and `Any` where there is none.
+    /// The first language of the greatest quality above zero, and `Any` where there is none. That
+    /// of an empty header takes no memory.
     fn preference(&self, alloc: Global) -> Result<Preference<LanguageTag>, NoMemory>
-        ensures { IfOk result (IsLanguagePreference (items self.now)) };
+        ensures value { IfOk result (IsLanguagePreference (items self.now)) }
+        ensures memory { items self.now ≡ [] → IsOk result };
 
     /// The languages by quality, the greatest first. Equal ones keep their order. Those of quality
-    /// zero stand at the end.
+    /// zero stand at the end. Those of an empty header take no memory.
     fn ranked(&self, alloc: Global) -> Result<Vec<Preference<LanguageTag>>, NoMemory>
-        ensures { IfOk result (λ ranked. IsLanguageRanking (items self.now) ranked.items) };
+        ensures value { IfOk result (λ ranked. IsLanguageRanking (items self.now) ranked.items) }
+        ensures memory { items self.now ≡ [] → IsOk result };
 }
 
 impl AcceptLanguageChoices for AcceptLanguage {

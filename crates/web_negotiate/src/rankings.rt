@@ -1,5 +1,5 @@
 //! Items in the order of their ranks.
-ghost use Rattle.std.specs.Prelude.{◌≡◌, ℕ, IfOk, OnOk, map};
+ghost use Rattle.std.specs.Prelude.{◌≡◌, ℕ, [], IfOk, IsOk, OnOk, map};
 ghost use Rattle.web_negotiate.specs.Rankings.{IsRanked, IsRanking};
 
 use std::alloc::Global;
@@ -50,8 +50,7 @@ fn without_qualities<T: Drop>(
     Ok(items)
 }
 
-/// Copies of the items in the order of their ranks. Equal ones keep their order.
-pub fn ranked_items<T: Duplicate, R: Ranking<QualityItem<T>>>(
+fn ranked_copies<T: Duplicate, R: Ranking<QualityItem<T>>>(
     alloc: Global,
     ranking: &R,
     items: &Items<QualityItem<T>>,
@@ -61,4 +60,21 @@ pub fn ranked_items<T: Duplicate, R: Ranking<QualityItem<T>>>(
     let mut ranked = items.duplicate(alloc)?.into_vec();
     rank_items(ranking, &mut ranked)?;
     without_qualities(alloc, ranked)
+}
+
+/// Copies of the items in the order of their ranks. Equal ones keep their order. Those of no items
+/// take no memory.
+pub fn ranked_items<T: Duplicate, R: Ranking<QualityItem<T>>>(
+    alloc: Global,
+    ranking: &R,
+    items: &Items<QualityItem<T>>,
+) -> Result<Vec<T>, NoMemory>
+    ensures value { IfOk result
+        (λ ranked. IsRanking (R.ranks ranking.now) items.now ranked.items) }
+    ensures memory { items.now ≡ [] → IsOk result }
+{
+    match items.as_slice() {
+        [] => Ok(Vec::new(alloc)),
+        _ => ranked_copies(alloc, ranking, items),
+    }
 }
