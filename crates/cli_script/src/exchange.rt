@@ -144,6 +144,8 @@ impl ScriptedExchange {
     }
 
     /// Adds a mark at the end of the body.
+    // Inlined as `Reader::read_text` is.
+    #[inline(always)]
     pub fn add_mark(&mut self, mark: Mark) -> Result<(), NoMemory>
         ensures { OnOk result (self.new ≡ with_marks (mark ∷ []) self.old) }
     {

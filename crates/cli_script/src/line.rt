@@ -2,6 +2,7 @@
 ghost use Rattle.std.specs.Prelude.{◌≡◌, ◌≤◌, ◌-◌, ◌++◌, length, take, drop, codes, IfSome};
 ghost use Rattle.std.specs.Str.Lines.{strip_carriage_return};
 ghost use Rattle.cli_script.specs.Line.{line_of, word_of};
+ghost use Rattle.cli_script.specs.declared.line.Word.TheVariants.{Text};
 
 use web_texts::{bytes_equal, split_once_at};
 
@@ -69,8 +70,13 @@ pub fn without_return(line: &[u8]) -> &[u8]
 }
 
 /// What follows `text` and a space.
-fn text_argument(line: &[u8]) -> Option<&[u8]>
-    ensures { IfSome result (λ text. line.now ≡ codes "text " ++ text.now) }
+pub fn text_argument(line: &[u8]) -> Option<&[u8]>
+    ensures is { IfSome result (λ text. line.now ≡ codes "text " ++ text.now) }
+    ensures word { IfSome result (λ _. Text ≡ (line_of line.now).word) }
+    ensures argument { IfSome result (λ text. text.now ≡ (line_of line.now).argument) }
+    ensures end { IfSome result (λ text.
+        text.now ≡ drop (length line.now - length text.now) line.now) }
+    ensures short { IfSome result (λ text. length text.now ≤ length line.now) }
 {
     match line {
         [b't', b'e', b'x', b't', b' ', text @ ..] => Some(text),

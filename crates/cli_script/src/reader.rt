@@ -1,6 +1,7 @@
 //! Reads a script line by line, with the exchange that the lines belong to.
-ghost use Rattle.std.specs.Prelude.{◌≡◌, ◌≢◌, ◌⊎◌, ◌≤◌, ◌<◌, ◌^◌, ◌∷◌, [], Some, None, true, false};
-ghost use Rattle.std.specs.Prelude.{nat_le, is_some, length, take, OnOk, IfOk, IfSome};
+ghost use Rattle.std.specs.Prelude.{◌≡◌, ◌≢◌, ◌⊎◌, ◌≤◌, ◌<◌, ◌-◌, ◌^◌, ◌∷◌, []};
+ghost use Rattle.std.specs.Prelude.{Some, None, true, false, nat_le, is_some, length, take, drop};
+ghost use Rattle.std.specs.Prelude.{OnOk, IfOk, IfSome};
 ghost use Rattle.std.specs.Option.{ForSome, option_map};
 ghost use Rattle.std.specs.Result.{is_ok, result_unwrap_or};
 ghost use Rattle.std.specs.Str.Lines.{strip_carriage_return};
@@ -14,7 +15,7 @@ use crate::entries::read_entries;
 use crate::exchange::{RequestLine, ScriptedExchange, read_request};
 use crate::header::read_header;
 use crate::layer::read_layer;
-use crate::line::{Word, split_line, without_return};
+use crate::line::{Word, split_line, text_argument, without_return};
 use crate::number::read_number;
 use crate::param::read_param;
 use crate::part::part_of;
@@ -123,6 +124,8 @@ impl Reader {
         }
     }
 
+    // Inlined as `read_text` is.
+    #[inline(always)]
     fn add_mark(&mut self, mark: Mark) -> Result<(), NoMemory>
         ensures { OnOk result (self.new ≡ record self.old {
           open_exchange = option_map (with_marks (mark ∷ [])) self.old.open_exchange;
@@ -134,6 +137,8 @@ impl Reader {
         Ok(())
     }
 
+    // Inlined as `read_text` is.
+    #[inline(always)]
     fn add_piece(&mut self, piece: Bytes) -> Result<(), NoMemory>
         ensures { OnOk result (self.new ≡ record self.old {
           open_exchange = option_map (with_marks (whole piece)) self.old.open_exchange;
@@ -337,6 +342,8 @@ impl Reader {
 
     /// Reads the line of the first `size` bytes. After a faulty line, what the reader and the sink
     /// hold is not specified.
+    // Inlined as `read_text` is.
+    #[inline(always)]
     pub fn read_line<S: ExchangeSink>(
         &mut self,
         alloc: Global,
@@ -355,6 +362,46 @@ impl Reader {
             ) }
     {
         let line = without_return(&script.as_slice()[..size]);
+        match text_argument(line) {
+            Some(text) => self.read_text(script, line, text),
+            None => self.read_any(alloc, script, line, sink),
+        }
+    }
+
+    /// Reads a line of the word `text`.
+    // Long bodies come in many of these, so all that one goes through is inlined into the loop over
+    // the lines: a line of one byte takes 128 instructions so, and 246 by calls.
+    #[inline(always)]
+    fn read_text(&mut self, script: &Bytes, line: &[u8], text: &[u8]) -> Result<(), Fail<Reason>>
+        requires line { line.now ≡ take (length line.now) script.now }
+        requires end { text.now ≡ drop (length line.now - length text.now) line.now }
+        requires short { length text.now ≤ length line.now }
+        ensures { Accepts result (reader_fault self.old Text)
+            (λ _. self.new ≡ after_line self.old Text text.now) }
+    {
+        if let Some(reason) = self.fault_of(Word::Text) {
+            return Err(Fail::Of(reason));
+        }
+        Ok(self.add_piece(part_of(script, line, text)?)?)
+    }
+
+    /// Reads a line of any word.
+    #[inline(never)]
+    fn read_any<S: ExchangeSink>(
+        &mut self,
+        alloc: Global,
+        script: &Bytes,
+        line: &[u8],
+        sink: &mut S,
+    ) -> Result<(), Fail<Reason>>
+        requires line { line.now ≡ take (length line.now) script.now }
+        requires body { ForSome self.old.open_exchange (λ e. is_body e.marks ≡ true) }
+        requires small { ForSome self.old.open_exchange
+            (λ e. length (piece_bytes e.marks) < 2 ^ 63) }
+        ensures reader { Reads self.old self.new (line_of line.now) result }
+        ensures added { OnOk result
+            (Adds S.holds sink.old sink.new (completed_by self.old (line_of line.now).word)) }
+    {
         let (word, argument) = split_line(line);
         if let Some(reason) = self.fault_of(word) {
             return Err(Fail::Of(reason));
