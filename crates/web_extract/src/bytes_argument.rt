@@ -43,6 +43,8 @@ where
 
     ghost converted = { itself };
 
+    // Inlined as `BytesExtractFut::new` is.
+    #[inline(always)]
     fn from_request(
         alloc: Global,
         req: &HttpRequest<A>,

@@ -61,6 +61,8 @@ pub(crate) fn required_type(config: Option<&PayloadConfig>) -> Option<&Mime>
 
 /// The refusal of a Content-Type other than the required one. It allocates nothing where none is
 /// required.
+// Inlined as `BytesExtractFut::new` is.
+#[inline(always)]
 #[tactic(auto, using(crate::proofs::RequiredTypesLemmas::required_type))]
 pub(crate) fn type_refusal<M: HttpMessage>(
     alloc: Global,
