@@ -23,6 +23,8 @@ fn respond<A: App, R: Responder<A>>(
 }
 
 /// The outcome of an exchange whose handler gave this value.
+// Inlined as `store_outcome` is: 40 instructions fewer.
+#[inline(always)]
 pub fn response_outcome<A: App, R: Responder<A>>(
     alloc: Global,
     value: R,
