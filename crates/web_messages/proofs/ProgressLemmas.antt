@@ -1,10 +1,12 @@
 -- Reading on: what is known of the next message, and that it holds of more bytes too.
-use Rattle.std.proofs.Common.{◌≡◌, ℕ, inl, inr, ◌+◌, ◌<◌, ◌≤◌, ◌==◌, Bool, true, false, List, [], ◌++◌, length, drop, Option, None, Some, refl, sym, ap, subst, arith, append-nil, length-append, if◌then◌else◌}
+use Rattle.std.proofs.Common.{◌≡◌, ℕ, inl, inr, ◌+◌, ◌<◌, ◌≤◌, ◌==◌, Bool, true, false, List, [], ◌++◌, length, drop, Option, None, Some, refl, sym, ap, ◌∙◌, subst, arith, append_assoc, append-nil, length-append, if◌then◌else◌}
 use Rattle.std.specs.Borrow.{Bor}
 use Rattle.std.proofs.lemmas.List.{drop-append-le}
 use Rattle.std.proofs.lemmas.Bool.Decides.{eqb_tells}
 use Rattle.httparse.specs.Grammar.{HasNoRequest, print_request}
 use Rattle.web_messages.specs.declared.chunked.Chunked.TheVariants as chunked
+use Rattle.web_messages.specs.declared.chunked.SizeLineRead.{SizeLineRead}
+use Rattle.web_messages.specs.declared.chunked.SizeLineRead.TheVariants as line
 use Rattle.web_messages.specs.declared.framing.Framing.{Framing}
 use Rattle.web_messages.specs.declared.head.Head.{Head}
 use Rattle.web_messages.specs.declared.limits.Limits.{Limits}
@@ -17,12 +19,15 @@ use Rattle.web_messages.specs.declared.progress.Progress.{Progress}
 use Rattle.web_messages.specs.declared.progress.Progress.TheVariants as progress
 use Rattle.web_messages.specs.declared.progress.Step.TheVariants as step
 use Rattle.web_messages.specs.declared.trailers.Trailers.{Trailers}
-use Rattle.web_messages.specs.Chunking.{EndRead, HasChunks, IsChunked, IsSoFar, IsSoFarAt}
+use Rattle.web_messages.specs.Chunking.{EndRead, HasChunks, IsChunked, IsSoFar, IsSoFarAt, LineRead}
+use Rattle.web_messages.specs.ChunkedBody.{print_size_line}
 use Rattle.web_messages.specs.EmptyLines.{BlankFront, is_blank}
 use Rattle.web_messages.specs.HeadReadings.{NeverHasHead}
+use Rattle.web_messages.specs.Lines.{BeginsText}
 use Rattle.web_messages.specs.NextMessage.{BodyIs, ChunkedBodyIs, IsFinal, IsNext, framing_in, message_of}
 use Rattle.web_messages.specs.Progress.{HeadFound, IsProgress, IsSettled, ReadsOn, next_at_end, stopped}
 use Rattle.web_messages.proofs.ChunkLemmas.{so_far_more, at_start}
+use Rattle.web_messages.proofs.LineLemmas.{text_longer}
 use Rattle.web_messages.proofs.MoreLemmas.{begins_more, blank_more, message_stays, refused_stays}
 use Rattle.web_messages.proofs.NextLemmas.{left_fits, message_next, not_head, refused_next}
 use Rattle.web_messages.proofs.SearchLemmas.{all_blank, blank_no_head, search_longer, searched_all, some_behind}
@@ -53,6 +58,20 @@ so_far_longer limit text more bytes at' left s = record {
       (so_far_more limit text (drop at' text) bytes left more s.so_far);
 }
 
+line_longer : (text more : List ℕ) (at' : ℕ) (r : SizeLineRead) → at' ≤ length text → LineRead text at' r → LineRead (text ++ more) at' r
+line_longer text more at' (line.Open known) within h =
+    subst (λ (t : List ℕ). BeginsText t known) (sym (drop-append-le at' text more within)) (text_longer (drop at' text) more known h)
+line_longer text more at' (line.Whole end size) within h = (
+  omega (arith, h.0, length-append text more),
+  h.1,
+  (
+    h.2.0,
+    drop-append-le at' text more within ∙ ap (λ (t : List ℕ). t ++ more) h.2.1 ∙ append_assoc (print_size_line h.1) (drop end text) more
+        ∙ ap (λ (t : List ℕ). print_size_line h.1 ++ t) (sym (drop-append-le end text more h.0)),
+  ),
+  h.3,
+)
+
 end_longer : (limit : ℕ) (text more bytes : List ℕ) (t : Option Trailers) → EndRead limit text bytes t → EndRead limit (text ++ more) bytes t
 end_longer limit text more bytes None h = tt
 end_longer limit text more bytes (Some t) h = (
@@ -72,9 +91,12 @@ progress_longer limits bytes more (progress.Chunked head place content) h = (
   subst (λ (t : List ℕ). IsSoFarAt limits.body t content.items place.at place.left)
       (sym (drop-append-le head.value.length bytes more (head_within limits bytes head.value h.0)))
       (so_far_longer limits.body (drop head.value.length bytes) more content.items place.at place.left h.2),
+  subst (λ (t : List ℕ). LineRead t place.at place.line)
+      (sym (drop-append-le head.value.length bytes more (head_within limits bytes head.value h.0)))
+      (line_longer (drop head.value.length bytes) more place.at place.line h.2.inside h.3),
   subst (λ (t : List ℕ). EndRead limits.body t content.items place.trailers)
       (sym (drop-append-le head.value.length bytes more (head_within limits bytes head.value h.0)))
-      (end_longer limits.body (drop head.value.length bytes) more content.items place.trailers h.3),
+      (end_longer limits.body (drop head.value.length bytes) more content.items place.trailers h.4),
 )
 
 -- chunks of which none was read
@@ -162,6 +184,9 @@ module _ (limit : ℕ) (text content : List ℕ) where
 
 pub so_far_at : {limit : ℕ} {text other bytes : List ℕ} {at' left : ℕ} → text ≡ other → IsSoFarAt limit text bytes at' left → IsSoFarAt limit other bytes at' left
 so_far_at {limit} {text} {other} {bytes} {at'} {left} e s = subst (λ (t : List ℕ). IsSoFarAt limit t bytes at' left) e s
+
+pub line_at : (text other : List ℕ) (at' : ℕ) (r : SizeLineRead) → text ≡ other → LineRead text at' r → LineRead other at' r
+line_at text other at' r e h = subst (λ (x : List ℕ). LineRead x at' r) e h
 
 pub end_at : (limit : ℕ) (text other bytes : List ℕ) (t : Option Trailers) → text ≡ other → EndRead limit text bytes t → EndRead limit other bytes t
 end_at limit text other bytes t e h = subst (λ (x : List ℕ). EndRead limit x bytes t) e h

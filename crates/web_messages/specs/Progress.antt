@@ -14,7 +14,7 @@ use Rattle.web_messages.specs.declared.progress.Progress.TheVariants as progress
 use Rattle.web_messages.specs.declared.progress.Search.{Search}
 use Rattle.web_messages.specs.declared.progress.Step.{Step}
 use Rattle.web_messages.specs.declared.progress.Step.TheVariants as step
-use Rattle.web_messages.specs.Chunking.{EndRead, IsSoFarAt}
+use Rattle.web_messages.specs.Chunking.{EndRead, IsSoFarAt, LineRead}
 use Rattle.web_messages.specs.EmptyLines.{BeginsBlank, is_blank}
 use Rattle.web_messages.specs.Heads.{Begins}
 use Rattle.web_messages.specs.NextMessage.{IsNext, framing_in, message_of}
@@ -40,6 +40,7 @@ IsProgress limits bytes (progress.Sized head n) =
 IsProgress limits bytes (progress.Chunked head place body) =
     HeadFound limits bytes head.value × (framing_in head.value ≡ framing.Chunked)
     × IsSoFarAt limits.body (drop head.value.length bytes) body.items place.at place.left
+    × LineRead (drop head.value.length bytes) place.at place.line
     × EndRead limits.body (drop head.value.length bytes) body.items place.trailers
 
 -- what is next where no byte follows

@@ -18,7 +18,7 @@ mod size_line;
 mod text_line;
 mod trailers;
 
-pub use chunked::Place;
+pub use chunked::{Place, SizeLineRead};
 pub use framing::{Framing, framing_of};
 pub use head::{Head, HeadRead, read_head};
 pub use head_room::HeadRoom;

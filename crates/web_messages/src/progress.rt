@@ -8,7 +8,7 @@ ghost use Rattle.web_messages.specs.Progress.{next_at_end, stopped};
 ghost use Rattle.web_messages.specs.declared.limits.Limits.{Limits as LimitsOf};
 ghost use Rattle.web_messages.specs.declared.progress.Progress.TheVariants as progress;
 
-use crate::chunked::{Chunked, Place, read_chunked};
+use crate::chunked::{Chunked, Place, SizeLineRead, read_chunked};
 use crate::empty_line::{blank_front, has_empty_line};
 use crate::framing::{Framing, framing_of};
 use crate::head::{Head, HeadRead, read_head};
@@ -146,6 +146,7 @@ fn read_body(
             let place = Place {
                 at: 0,
                 left: limits.body as u64,
+                line: SizeLineRead::Open(0),
                 trailers: None,
             };
             read_chunked_on(limits, bytes, head, place, Vec::new(alloc))
@@ -200,9 +201,8 @@ fn read_head_on(
 
 /// Reads on in the next message, of which so much was read, when more bytes came behind those at
 /// hand then. `bytes` are all from the first of the message on. A head is parsed once it has an
-/// empty line behind it, or as many bytes as it may have; the bytes of a body are read once, but
-/// for a size line, which is read again until its chunk is whole. `NoMemory` where an allocation
-/// failed.
+/// empty line behind it, or as many bytes as it may have; the bytes of a body are read once.
+/// `NoMemory` where an allocation failed.
 pub fn read_on(
     alloc: Global,
     limits: &Limits,

@@ -6,13 +6,18 @@ use Rattle.web_messages.specs.declared.limits.Wrong.TheVariants as wrong
 use Rattle.web_messages.specs.declared.message.Next.TheVariants as next
 use Rattle.web_messages.specs.NextMessage.{message_of}
 use Rattle.web_messages.specs.Progress.{IsSettled}
-use Rattle.web_messages.proofs.ProgressLemmas.{body_fits, chunks_body, cut_now, end_at, message_known, refused_known, so_far_at}
+use Rattle.web_messages.proofs.ProgressLemmas.{body_fits, chunks_body, cut_now, end_at, message_known, refused_known, line_at, so_far_at}
 use Rattle.web_messages.proofs.progress.read_chunked_on.Goals as goal
+
+pub read_chunked-requires-clause-line : goal.read_chunked-requires-clause-line
+read_chunked-requires-clause-line c =
+    let text = take_rest c.args.bytes.now c.deref.result.now.length ∙ ap (λ (h : Head). drop h.length c.args.bytes.now) c.deref.ensures in
+    line_at _ _ c.args.place.at c.args.place.line (sym text) c.requires.3
 
 pub read_chunked-requires-clause-end : goal.read_chunked-requires-clause-end
 read_chunked-requires-clause-end c =
     let text = take_rest c.args.bytes.now c.deref.result.now.length ∙ ap (λ (h : Head). drop h.length c.args.bytes.now) c.deref.ensures in
-    end_at c.args.limits.now.body _ _ c.args.body.items c.args.place.trailers (sym text) c.requires.3
+    end_at c.args.limits.now.body _ _ c.args.body.items c.args.place.trailers (sym text) c.requires.4
 
 pub returns-in-TooLarge : goal.returns-in-TooLarge
 returns-in-TooLarge c =
@@ -37,6 +42,7 @@ returns-in-Unfinished c =
         c.requires.0,
         c.requires.1,
         so_far_at text c.in_ok-rest.ensures.place,
+        line_at _ _ c.read_chunked.new.place.at c.read_chunked.new.place.line text c.in_ok-rest.ensures.line,
         end_at c.args.limits.now.body _ _ c.read_chunked.new.out.items c.read_chunked.new.place.trailers text c.in_ok-rest.ensures.end,
       ),
       cut_now c.args.limits.now c.args.bytes.now c.args.head.value c.requires.0 framing.Chunked (sym c.requires.1) _
