@@ -13,4 +13,5 @@ pub mod UniqueTargetLemmas
 pub mod OneLemmas
 pub mod SearchLemmas
 pub mod ProgressLemmas
+pub mod SkipLemmas
 pub mod UseLemmas

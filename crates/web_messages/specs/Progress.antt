@@ -1,5 +1,5 @@
 -- How far the next message was read, and what is known of it then.
-use Rattle.std.specs.Prelude.{◌≡◌, ℕ, ◌<◌, ◌≤◌, ◌==◌, false, List, ◌++◌, length, drop}
+use Rattle.std.specs.Prelude.{◌≡◌, ℕ, ◌<◌, ◌≤◌, ◌==◌, true, false, List, ◌++◌, length, drop}
 use Rattle.std.specs.Prelude.{if◌then◌else◌, ⊤}
 use Rattle.httparse.specs.Grammar.{RequestHead, print_request, ReadsRequest}
 use Rattle.web_messages.specs.declared.framing.Framing.TheVariants as framing
@@ -18,6 +18,7 @@ use Rattle.web_messages.specs.Chunking.{EndRead, IsSoFarAt, LineRead}
 use Rattle.web_messages.specs.EmptyLines.{BeginsBlank, is_blank}
 use Rattle.web_messages.specs.Heads.{Begins}
 use Rattle.web_messages.specs.NextMessage.{IsNext, framing_in, message_of}
+use Rattle.web_messages.specs.Sameness.{SameAhead}
 
 -- the first bytes are CR or LF, and each head in the bytes ends behind those that were searched
 pub record IsSearch (bytes : List ℕ) (s : Search) : Type 0 where
@@ -81,3 +82,14 @@ stopped wrong.Head p = step.Refused wrong.Head
 stopped wrong.Length p = step.Refused wrong.Length
 stopped wrong.TooLarge p = step.Refused wrong.TooLarge
 stopped wrong.Chunk p = step.Refused wrong.Chunk
+
+-- bytes CR and LF alone are at most as many as a head may have
+abbrev pub HasFewBlank : Limits → List ℕ → Type 0
+HasFewBlank limits bytes = is_blank bytes ≡ true → length bytes ≤ limits.head
+
+-- without the first n bytes the others read the same, whatever follows, and this is their progress
+pub record Skips (limits : Limits) (bytes : List ℕ) (p : Progress) (n : ℕ) : Type 0 where
+  pub inside : n ≤ length bytes
+  pub is_progress : IsProgress limits (drop n bytes) p
+  pub same : (more : List ℕ) → SameAhead limits (bytes ++ more) (drop n bytes ++ more)
+  pub few : HasFewBlank limits (drop n bytes)

@@ -22,7 +22,7 @@ pub use chunked::{Place, SizeLineRead};
 pub use framing::{Framing, framing_of};
 pub use head::{Head, HeadRead, read_head};
 pub use head_room::HeadRoom;
-pub use laws::{more_bytes_law, one_body_law, one_next_law, progress_law};
+pub use laws::{empty_lines_law, more_bytes_law, one_body_law, one_next_law, progress_law};
 pub use limits::{Limits, Wrong};
 pub use message::{Message, Next};
 pub use progress::{Progress, Search, Step, next_message, next_message_with, read_last, read_on};

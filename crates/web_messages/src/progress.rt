@@ -3,7 +3,7 @@ ghost use Rattle.std.specs.Prelude.{◌≡◌, IfOk, List, ℕ, length, true};
 ghost use Rattle.httparse.specs.Grammar.{HasNoRequest};
 ghost use Rattle.web_messages.specs.EmptyLines.{BlankFront};
 ghost use Rattle.web_messages.specs.NextMessage.{IsNext};
-ghost use Rattle.web_messages.specs.Progress.{HeadFound, IsProgress, IsSearch, ReadsOn};
+ghost use Rattle.web_messages.specs.Progress.{HeadFound, IsProgress, IsSearch, ReadsOn, Skips};
 ghost use Rattle.web_messages.specs.Progress.{next_at_end, stopped};
 ghost use Rattle.web_messages.specs.declared.limits.Limits.{Limits as LimitsOf};
 ghost use Rattle.web_messages.specs.declared.progress.Progress.TheVariants as progress;
@@ -59,6 +59,25 @@ impl Progress {
             blank: 0,
             searched: 0,
         })
+    }
+
+    /// Forgets the first of the bytes CR and LF before a head, where they are more than a head may
+    /// have: whatever follows, the bytes behind them read the same. Returns how many these are.
+    pub fn skip_blank(&mut self, limits: &Limits) -> usize
+        ensures { (bytes : List ℕ) → IsProgress limits.now bytes self.old
+            → IsNext limits.now bytes (next_at_end self.old (length bytes))
+            → Skips limits.now bytes self.new result }
+    {
+        let Progress::Head(search) = self else {
+            return 0;
+        };
+        if search.blank <= limits.head {
+            return 0;
+        }
+        let skipped = search.blank - limits.head;
+        search.blank = limits.head;
+        search.searched = limits.head;
+        skipped
     }
 
     /// The next message where no byte follows the `length` bytes of which this was read.
