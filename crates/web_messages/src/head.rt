@@ -1,6 +1,8 @@
 //! The head of a message.
-ghost use Rattle.std.specs.Prelude.{◌≡◌, length, map, IfOk};
+ghost use Rattle.std.specs.Prelude.{◌≡◌, ◌↔◌, codes, length, map, true, IfOk, IsErrOf};
 ghost use Rattle.std.specs.List.{All};
+ghost use Rattle.http_header.specs.FieldName.{IsFieldName};
+ghost use Rattle.http_header.specs.Token.{lowercase};
 ghost use Rattle.httparse.specs.Spans.{IsHeaderWithin, IsWithin, header_bytes, span_bytes};
 ghost use Rattle.web_messages.specs.Heads.{HeadOf, TookField, TookFields, version_of};
 ghost use Rattle.web_messages.specs.HeadReadings.{IsHeadRead, ParsesHead};
@@ -10,7 +12,7 @@ use crate::limits::Limits;
 use bytes::Bytes;
 use http::method::MethodError;
 use http::{Method, Version};
-use http_header::{HeaderMap, HeaderMapError, HeaderName, HeaderNameError, HeaderValue};
+use http_header::{HOST, HeaderMap, HeaderMapError, HeaderName, HeaderNameError, HeaderValue};
 use http_uri::{Uri, UriError};
 use httparse::Status;
 use httparse::spans::{HeaderSpan, RequestSpans, parse_request};
@@ -56,6 +58,24 @@ enum Parsed {
     Unfinished,
 }
 
+/// Whether a name is `Host`, as most senders write it.
+fn is_host(text: &[u8]) -> bool
+    ensures { result ≡ true → (lowercase text.now ≡ codes "host") × IsFieldName text.now }
+{
+    text == b"Host".as_slice() || text == b"host".as_slice()
+}
+
+/// The name of a field. Each message of HTTP/1.1 has `Host`, which is the one that is known first.
+fn name_of(alloc: Global, text: &[u8]) -> Result<HeaderName, HeaderNameError>
+    ensures ok { IfOk result (λ name. name ≡ lowercase text.now) }
+    ensures invalid { IsErrOf result HeaderNameError.Invalid ↔ ¬ (IsFieldName text.now) }
+{
+    if is_host(text) {
+        return Ok(HOST);
+    }
+    HeaderName::from_bytes(alloc, text)
+}
+
 /// Adds the field of a span, and returns whether `http_header` takes it.
 fn add_field(
     alloc: Global,
@@ -66,7 +86,7 @@ fn add_field(
     requires { IsHeaderWithin (length text.now) span }
     ensures { IfOk result (TookField headers.old (header_bytes text.now span) headers.new) }
 {
-    let name = match HeaderName::from_bytes(alloc, span.name.of(text.as_slice())) {
+    let name = match name_of(alloc, span.name.of(text.as_slice())) {
         Ok(name) => name,
         Err(HeaderNameError::Invalid) => return Ok(false),
         Err(HeaderNameError::OutOfMemory) => return Err(NoMemory),
