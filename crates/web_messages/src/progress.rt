@@ -260,24 +260,3 @@ pub fn read_last(
         Step::Unfinished(progress) => Ok(progress.at_end(bytes.len())),
     }
 }
-
-/// The next message of the bytes, which are all that are left, with header maps of the keys that
-/// `room` has. `NoMemory` where an allocation failed.
-pub fn next_message_with(
-    alloc: Global,
-    limits: &Limits,
-    bytes: &[u8],
-    room: &mut HeadRoom,
-) -> Result<Next, NoMemory>
-    ensures { IfOk result (IsNext limits.now bytes.now) }
-{
-    read_last(alloc, limits, bytes, Progress::start(), room)
-}
-
-/// As `next_message_with`, with keys of zero: for senders that do not choose names that collide.
-pub fn next_message(alloc: Global, limits: &Limits, bytes: &[u8]) -> Result<Next, NoMemory>
-    ensures { IfOk result (IsNext limits.now bytes.now) }
-{
-    let mut room = HeadRoom::new(alloc);
-    next_message_with(alloc, limits, bytes, &mut room)
-}
