@@ -9,9 +9,9 @@ use Rattle.web_worker.specs.HandlerPromises.{SamePromises}
 use Rattle.web_worker.specs.Setting.{Setting}
 use Rattle.web_worker.proofs.SamePromiseLemmas.{setting_with}
 use Rattle.web_messages.specs.NextMessage.{IsNext}
-use Rattle.web_messages.specs.Progress.{IsSettled, next_at_end}
+use Rattle.web_messages.specs.Progress.{IsSettled, Skips, next_at_end}
 use Rattle.web_messages.specs.Progress as reading
-use Rattle.web_messages.specs.Sameness.{SameMessage, SameNext}
+use Rattle.web_messages.specs.Sameness.{SameAhead, SameMessage, SameNext}
 use Rattle.web_messages.specs.declared.limits.Limits.{Limits}
 use Rattle.web_messages.specs.declared.limits.Wrong.{Wrong}
 use Rattle.web_messages.specs.declared.limits.Wrong.TheVariants as wrong
@@ -21,6 +21,7 @@ use Rattle.web_messages.specs.declared.message.Next.TheVariants as next
 use Rattle.web_messages.specs.declared.progress.Progress.{Progress}
 use Rattle.web_messages.specs.declared.progress.Progress.TheVariants as progress
 use Rattle.web_messages.proofs.OneLemmas.{one_next}
+use Rattle.web_messages.proofs.SkipLemmas.{ahead_back, ahead_then, same_ahead}
 use Rattle.web_messages.proofs.UseLemmas.{uses_some, uses_within}
 use Rattle.web_http1.specs.declared.answering.Turned.{Turned}
 use Rattle.web_http1.specs.declared.answering.Turned.TheVariants as turned
@@ -28,7 +29,7 @@ use Rattle.web_http1.specs.declared.ended.Ended.{Ended}
 use Rattle.web_http1.specs.declared.ended.Ended.TheVariants as ended
 use Rattle.web_http1.specs.Answers.{Answer, Behind, IsAnswerTo, MayGoOn, MayStand, Served, answer_bytes, asks_end, is_head, refusal_bytes, replies, sent_answer}
 use Rattle.web_http1.specs.Connections.{AllOpen, ConnectionView, FinishesWith, GoesOn, IsOpen, IsOwnEnd, StepsFrom, StepsTo, WaitsForMore, ended_at, open_at}
-use Rattle.web_http1.specs.ConnectionSteps.{IsReplied, IsServed, IsTurned, RefusedWith, TakesPiece, turned_left, with_piece}
+use Rattle.web_http1.specs.ConnectionSteps.{IsReplied, IsServed, IsTurned, RefusedWith, TakesPiece, WaitsBehind, turned_left, with_piece}
 use Rattle.web_http1.specs.MessageExchanges.{exchange_of}
 use Rattle.web_http1.specs.ReplyBytes.{Sent, sent_bytes, sent_reply}
 use Rattle.web_http1.proofs.SettingLemmas.{same_back, served_as}
@@ -68,7 +69,7 @@ replied_so m x same asked head closes sent r asked_is head_is sent_is reply_is c
 -- a step that does not wait for more bytes
 abbrev pub IsKnown : Turned → Type 0
 IsKnown (turned.Goes used) = ⊤
-IsKnown (turned.Waits p) = ⊥
+IsKnown (turned.Waits skipped p) = ⊥
 IsKnown (turned.Ended e) = ⊤
 
 -- a settled message leaves those behind it
@@ -156,6 +157,8 @@ module _ {S L D C V E Y U W : Type 0} (s : Setting S L D C V E Y U W) where
           ∙ ap (λ (t : List ℕ). t ++ more) (sym left) in
           ended_as new None new.ended more xs h.0 rest closed end (
             b.others,
+            rest,
+            same_ahead new.limits rest,
             subst (λ (l : Limits). Served s l (new.left ++ more) b.others rest closed) (sym same)
                 (subst (λ (t : List ℕ). Served s old.limits t b.others rest closed) bytes others),
             ap replies b.all ∙ ap (λ (t : List ℕ). t ++ replies b.others) (sym written.1),
@@ -201,7 +204,7 @@ module _ {S L D C V E Y U W : Type 0} (s : Setting S L D C V E Y U W) where
     subst (λ (n : ℕ). n ≤ length rest) (sym h.0) (message_fits (open_at limits rest) (open_at limits (drop used rest)) m is),
     open_steps (open_at limits rest) (open_at limits (drop used rest)) m is before behind false refl refl refl (ap (λ (n : ℕ). drop n rest) h.0) h.1,
   )
-  served_turns limits rest m before behind (turned.Waits p) is h = absurd h
+  served_turns limits rest m before behind (turned.Waits skipped p) is h = absurd h
   served_turns limits rest m before behind (turned.Ended ended.Closed) is h =
       (tt, closed_steps (open_at limits rest) (ended_at limits rest ended.Closed) m is before behind true refl refl h)
   served_turns limits rest m before behind (turned.Ended (ended.Refused w)) is h = absurd h
@@ -211,14 +214,14 @@ module _ {S L D C V E Y U W : Type 0} (s : Setting S L D C V E Y U W) where
 
   pub served_known : (m : Message) (before behind : List ℕ) (t : Turned) → IsServed s m before behind t → IsKnown t
   served_known m before behind (turned.Goes used) h = tt
-  served_known m before behind (turned.Waits p) h = h
+  served_known m before behind (turned.Waits skipped p) h = h
   served_known m before behind (turned.Ended e) h = tt
 
   -- what is known uses some bytes, for one more record
   pub fewer_left : (limits : Limits) (rest before behind : List ℕ) (t : Turned) (old new : ℕ) → IsKnown t → IsTurned s limits rest before behind t
       → 0 < length rest → new ≤ old + 1 → new + turned_left t (length rest) ≤ old + length rest
   fewer_left limits rest before behind (turned.Goes used) old new known h some made = let a = h.0 in let b = h.1 in omega (arith, a, b, some, made)
-  fewer_left limits rest before behind (turned.Waits p) old new known h some made = absurd known
+  fewer_left limits rest before behind (turned.Waits skipped p) old new known h some made = absurd known
   fewer_left limits rest before behind (turned.Ended e) old new known h some made = omega (arith, some, made)
 
   -- nothing was known
@@ -228,6 +231,8 @@ module _ {S L D C V E Y U W : Type 0} (s : Setting S L D C V E Y U W) where
     written ∙ sym (append-nil before),
     λ more xs rest closed v. ended_as new None new.ended more xs [] rest closed (ap (λ (c : ConnectionView). c.ended) same ∙ unended) (
       xs,
+      rest,
+      same_ahead new.limits rest,
       subst (λ (c : ConnectionView). Served s c.limits (c.left ++ more) xs rest closed) (sym same) v,
       refl,
     ),
@@ -237,7 +242,7 @@ module _ {S L D C V E Y U W : Type 0} (s : Setting S L D C V E Y U W) where
   pub goes_then : (c : ConnectionView) (e : Option Ended) (more : List ℕ) (xs ys : List Answer) (given next' rest : List ℕ) (closed : Bool) → replies xs ≡ given ++ replies ys
       → GoesOn s c e more ys next' rest closed → GoesOn s c e more xs (given ++ next') rest closed
   goes_then c None more xs ys given next' rest closed split g =
-      (g.0, g.1, split ∙ ap (λ (t : List ℕ). given ++ t) g.2 ∙ sym (append_assoc given next' (replies g.0)))
+      (g.0, g.1, g.2, g.3, split ∙ ap (λ (t : List ℕ). given ++ t) g.4 ∙ sym (append_assoc given next' (replies g.0)))
   goes_then c (Some ended.Closed) more xs ys given next' rest closed split g =
       (g.0, ap (λ (t : List ℕ). given ++ t) g.1 ∙ sym split)
   goes_then c (Some (ended.Refused w)) more xs ys given next' rest closed split g = (
@@ -251,15 +256,68 @@ module _ {S L D C V E Y U W : Type 0} (s : Setting S L D C V E Y U W) where
   goes_then c (Some ended.NoMemory) more xs ys given next' rest closed split g =
       (g.0, split ∙ ap (λ (t : List ℕ). given ++ t) g.1 ∙ sym (append_assoc given next' g.0))
 
+  -- what goes on to the end of bytes that read the same
+  pub goes_to : (c : ConnectionView) (e : Option Ended) (more : List ℕ) (xs : List Answer) (given rest other : List ℕ) (closed : Bool) → SameAhead c.limits rest other
+      → GoesOn s c e more xs given rest closed → GoesOn s c e more xs given other closed
+  goes_to c None more xs given rest other closed same g = (g.0, g.1, ahead_then g.2 same, g.3, g.4)
+  goes_to c (Some ended.Closed) more xs given rest other closed same g = g
+  goes_to c (Some (ended.Refused w)) more xs given rest other closed same g = (g.0, g.1, same.there (next.Refused w) g.2, g.3)
+  goes_to c (Some ended.SourceFault) more xs given rest other closed same g = g
+  goes_to c (Some ended.NoMemory) more xs given rest other closed same g = g
+
+  -- a step behind what was given
+  pub goes_further : (middle new : ConnectionView) (more : List ℕ) (xs : List Answer) (given next' rest : List ℕ) (closed : Bool) → new.limits ≡ middle.limits
+      → (g : GoesOn s middle None more xs given rest closed) → GoesOn s new new.ended more g.0 next' g.1 closed
+      → GoesOn s new new.ended more xs (given ++ next') rest closed
+  goes_further middle new more xs given next' rest closed same g h =
+      goes_then new new.ended more xs g.0 given next' rest closed g.4
+      (goes_to new new.ended more g.0 next' g.1 rest closed (subst (λ (l : Limits). SameAhead l g.1 rest) (sym same) g.2) h)
+
   -- two steps
-  pub then_steps : (old middle new : ConnectionView) (a b c : List ℕ) → middle.ended ≡ None → StepsTo s old middle a b → StepsTo s middle new b c → StepsTo s old new a c
-  then_steps old middle new a b c unended h k = (
+  pub then_steps : (old middle new : ConnectionView) (a b c : List ℕ) → middle.ended ≡ None → new.limits ≡ middle.limits → StepsTo s old middle a b → StepsTo s middle new b c
+      → StepsTo s old new a c
+  then_steps old middle new a b c unended same h k = (
     h.0 ++ k.0,
     k.1 ∙ ap (λ (t : List ℕ). t ++ k.0) h.1 ∙ append_assoc a h.0 k.0,
     λ more xs rest closed v.
         let first = subst (λ (o : Option Ended). GoesOn s middle o more xs h.0 rest closed) unended (h.2 more xs rest closed v) in
-        goes_then new new.ended more xs first.0 h.0 k.0 rest closed first.2 (k.2 more first.0 rest closed first.1),
+        goes_further middle new more xs h.0 k.0 rest closed same first (k.2 more first.0 first.1 closed first.3),
   )
+
+  -- bytes that read the same give the same answers
+  served_same : (limits : Limits) (a b : List ℕ) (xs : List Answer) (rest : List ℕ) (closed : Bool) → SameAhead limits a b → Served s limits a xs rest closed
+      → (end : List ℕ) × SameAhead limits end rest × Served s limits b xs end closed
+  served_same limits a b [] rest closed same v = (
+    b,
+    subst (SameAhead limits b) (sym v.1) (ahead_back same),
+    (λ m h. v.0 m (same.back (next.Message m) h), refl, v.2),
+  )
+  served_same limits a b (x ∷ xs) rest closed same v = (
+    rest,
+    same_ahead limits rest,
+    (
+      same.there (next.Message x.message) v.0,
+      v.1,
+      subst (λ (t : List ℕ). Behind (sent_answer x).closes ((xs ≡ []) × (rest ≡ t) × (closed ≡ true)) (Served s limits t xs rest closed)) (same.behind x.message v.0) v.2,
+    ),
+  )
+
+  -- the bytes that are skipped
+  pub skipped_steps : (limits : Limits) (rest other : List ℕ) (before behind : List ℕ) → ((more : List ℕ) → SameAhead limits (rest ++ more) (other ++ more)) → behind ≡ before
+      → StepsTo s (open_at limits rest) (open_at limits other) before behind
+  skipped_steps limits rest other before behind same written = (
+    [],
+    written ∙ sym (append-nil before),
+    λ more xs end closed v.
+        let others = served_same limits (rest ++ more) (other ++ more) xs end closed (same more) v in
+        (xs, others.0, others.1, others.2, refl),
+  )
+
+  pub waits_turns : (limits : Limits) (rest before behind : List ℕ) (t : Turned) → WaitsBehind limits rest t → behind ≡ before → IsTurned s limits rest before behind t
+  waits_turns limits rest before behind (turned.Goes used) h written = absurd h
+  waits_turns limits rest before behind (turned.Waits skipped p) h written =
+      (h, skipped_steps limits rest (drop skipped rest) before behind h.0.same written)
+  waits_turns limits rest before behind (turned.Ended end) h written = absurd h
 
 -- more bytes have to come where what is next at the end of the bytes lets the connection go on
 pub open_as : (x y : Next) → SameNext x y → IsOpen y → IsOpen x
@@ -283,6 +341,26 @@ open_at_end (progress.Chunked head place body) n = tt
 pub all_open : (limits : Limits) (rest : List ℕ) (p : Progress) → IsNext limits rest (next_at_end p (length rest)) → AllOpen limits rest
 all_open limits rest p is x g =
     open_as x (next_at_end p (length rest)) (one_next limits rest x (next_at_end p (length rest)) g is) (open_at_end p (length rest))
+
+-- more bytes have to come where the bytes that are left read the same
+open_ahead : (limits : Limits) (rest other : List ℕ) → SameAhead limits rest other → AllOpen limits rest → AllOpen limits other
+open_ahead limits rest other same opens x is = opens x (same.back x is)
+
+pub waits_behind : (limits : Limits) (rest : List ℕ) (p q : Progress) (skipped : ℕ) → Skips limits rest q skipped → IsNext limits rest (next_at_end p (length rest))
+    → WaitsBehind limits rest (turned.Waits skipped q)
+waits_behind limits rest p q skipped skips is = (
+  skips,
+  open_ahead limits rest (drop skipped rest)
+      (subst (λ (t : List ℕ). SameAhead limits t (drop skipped rest)) (append-nil rest)
+      (subst (λ (t : List ℕ). SameAhead limits (rest ++ []) t) (append-nil (drop skipped rest)) (skips.same [])))
+      (all_open limits rest p is),
+)
+
+-- what is kept of a step that waits
+pub waits_made : (limits : Limits) (rest : List ℕ) (t : Turned) (old new : ℕ) → WaitsBehind limits rest t → new ≡ old → new + turned_left t (length rest) ≤ old + length rest
+waits_made limits rest (turned.Goes used) old new h same = absurd h
+waits_made limits rest (turned.Waits skipped p) old new h same = omega (arith, same)
+waits_made limits rest (turned.Ended end) old new h same = absurd h
 
 -- a refusal at the end of the bytes
 pub refused_end : (limits : Limits) (rest : List ℕ) (w : Wrong) (end : Ended) (before behind : List ℕ) → IsNext limits rest (next.Refused w)
@@ -315,7 +393,7 @@ pub rest_steps : {S L D C V E Y U W : Type 0} (s : Setting S L D C V E Y U W) (l
 rest_steps s limits buffer old place used rest end a b c e h k =
     let there = subst (λ (t : List ℕ). StepsTo s (open_at limits t) (record { limits = limits; left = drop used t; ended = end }) b c) e k in
     let joined = subst (λ (t : List ℕ). StepsTo s (open_at limits (drop place buffer)) (record { limits = limits; left = t; ended = end }) b c) (drop-drop used place buffer) there in
-    then_steps s (open_at limits old) (open_at limits (drop place buffer)) (record { limits = limits; left = drop (place + used) buffer; ended = end }) a b c refl h joined
+    then_steps s (open_at limits old) (open_at limits (drop place buffer)) (record { limits = limits; left = drop (place + used) buffer; ended = end }) a b c refl refl h joined
 
 -- the last step, over the bytes of a buffer
 pub end_steps : {S L D C V E Y U W : Type 0} (s : Setting S L D C V E Y U W) (limits : Limits) (buffer old : List ℕ) (place : ℕ) (rest : List ℕ) (end : Ended)
@@ -323,7 +401,7 @@ pub end_steps : {S L D C V E Y U W : Type 0} (s : Setting S L D C V E Y U W) (li
     → StepsTo s (open_at limits rest) (ended_at limits rest end) b c → StepsTo s (open_at limits old) (ended_at limits (drop place buffer) end) a c
 end_steps s limits buffer old place rest end a b c e h k =
     let there = subst (λ (t : List ℕ). StepsTo s (open_at limits t) (ended_at limits t end) b c) e k in
-    then_steps s (open_at limits old) (open_at limits (drop place buffer)) (ended_at limits (drop place buffer) end) a b c refl h there
+    then_steps s (open_at limits old) (open_at limits (drop place buffer)) (ended_at limits (drop place buffer) end) a b c refl refl h there
 
 -- a piece that was taken and answered
 module _ {S L D C V E Y U W : Type 0} (s : Setting S L D C V E Y U W) where
@@ -372,7 +450,7 @@ module _ {S L D C V E Y U W : Type 0} (s : Setting S L D C V E Y U W) (a b : V �
   goes_as : (c : ConnectionView) (e : Option Ended) (more : List ℕ) (xs : List Answer) (given rest : List ℕ) (closed : Bool) → GoesOn (setting_with s b) c e more xs given rest closed
       → GoesOn (setting_with s a) c e more xs given rest closed
   goes_as c None more xs given rest closed g =
-      (g.0, served_as s b a (same_back a b h) c.limits (c.left ++ more) g.0 rest closed g.1, g.2)
+      (g.0, g.1, g.2, served_as s b a (same_back a b h) c.limits (c.left ++ more) g.0 g.1 closed g.3, g.4)
   goes_as c (Some ended.Closed) more xs given rest closed g = g
   goes_as c (Some (ended.Refused w)) more xs given rest closed g = g
   goes_as c (Some ended.SourceFault) more xs given rest closed g = g

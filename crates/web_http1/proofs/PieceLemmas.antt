@@ -9,6 +9,7 @@ use Rattle.web_worker.specs.Setting.{Setting}
 use Rattle.web_messages.specs.NextMessage.{IsNext}
 use Rattle.web_messages.specs.declared.limits.Limits.{Limits}
 use Rattle.web_messages.specs.declared.message.Next.TheVariants as next
+use Rattle.web_messages.proofs.SkipLemmas.{same_ahead}
 use Rattle.web_http1.specs.declared.ended.Ended.{Ended}
 use Rattle.web_http1.specs.declared.ended.Ended.TheVariants as ended
 use Rattle.web_http1.specs.Answers.{Answer, EndsAtEnd, Served, replies}
@@ -16,7 +17,7 @@ use Rattle.web_http1.specs.Connections.{ConnectionView, FinishesWith, GoesOn, St
 use Rattle.web_http1.specs.ConnectionPieces.{AnswersWhole, Fed, FinishedWith, GivesAll, IsPrefixOfAnswers, joined}
 use Rattle.web_http1.specs.ConnectionSteps.{with_piece}
 use Rattle.web_http1.specs.Serving.{AnswersAll}
-use Rattle.web_http1.proofs.ConnectionLemmas.{goes_then}
+use Rattle.web_http1.proofs.ConnectionLemmas.{goes_further}
 use Rattle.web_http1.proofs.ServingLemmas.{SoFar, ended_all, finished, lacks_memory, waits_empty}
 
 -- nothing was written
@@ -34,14 +35,14 @@ module _ {S L D C V E Y U W : Type 0} (s : Setting S L D C V E Y U W) where
 
   -- one piece
   piece_goes : (c mid : ConnectionView) (piece before first more : List ℕ) (xs : List Answer) (given rest : List ℕ) (closed : Bool) (o : Option Ended) → c.ended ≡ o
-      → MatchOption o (StepsTo s (with_piece c piece) mid before (before ++ first)) (λ e. (mid ≡ with_piece c piece) × (before ++ first ≡ before))
+      → mid.limits ≡ c.limits → MatchOption o (StepsTo s (with_piece c piece) mid before (before ++ first)) (λ e. (mid ≡ with_piece c piece) × (before ++ first ≡ before))
       → GoesOn s c o (piece ++ more) xs given rest closed → GoesOn s mid mid.ended more xs (given ++ first) rest closed
-  piece_goes c mid piece before first more xs given rest closed None is step g =
-      let served = subst (λ (t : List ℕ). Served s c.limits t g.0 rest closed) (sym (append_assoc c.left piece more)) g.1 in
+  piece_goes c mid piece before first more xs given rest closed None is same step g =
+      let served = subst (λ (t : List ℕ). Served s c.limits t g.0 g.1 closed) (sym (append_assoc c.left piece more)) g.3 in
       let written : step.0 ≡ first = sym (append_cancel_left before first step.0 step.1) in
       subst (λ (t : List ℕ). GoesOn s mid mid.ended more xs (given ++ t) rest closed) written
-      (goes_then s mid mid.ended more xs g.0 given step.0 rest closed g.2 (step.2 more g.0 rest closed served))
-  piece_goes c mid piece before first more xs given rest closed (Some e) is step g =
+      (goes_further s (with_piece c piece) mid more xs given step.0 rest closed same (g.0, g.1, g.2, served, g.4) (step.2 more g.0 g.1 closed served))
+  piece_goes c mid piece before first more xs given rest closed (Some e) is same step g =
       let none : given ≡ given ++ first = sym (ap (λ (t : List ℕ). given ++ t) (none_written before first step.1) ∙ append-nil given) in
       let now = subst (λ (o : Option Ended). GoesOn s (with_piece c piece) o more xs given rest closed) (sym is) (ended_goes c piece e more xs given rest closed g) in
       subst (λ (d : ConnectionView). GoesOn s d d.ended more xs (given ++ first) rest closed) (sym step.0)
@@ -56,7 +57,7 @@ module _ {S L D C V E Y U W : Type 0} (s : Setting S L D C V E Y U W) where
       (subst (λ (t : List ℕ). GoesOn s c c.ended more xs t rest closed) (sym (ap (λ (t : List ℕ). given ++ t) fed.1 ∙ append-nil given)) g)
   fed_goes c (piece ∷ pieces) new others fed more xs given rest closed g =
       let g' = subst (λ (t : List ℕ). GoesOn s c c.ended t xs given rest closed) (append_assoc piece (joined pieces) more) g in
-      let first = piece_goes c fed.0 piece fed.1 fed.2 (joined pieces ++ more) xs given rest closed c.ended refl fed.4 g' in
+      let first = piece_goes c fed.0 piece fed.1 fed.2 (joined pieces ++ more) xs given rest closed c.ended refl fed.5 fed.4 g' in
       let all = fed_goes fed.0 pieces new fed.3 fed.7 more xs (given ++ fed.2) rest closed first in
       subst (λ (t : List ℕ). GoesOn s new new.ended more xs t rest closed) (append_assoc given fed.2 fed.3 ∙ ap (λ (t : List ℕ). given ++ t) (sym fed.8)) all
 
@@ -71,7 +72,7 @@ module _ {S L D C V E Y U W : Type 0} (s : Setting S L D C V E Y U W) where
   module _ (limits : Limits) (pieces : List (List ℕ)) (new : ConnectionView) (given : List ℕ) (fed : Fed s (open_at limits []) pieces new given) where
     goes : (more : List ℕ) (xs : List Answer) (rest : List ℕ) (closed : Bool) → Served s limits (joined pieces ++ more) xs rest closed
         → GoesOn s new new.ended more xs given rest closed
-    goes more xs rest closed v = fed_goes (open_at limits []) pieces new given fed more xs [] rest closed (xs, v, refl)
+    goes more xs rest closed v = fed_goes (open_at limits []) pieces new given fed more xs [] rest closed (xs, rest, same_ahead limits rest, v, refl)
 
     waits : WaitsForMore new
     waits = fed_waits (open_at limits []) pieces new given fed (waits_empty limits (open_at limits []) refl)
@@ -124,9 +125,9 @@ module _ {S L D C V E Y U W : Type 0} (s : Setting S L D C V E Y U W) where
         of e (inr h) = (h.2, h.3 ∙ ap (λ (t : List ℕ). t ++ h.2) (sym h.4))
 
     gives_all : (o : Option Ended) → new.ended ≡ o → (xs : List Answer) (rest : List ℕ) (closed : Bool) → GoesOn s new o [] xs given rest closed → GivesAll o (replies xs) given
-    gives_all None is xs rest closed g = of g.0 g.1 g.2
+    gives_all None is xs rest closed g = of g.0 g.3 g.4
       where
-        of : (ys : List Answer) → Served s new.limits (new.left ++ []) ys rest closed → replies xs ≡ given ++ replies ys → given ≡ replies xs
+        of : (ys : List Answer) → Served s new.limits (new.left ++ []) ys g.1 closed → replies xs ≡ given ++ replies ys → given ≡ replies xs
         of [] v e = sym (append-nil given) ∙ sym e
         of (y ∷ ys) v e = absurd (waits is (next.Message y.message) (subst (λ (t : List ℕ). IsNext new.limits t (next.Message y.message)) (append-nil new.left) v.0))
     gives_all (Some ended.Closed) is xs rest closed g = g.1

@@ -10,14 +10,16 @@ use Rattle.web_messages.specs.NextMessage.{IsNext}
 use Rattle.web_messages.specs.declared.limits.Limits.{Limits}
 use Rattle.web_messages.specs.declared.limits.Wrong.{Wrong}
 use Rattle.web_messages.specs.declared.message.Next.TheVariants as next
+use Rattle.web_messages.specs.Sameness.{SameAhead}
 use Rattle.web_messages.proofs.OneLemmas.{one_next}
+use Rattle.web_messages.proofs.SkipLemmas.{same_ahead}
 use Rattle.web_http1.specs.declared.ended.Ended.{Ended}
 use Rattle.web_http1.specs.declared.ended.Ended.TheVariants as ended
 use Rattle.web_http1.specs.Answers.{Answer, AnswersAtFault, Behind, EndsAtEnd, EndsAtFault, MayGoOn, Served, refusal_bytes, replies}
 use Rattle.web_http1.specs.Connections.{AllOpen, ConnectionView, Finishes, FinishesWith, GoesOn, IsOwn, StepsTo, WaitsForMore, open_at}
 use Rattle.web_http1.specs.ConnectionSteps.{with_piece}
 use Rattle.web_http1.specs.Serving.{AnswersAll, AnswersUpToFault, StopsAtFault}
-use Rattle.web_http1.proofs.ConnectionLemmas.{goes_then, open_as}
+use Rattle.web_http1.proofs.ConnectionLemmas.{goes_further, open_as}
 
 -- ---- the marks of the source
 
@@ -58,6 +60,8 @@ module _ {S L D C V E Y U W : Type 0} (s : Setting S L D C V E Y U W) (limits : 
     goes = λ xs rest closed v.
         subst (λ (o : Option Ended). GoesOn s c o (piece_bytes marks) xs [] rest closed) (sym unended) (
           xs,
+          rest,
+          same_ahead c.limits rest,
           subst (λ (l : Limits). Served s l (c.left ++ piece_bytes marks) xs rest closed) (sym same)
               (subst (λ (t : List ℕ). Served s limits (t ++ piece_bytes marks) xs rest closed) (sym none) v),
           refl,
@@ -96,8 +100,9 @@ module _ {S L D C V E Y U W : Type 0} (s : Setting S L D C V E Y U W) (limits : 
     is_faultless g = sym h.is_left.fault ∙ ap ends_in_fault (none_after g)
 
     -- a piece: the step of the connection that has it, to d
-    pub pieced : (b : List ℕ) (d : ConnectionView) (further : List ℕ) → GivesPiece b old new → StepsTo s (with_piece c b) d behind further → SoFar marks new d before further
-    pieced b d further g step =
+    pub pieced : (b : List ℕ) (d : ConnectionView) (further : List ℕ) → d.limits ≡ c.limits → GivesPiece b old new → StepsTo s (with_piece c b) d behind further
+        → SoFar marks new d before further
+    pieced b d further kept g step =
         let t = took (mark.Piece b) old.marks new.marks h.left h.is_left.left_is g.takes in
         record {
           left = t.0;
@@ -106,8 +111,9 @@ module _ {S L D C V E Y U W : Type 0} (s : Setting S L D C V E Y U W) (limits : 
           written = step.1 ∙ ap (λ (x : List ℕ). x ++ step.0) h.written ∙ append_assoc before h.given step.0;
           goes = λ xs rest closed v.
               let now = subst (λ (m : List Mark). GoesOn s c None (piece_bytes m) xs h.given rest closed) t.1 (open_goes xs rest closed v) in
-              let served = subst (λ (x : List ℕ). Served s c.limits x now.0 rest closed) (sym (append_assoc c.left b (piece_bytes t.0))) now.1 in
-              goes_then s d d.ended (piece_bytes t.0) xs now.0 h.given step.0 rest closed now.2 (step.2 (piece_bytes t.0) now.0 rest closed served);
+              let served = subst (λ (x : List ℕ). Served s c.limits x now.0 now.1 closed) (sym (append_assoc c.left b (piece_bytes t.0))) now.3 in
+              goes_further s (with_piece c b) d (piece_bytes t.0) xs h.given step.0 rest closed kept (now.0, now.1, now.2, served, now.4)
+              (step.2 (piece_bytes t.0) now.0 now.1 closed served);
         }
 
   -- ---- the ends
@@ -129,6 +135,13 @@ module _ {S L D C V E Y U W : Type 0} (s : Setting S L D C V E Y U W) (limits : 
   same_ends rest tail tail' (ended.Refused v) ended.NoMemory a b = absurd b
   same_ends rest tail tail' ended.SourceFault end' a b = absurd a
   same_ends rest tail tail' ended.NoMemory end' a b = absurd a
+
+  -- bytes that read the same end so
+  ends_ahead : (a b tail : List ℕ) (end : Ended) → SameAhead limits a b → EndsAtEnd limits a tail end → EndsAtEnd limits b tail end
+  ends_ahead a b tail ended.Closed same h = (same.there next.Closed h.0, h.1)
+  ends_ahead a b tail (ended.Refused w) same h = (same.there (next.Refused w) h.0, h.1)
+  ends_ahead a b tail ended.SourceFault same h = h
+  ends_ahead a b tail ended.NoMemory same h = h
 
   behind_false : (c : Bool) (A B : Type 0) → c ≡ false → Behind c A B → B
   behind_false false A B e x = x
@@ -157,7 +170,7 @@ module _ {S L D C V E Y U W : Type 0} (s : Setting S L D C V E Y U W) (limits : 
     -- an allocation failed somewhere
     goes_prefix : (e : Option Ended) (xs : List Answer) (given rest : List ℕ) (closed : Bool) → (e ≡ None) ⊎ (e ≡ Some ended.NoMemory) → GoesOn s c e (piece_bytes h.left) xs given rest closed
         → (back : List ℕ) × (replies xs ≡ given ++ back)
-    goes_prefix None xs given rest closed which g = (replies g.0, g.2)
+    goes_prefix None xs given rest closed which g = (replies g.0, g.4)
     goes_prefix (Some ended.NoMemory) xs given rest closed which g = g
     goes_prefix (Some ended.Closed) xs given rest closed (inl e) g = absurd (cc)
     goes_prefix (Some ended.Closed) xs given rest closed (inr e) g = absurd (cc)
@@ -225,12 +238,15 @@ module _ {S L D C V E Y U W : Type 0} (s : Setting S L D C V E Y U W) (limits : 
       all_open x is = waits unended x (subst (λ (l : Limits). IsNext l c.left x) (sym same) is)
 
       last_served : piece_bytes h.left ≡ [] → (xs : List Answer) (rest : List ℕ) (closed : Bool) → Served s limits (piece_bytes marks) xs rest closed
-          → (h.given ≡ replies xs) × (rest ≡ c.left) × (closed ≡ false)
+          → (h.given ≡ replies xs) × SameAhead limits c.left rest × (closed ≡ false)
       last_served none xs rest closed v =
           let g = subst (λ (o : Option Ended). GoesOn s c o (piece_bytes h.left) xs h.given rest closed) unended (h.goes xs rest closed v) in
-          let sv = subst (λ (t : List ℕ). Served s limits (c.left ++ t) g.0 rest closed) none (subst (λ (l : Limits). Served s l (c.left ++ piece_bytes h.left) g.0 rest closed) same g.1) in
-          let none_is = none_left c.left g.0 rest closed all_open sv in
-          (sym (append-nil h.given) ∙ sym (g.2 ∙ ap (λ (ys : List Answer). h.given ++ replies ys) none_is.0), none_is.1, none_is.2)
+          let sv = subst (λ (t : List ℕ). Served s limits (c.left ++ t) g.0 g.1 closed) none (subst (λ (l : Limits). Served s l (c.left ++ piece_bytes h.left) g.0 g.1 closed) same g.3) in
+          let none_is = none_left c.left g.0 g.1 closed all_open sv in (
+            sym (append-nil h.given) ∙ sym (g.4 ∙ ap (λ (ys : List Answer). h.given ++ replies ys) none_is.0),
+            subst (λ (t : List ℕ). SameAhead limits t rest) none_is.1 (subst (λ (l : Limits). SameAhead l g.1 rest) same g.2),
+            none_is.2,
+          )
 
       -- the bytes ended
       pub finished : (result : Ended) (further : List ℕ) → h.left ≡ [] → FinishesWith limits c.left result behind further
@@ -241,7 +257,7 @@ module _ {S L D C V E Y U W : Type 0} (s : Setting S L D C V E Y U W) (limits : 
       finished result further none (inl f) text end a =
           let l = last_served (ap piece_bytes none) a.answers a.rest a.closed a.served in
           let ends = behind_false a.closed _ _ l.2 a.ends in
-          let same' = same_ends a.rest a.tail f.0 end result ends (subst (λ (t : List ℕ). EndsAtEnd limits t f.0 result) (sym l.1) f.2) in
+          let same' = same_ends a.rest a.tail f.0 end result ends (ends_ahead c.left a.rest f.0 result l.1 f.2) in
           inl (
             same'.0,
             f.1 ∙ ap (λ (t : List ℕ). t ++ f.0) h.written ∙ append_assoc before h.given f.0
@@ -268,9 +284,9 @@ module _ {S L D C V E Y U W : Type 0} (s : Setting S L D C V E Y U W) (limits : 
             h.written,
           )
         where
-          of : (end : Ended) → a.rest ≡ c.left → EndsAtFault limits a.rest a.tail end → EndsAtFault limits a.rest [] ended.SourceFault
+          of : (end : Ended) → SameAhead limits c.left a.rest → EndsAtFault limits a.rest a.tail end → EndsAtFault limits a.rest [] ended.SourceFault
           of ended.Closed e f = absurd f
-          of (ended.Refused w) e f = (refl, inr (w, goes_on w (subst (λ (t : List ℕ). IsNext limits t (next.Refused w)) e f.1), f.1))
+          of (ended.Refused w) e f = (refl, inr (w, goes_on w (e.back (next.Refused w) f.1), f.1))
           of ended.SourceFault e f = (refl, f.1)
           of ended.NoMemory e f = absurd f
 

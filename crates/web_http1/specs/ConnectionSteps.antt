@@ -3,7 +3,7 @@ use Rattle.std.specs.Prelude.{◌≡◌, ℕ, ◌-◌, ◌<◌, ◌≤◌, Bool,
 use Rattle.std.specs.Prelude.{drop, Option, None, Some, Result, Ok, Err}
 use Rattle.web_texts.specs.declared.memory.NoMemory.{NoMemory}
 use Rattle.web_worker.specs.Setting.{Setting}
-use Rattle.web_messages.specs.Progress.{IsProgress}
+use Rattle.web_messages.specs.Progress.{HasFewBlank, IsProgress, Skips}
 use Rattle.web_messages.specs.Sameness.{SameMessage}
 use Rattle.web_messages.specs.declared.limits.Limits.{Limits}
 use Rattle.web_messages.specs.declared.limits.Wrong.{Wrong}
@@ -25,7 +25,7 @@ open_left (remains.Ended e) n = 0
 
 abbrev pub turned_left : Turned → ℕ → ℕ
 turned_left (turned.Goes used) n = n - used
-turned_left (turned.Waits p) n = n
+turned_left (turned.Waits skipped p) n = n - skipped
 turned_left (turned.Ended e) n = 0
 
 module _ {S L D C V E Y U W : Type 0} (s : Setting S L D C V E Y U W) where
@@ -45,12 +45,19 @@ RefusedWith w (ended.Refused v) before behind = (v ≡ w) × (behind ≡ before 
 RefusedWith w ended.SourceFault before behind = ⊥
 RefusedWith w ended.NoMemory before behind = behind ≡ before
 
+-- More bytes have to come behind those that are skipped, without which the others read the same.
+abbrev pub WaitsBehind : Limits → List ℕ → Turned → Type 0
+WaitsBehind limits rest (turned.Goes used) = ⊥
+WaitsBehind limits rest (turned.Waits skipped p) =
+    Skips limits rest p skipped × AllOpen limits (drop skipped rest)
+WaitsBehind limits rest (turned.Ended end) = ⊥
+
 module _ {S L D C V E Y U W : Type 0} (s : Setting S L D C V E Y U W) where
   -- the message was answered: the connection goes on behind it, or is closed by its reply
   abbrev pub IsServed : Message → List ℕ → List ℕ → Turned → Type 0
   IsServed m before behind (turned.Goes used) =
       (used ≡ m.used) × IsReplied s m before behind (Ok false)
-  IsServed m before behind (turned.Waits p) = ⊥
+  IsServed m before behind (turned.Waits skipped p) = ⊥
   IsServed m before behind (turned.Ended ended.Closed) = IsReplied s m before behind (Ok true)
   IsServed m before behind (turned.Ended (ended.Refused w)) = ⊥
   IsServed m before behind (turned.Ended ended.SourceFault) = ⊥
@@ -61,15 +68,16 @@ module _ {S L D C V E Y U W : Type 0} (s : Setting S L D C V E Y U W) where
   IsTurned limits rest before behind (turned.Goes used) =
       (0 < used) × (used ≤ length rest)
       × StepsTo s (open_at limits rest) (open_at limits (drop used rest)) before behind
-  IsTurned limits rest before behind (turned.Waits p) =
-      IsProgress limits rest p × AllOpen limits rest × (behind ≡ before)
+  IsTurned limits rest before behind (turned.Waits skipped p) =
+      WaitsBehind limits rest (turned.Waits skipped p)
+      × StepsTo s (open_at limits rest) (open_at limits (drop skipped rest)) before behind
   IsTurned limits rest before behind (turned.Ended end) =
       IsOwn end × StepsTo s (open_at limits rest) (ended_at limits rest end) before behind
 
   -- all steps, from `old` to `new`
   abbrev pub IsAnsweredRest : Limits → List ℕ → List ℕ → List ℕ → List ℕ → Left → Type 0
   IsAnsweredRest limits old new before behind (remains.Open p) =
-      IsProgress limits new p × AllOpen limits new
+      IsProgress limits new p × AllOpen limits new × HasFewBlank limits new
       × StepsTo s (open_at limits old) (open_at limits new) before behind
   IsAnsweredRest limits old new before behind (remains.Ended end) =
       IsOwn end × StepsTo s (open_at limits old) (ended_at limits new end) before behind

@@ -1,14 +1,14 @@
 //! The replies to the messages of bytes that came.
 ghost use Rattle.std.specs.Prelude.{◌≡◌, ◌+◌, ◌-◌, ◌<◌, ◌≤◌, ◌^◌, drop, length};
-ghost use Rattle.std.specs.Prelude.{ℕ};
+ghost use Rattle.std.specs.Prelude.{List, ℕ};
 ghost use Rattle.web_worker.specs.HandlerPromises.{SamePromises};
 ghost use Rattle.web_worker.specs.PlanPools.{with_records};
-ghost use Rattle.web_messages.specs.NextMessage.{message_of};
-ghost use Rattle.web_messages.specs.Progress.{IsProgress};
+ghost use Rattle.web_messages.specs.NextMessage.{IsNext, message_of};
+ghost use Rattle.web_messages.specs.Progress.{IsProgress, next_at_end};
 ghost use Rattle.web_http1.specs.Connections.{AllOpen, FinishesWith};
 ghost use Rattle.web_http1.specs.ConnectionSteps.{IsAnsweredRest, RefusedWith};
 ghost use Rattle.web_http1.specs.ConnectionSteps.{IsReplied, IsServed, IsTurned};
-ghost use Rattle.web_http1.specs.ConnectionSteps.{open_left, turned_left};
+ghost use Rattle.web_http1.specs.ConnectionSteps.{WaitsBehind, open_left, turned_left};
 
 use crate::closing::{asks_end, is_head};
 use crate::ended::Ended;
@@ -38,8 +38,8 @@ pub(crate) struct Rooms {
 pub(crate) enum Turned {
     /// The reply to a message of so many bytes was written.
     Goes(usize),
-    /// More bytes have to come.
-    Waits(Progress),
+    /// More bytes have to come, behind so many bytes that are no more needed.
+    Waits(usize, Progress),
     /// The connection ended.
     Ended(Ended),
 }
@@ -56,7 +56,7 @@ pub(crate) enum Left {
 /// What the answers to the bytes of a buffer came to.
 #[derive(Drop)]
 pub(crate) struct AnsweredRest {
-    /// The bytes before this place were answered.
+    /// The bytes before this place were answered, or are no more needed.
     pub(crate) place: usize,
     pub(crate) left: Left,
 }
@@ -141,6 +141,17 @@ where
     }
 }
 
+/// Waits for more bytes. Of empty lines no more are kept than a head may have.
+fn wait(limits: &Limits, progress: Progress) -> Turned
+    ensures { (rest : List ℕ) → IsProgress limits.now rest progress
+        → IsNext limits.now rest (next_at_end progress (length rest))
+        → WaitsBehind limits.now rest result }
+{
+    let mut progress = progress;
+    let skipped = progress.skip_blank(limits);
+    Turned::Waits(skipped, progress)
+}
+
 /// Writes what is next at the front of the bytes, where it is known.
 fn serve_next<A: App, Args: FromRequest<A>, H: Handler<Args>>(
     alloc: Global,
@@ -172,7 +183,7 @@ where
                 alloc, worker, handler, rooms, flights, head, body, used, out,
             ),
             Step::Refused(wrong) => Turned::Ended(refuse(alloc, rooms, wrong, out)),
-            Step::Unfinished(progress) => Turned::Waits(progress),
+            Step::Unfinished(progress) => wait(limits, progress),
         },
         Err(_) => Turned::Ended(Ended::NoMemory),
     }
@@ -226,9 +237,9 @@ where
                 place += used;
                 progress = Progress::start();
             }
-            Turned::Waits(progress) => {
+            Turned::Waits(skipped, progress) => {
                 return AnsweredRest {
-                    place,
+                    place: place + skipped,
                     left: Left::Open(progress),
                 };
             }

@@ -32,7 +32,7 @@ fn put_in<T: Drop>(place: &mut T, value: T)
 pub struct Connection {
     limits: Limits,
     buffer: Vec<u8>,
-    /// The bytes before this place were answered.
+    /// The bytes before this place were answered, or are no more needed.
     start: usize,
     /// How far those behind it were read.
     progress: Progress,
@@ -60,6 +60,7 @@ impl Model for Connection {
 impl Connection {
     ghost use Rattle.std.specs.Prelude.{◌≡◌, ◌+◌, ◌++◌, ◌<◌, ◌≤◌, ◌^◌, [], None, OnErr, OnOk};
     ghost use Rattle.std.specs.Prelude.{Some, length};
+    ghost use Rattle.web_messages.specs.Progress.{HasFewBlank};
 
     /// A connection of which no byte came. Its header maps have keys of zero, for senders that do
     /// not choose names that collide.
@@ -93,16 +94,16 @@ impl Connection {
         self.ended
     }
 
-    /// How many bytes are kept: those that came behind the last message that was answered. No limit
-    /// bounds them. A loop may end a connection that keeps too many by `finish`, which writes
-    /// nothing where they are empty lines alone.
+    /// How many bytes are kept: those that came behind the last message that was answered, of empty
+    /// lines alone no more than a head may have. Those of a message that is not whole are kept as
+    /// they came. A loop may end a connection that keeps too many by `finish`.
     pub fn kept(&self) -> usize
         ensures { result ≡ length self.now.left }
     {
         self.buffer.len() - self.start
     }
 
-    /// Drops the bytes that were answered, where they are at least half of all.
+    /// Drops the bytes that are no more needed, where they are at least half of all.
     fn drop_answered(&mut self, alloc: Global) -> Result<(), NoMemory>
         ensures { self.new ≡ self.old }
     {
@@ -138,7 +139,8 @@ impl Connection {
 
     /// Writes the reply to each message that is whole, in their order, and the reply of a refusal
     /// that no byte that follows can lift. It ends behind a reply that closes, and behind a
-    /// refusal. Where an allocation failed it ends too, with `Ended::NoMemory`.
+    /// refusal. Where an allocation failed it ends too, with `Ended::NoMemory`. Of empty lines
+    /// before a head no more are kept than a head may have.
     pub fn answer<A: App, Args: FromRequest<A>, H: Handler<Args>>(
         &mut self,
         alloc: Global,
@@ -157,6 +159,7 @@ impl Connection {
         ensures kept { worker.new ≡ with_records worker.new.serials worker.new.made worker.old }
         ensures limits { self.new.limits ≡ self.old.limits }
         ensures waits { WaitsForMore self.new }
+        ensures few { self.new.ended ≡ None → HasFewBlank self.new.limits self.new.left }
         ensures own { self.old.ended ≡ None → IsOwnEnd self.new.ended }
         ensures steps { StepsFrom (⟦<H as Serves<A, Args>>⟧.setting handler.old worker.old)
             self.old self.new out.old.items out.new.items }

@@ -1,7 +1,7 @@
 use Rattle.std.proofs.Common.{ℕ, ◌+◌, ◌-◌, ◌∙◌, List, length, take, drop, refl, sym, ap, subst, arith, length-drop}
-use Rattle.std.proofs.lemmas.List.{take_rest}
+use Rattle.std.proofs.lemmas.List.{drop-drop, take_rest}
 use Rattle.std.specs.Prelude.{None}
-use Rattle.web_messages.specs.Progress.{IsProgress}
+use Rattle.web_messages.specs.Progress.{HasFewBlank, IsProgress}
 use Rattle.web_request.specs.Pool.{Pool}
 use Rattle.web_worker.specs.PlanPools.{with_records}
 use Rattle.web_worker.specs.Setting.{setting_of}
@@ -69,20 +69,26 @@ pub returns-in-Waits : goal.returns-in-Waits
 returns-in-Waits g c =
     let s = setting_of g.Args.FromRequest.means g.Args.Error.Into.converts (g.H.Handler.answers c.args.handler.now) g.H.Output.Responder.responds g.A.Source.Source.feed g.Args.Future.Poll.gives g.H.Future.Poll.gives c.args.worker.now in
     let size = ap length (take_rest c.args.buffer.now c.messages.place) ∙ length-drop c.messages.place c.args.buffer.now in
-    let turned = c.in-Waits.ensures.turned in
+    let rest = take (length c.args.buffer.now - c.messages.place) (drop c.messages.place c.args.buffer.now) in
+    let there = ap (drop c.in-Waits.skipped) (take_rest c.args.buffer.now c.messages.place) ∙ drop-drop c.in-Waits.skipped c.messages.place c.args.buffer.now in
+    let turned = rw c.messages.invariant.kept at c.in-Waits.ensures.turned in
+    let step = steps_as s (g.H.Handler.answers c.args.handler.now) (g.H.Handler.answers c.messages.handler) c.messages.invariant.same_promises (open_at c.args.limits.now rest) (open_at c.args.limits.now (drop c.in-Waits.skipped rest)) c.messages.out.items c.serve_next.new.out.items turned.1 in
+    let within = turned.0.0.inside in
     record {
       ready = c.in-Waits.ensures.ready;
       same_promises = same_then _ _ _ c.messages.invariant.same_promises c.in-Waits.ensures.same_promises;
-      place = (c.messages.invariant.least, c.messages.invariant.inside);
+      place = let least = c.messages.invariant.least in (omega (arith, least), omega (arith, size, within));
       made =
           let made = c.messages.invariant.made in
           let more = c.in-Waits.ensures.made in
-          omega (arith, size, made, more);
+          omega (arith, size, made, more, within);
       kept = c.in-Waits.ensures.kept ∙ ap (λ (z : Pool _). with_records c.serve_next.new.worker.serials c.serve_next.new.worker.made z) c.messages.invariant.kept;
       left = (
-        subst (λ (t : List ℕ). IsProgress c.args.limits.now t c.in-Waits.progress) (take_rest c.args.buffer.now c.messages.place) turned.0,
-        subst (AllOpen c.args.limits.now) (take_rest c.args.buffer.now c.messages.place) turned.1,
-        subst (λ (t : List ℕ). StepsTo s (open_at c.args.limits.now (drop c.args.start c.args.buffer.now)) (open_at c.args.limits.now (drop c.messages.place c.args.buffer.now)) c.args.out.now.items t) (sym turned.2) c.messages.invariant.steps,
+        subst (λ (t : List ℕ). IsProgress c.args.limits.now t c.in-Waits.progress) there turned.0.0.is_progress,
+        subst (AllOpen c.args.limits.now) there turned.0.1,
+        subst (HasFewBlank c.args.limits.now) there turned.0.0.few,
+        rest_steps s c.args.limits.now c.args.buffer.now (drop c.args.start c.args.buffer.now) c.messages.place c.in-Waits.skipped rest None c.args.out.now.items c.messages.out.items c.serve_next.new.out.items
+            (take_rest c.args.buffer.now c.messages.place) c.messages.invariant.steps step,
       );
     }
 

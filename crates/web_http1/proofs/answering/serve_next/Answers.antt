@@ -2,7 +2,7 @@ use Rattle.std.proofs.Common.{refl, arith}
 use Rattle.web_messages.specs.NextMessage.{message_of}
 use Rattle.web_messages.specs.declared.message.Next.TheVariants as next
 use Rattle.web_worker.specs.Setting.{setting_of}
-use Rattle.web_http1.proofs.ConnectionLemmas.{all_open, fewer_left, refused_steps, served_known, served_turns, some_rest}
+use Rattle.web_http1.proofs.ConnectionLemmas.{fewer_left, refused_steps, served_known, served_turns, some_rest, waits_made, waits_turns}
 use Rattle.web_http1.proofs.answering.serve_next.Goals as goal
 
 pub serve_message-requires-clause-room : goal.serve_message-requires-clause-room
@@ -36,7 +36,13 @@ returns-in-Refused-clause-turned g c =
     let known = rw c.in-Refused.is at c.in-Ok.ensures in
     refused_steps s c.args.limits.now c.args.rest.now c.in-Refused.wrong c.refuse.result c.args.out.now.items c.refuse.new.out.items known.0 known.1 c.refuse.ensures
 
+pub returns-in-Unfinished-clause-made : goal.returns-in-Unfinished-clause-made
+returns-in-Unfinished-clause-made g c =
+    let waits = rw c.in-Unfinished.is at c.in-Ok.ensures in
+    waits_made c.args.limits.now c.args.rest.now c.wait.result c.args.worker.now.made c.args.worker.now.made (c.wait.ensures c.args.rest.now waits.0 waits.1) refl
+
 pub returns-in-Unfinished-clause-turned : goal.returns-in-Unfinished-clause-turned
 returns-in-Unfinished-clause-turned g c =
+    let s = setting_of g.Args.FromRequest.means g.Args.Error.Into.converts (g.H.Handler.answers c.args.handler.now) g.H.Output.Responder.responds g.A.Source.Source.feed g.Args.Future.Poll.gives g.H.Future.Poll.gives c.args.worker.now in
     let waits = rw c.in-Unfinished.is at c.in-Ok.ensures in
-    (waits.0, all_open c.args.limits.now c.args.rest.now c.in-Unfinished.progress waits.1, refl)
+    waits_turns s c.args.limits.now c.args.rest.now c.args.out.now.items c.args.out.now.items c.wait.result (c.wait.ensures c.args.rest.now waits.0 waits.1) refl

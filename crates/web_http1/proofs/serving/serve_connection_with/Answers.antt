@@ -54,7 +54,7 @@ returns-in-Some-clause-whole g c = λ marks is no.
     let takes = rw (c.turns.invariant.kept, c.in-Some.is) at c.take_piece-ended.ensures.takes in
     let step = steps_as s (g.H.Handler.answers c.args.handler.now) (g.H.Handler.answers c.turns.handler) c.turns.invariant.same_promises (with_piece c.turns.connection c.in-Piece.piece) (ended_at c.turns.connection.limits [] c.in-Some.ended) c.turns.out.items c.take_piece-ended.new.out.items takes.1 in
     ended_all s c.args.limits marks (g.S.Source.feed c.next.new.self) (ended_at c.turns.connection.limits [] c.in-Some.ended) c.args.out.now.items c.take_piece-ended.new.out.items
-    (pieced s c.args.limits marks (g.S.Source.feed c.turns.source) (g.S.Source.feed c.next.new.self) c.turns.connection c.args.out.now.items c.turns.out.items c.turns.invariant.unended c.turns.invariant.limits_are (c.turns.invariant.so_far marks is) c.in-Piece.piece (ended_at c.turns.connection.limits [] c.in-Some.ended) c.take_piece-ended.new.out.items c.in-Piece.ensures.next step)
+    (pieced s c.args.limits marks (g.S.Source.feed c.turns.source) (g.S.Source.feed c.next.new.self) c.turns.connection c.args.out.now.items c.turns.out.items c.turns.invariant.unended c.turns.invariant.limits_are (c.turns.invariant.so_far marks is) c.in-Piece.piece (ended_at c.turns.connection.limits [] c.in-Some.ended) c.take_piece-ended.new.out.items refl c.in-Piece.ensures.next step)
     c.in-Some.ended refl c.turns.invariant.limits_are
 
 pub returns-in-Some-clause-fault : goal.returns-in-Some-clause-fault
@@ -63,7 +63,7 @@ returns-in-Some-clause-fault g c = λ marks is yes.
     let takes = rw (c.turns.invariant.kept, c.in-Some.is) at c.take_piece-ended.ensures.takes in
     let step = steps_as s (g.H.Handler.answers c.args.handler.now) (g.H.Handler.answers c.turns.handler) c.turns.invariant.same_promises (with_piece c.turns.connection c.in-Piece.piece) (ended_at c.turns.connection.limits [] c.in-Some.ended) c.turns.out.items c.take_piece-ended.new.out.items takes.1 in
     ended_up_to s c.args.limits marks (g.S.Source.feed c.next.new.self) (ended_at c.turns.connection.limits [] c.in-Some.ended) c.args.out.now.items c.take_piece-ended.new.out.items
-    (pieced s c.args.limits marks (g.S.Source.feed c.turns.source) (g.S.Source.feed c.next.new.self) c.turns.connection c.args.out.now.items c.turns.out.items c.turns.invariant.unended c.turns.invariant.limits_are (c.turns.invariant.so_far marks is) c.in-Piece.piece (ended_at c.turns.connection.limits [] c.in-Some.ended) c.take_piece-ended.new.out.items c.in-Piece.ensures.next step)
+    (pieced s c.args.limits marks (g.S.Source.feed c.turns.source) (g.S.Source.feed c.next.new.self) c.turns.connection c.args.out.now.items c.turns.out.items c.turns.invariant.unended c.turns.invariant.limits_are (c.turns.invariant.so_far marks is) c.in-Piece.piece (ended_at c.turns.connection.limits [] c.in-Some.ended) c.take_piece-ended.new.out.items refl c.in-Piece.ensures.next step)
     c.in-Some.ended refl c.turns.invariant.limits_are
 
 pub returns-in-Some-clause-faults : goal.returns-in-Some-clause-faults
@@ -103,7 +103,7 @@ turns-preserved-in_default g c =
       kept = c.take_piece-ended.ensures.kept ∙ ap (λ (z : Pool _). with_records c.take_piece-ended.new.worker.serials c.take_piece-ended.new.worker.made z) c.turns.invariant.kept;
       faults = c.in-Piece.ensures.next.faults ∙ c.turns.invariant.faults;
       so_far = λ marks is.
-          pieced s c.args.limits marks (g.S.Source.feed c.turns.source) (g.S.Source.feed c.next.new.self) c.turns.connection c.args.out.now.items c.turns.out.items c.turns.invariant.unended c.turns.invariant.limits_are (c.turns.invariant.so_far marks is) c.in-Piece.piece c.take_piece-ended.new.connection c.take_piece-ended.new.out.items c.in-Piece.ensures.next step;
+          pieced s c.args.limits marks (g.S.Source.feed c.turns.source) (g.S.Source.feed c.next.new.self) c.turns.connection c.args.out.now.items c.turns.out.items c.turns.invariant.unended c.turns.invariant.limits_are (c.turns.invariant.so_far marks is) c.in-Piece.piece c.take_piece-ended.new.connection c.take_piece-ended.new.out.items takes.1 c.in-Piece.ensures.next step;
     }
 
 pub turns-preserved-in_default-2 : goal.turns-preserved-in_default-2
@@ -127,7 +127,7 @@ turns-preserved-in_default-2 g c =
       kept = c.take_piece-ended.ensures.kept ∙ ap (λ (z : Pool _). with_records c.take_piece-ended.new.worker.serials c.take_piece-ended.new.worker.made z) c.turns.invariant.kept;
       faults = c.in-Piece.ensures.next.faults ∙ c.turns.invariant.faults;
       so_far = λ marks is.
-          pieced s c.args.limits marks (g.S.Source.feed c.turns.source) (g.S.Source.feed c.next.new.self) c.turns.connection c.args.out.now.items c.turns.out.items c.turns.invariant.unended c.turns.invariant.limits_are (c.turns.invariant.so_far marks is) c.in-Piece.piece c.take_piece-ended.new.connection c.take_piece-ended.new.out.items c.in-Piece.ensures.next step;
+          pieced s c.args.limits marks (g.S.Source.feed c.turns.source) (g.S.Source.feed c.next.new.self) c.turns.connection c.args.out.now.items c.turns.out.items c.turns.invariant.unended c.turns.invariant.limits_are (c.turns.invariant.so_far marks is) c.in-Piece.piece c.take_piece-ended.new.connection c.take_piece-ended.new.out.items takes.1 c.in-Piece.ensures.next step;
     }
 
 pub turns-preserved : goal.turns-preserved

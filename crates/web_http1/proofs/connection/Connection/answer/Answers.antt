@@ -31,6 +31,10 @@ pub returns-in-Open-clause-waits : goal.returns-in-Open-clause-waits
 returns-in-Open-clause-waits g c = λ unended.
     let left = rw (c.in-Open.is, c.as_slice.ensures.value) at c.answer_rest-answered.ensures.left in left.1
 
+pub returns-in-Open-clause-few : goal.returns-in-Open-clause-few
+returns-in-Open-clause-few g c = λ unended.
+    let left = rw (c.in-Open.is, c.as_slice.ensures.value) at c.answer_rest-answered.ensures.left in left.2
+
 pub returns-in-Open-clause-steps : goal.returns-in-Open-clause-steps
 returns-in-Open-clause-steps g c =
     let s = setting_of g.Args.FromRequest.means g.Args.Error.Into.converts (g.H.Handler.answers c.args.handler.now) g.H.Output.Responder.responds g.A.Source.Source.feed g.Args.Future.Poll.gives g.H.Future.Poll.gives c.args.worker.now in
@@ -40,7 +44,7 @@ returns-in-Open-clause-steps g c =
     (steps_from s c.self.inside.limits (drop c.self.inside.start c.self.inside.buffer.items) c.self.inside.ended
     (record { limits = c.self.inside.limits; left = drop c.answer_rest-answered.result.place c.self.inside.buffer.items; ended = c.self.inside.ended }) c.args.out.now.items
     c.answer_rest-answered.new.out.items none
-    (subst (λ o. StepsTo s (open_at c.self.inside.limits (drop c.self.inside.start c.self.inside.buffer.items)) (record { limits = c.self.inside.limits; left = drop c.answer_rest-answered.result.place c.self.inside.buffer.items; ended = o }) c.args.out.now.items c.answer_rest-answered.new.out.items) (sym none) left.2))
+    (subst (λ o. StepsTo s (open_at c.self.inside.limits (drop c.self.inside.start c.self.inside.buffer.items)) (record { limits = c.self.inside.limits; left = drop c.answer_rest-answered.result.place c.self.inside.buffer.items; ended = o }) c.args.out.now.items c.answer_rest-answered.new.out.items) (sym none) left.3))
 
 pub returns-in-Ended-clause-steps : goal.returns-in-Ended-clause-steps
 returns-in-Ended-clause-steps g c =
