@@ -92,7 +92,7 @@ fn add_part(shown: &mut String, waited: u32, part: &Part) -> Result<(), NoMemory
 }
 
 /// Adds bytes in brackets, each as the character of its number.
-fn add_bytes(shown: &mut String, bytes: &[u8]) -> Result<(), NoMemory> {
+pub(crate) fn add_bytes(shown: &mut String, bytes: &[u8]) -> Result<(), NoMemory> {
     shown.push('[')?;
     for byte in bytes {
         shown.push(char::from(*byte))?;

@@ -102,6 +102,18 @@ pub(crate) fn body_of(alloc: Global, text: &str) -> Result<RowBody, NoMemory> {
     })
 }
 
+/// The bytes that a text says, in which a character up to `ÿ` stands for its byte. Others are left
+/// out.
+pub(crate) fn bytes_of(alloc: Global, text: &str) -> Result<Vec<u8>, NoMemory> {
+    let mut bytes = Vec::new(alloc);
+    for char in text.chars() {
+        if let Ok(byte) = u8::try_from(u32::from(char)) {
+            bytes.push(byte)?;
+        }
+    }
+    Ok(bytes)
+}
+
 /// Adds a piece, unless it is empty.
 fn add_piece(left: &mut VecDeque<Mark>, bytes: Vec<u8>) -> Result<(), NoMemory> {
     if bytes.is_empty() {
