@@ -10,7 +10,7 @@ help:
 	@echo "make test                 runs all tests, examples and rows, in minutes; it proves nothing"
 	@echo "make rows                 runs the program over the rows of examples/"
 	@echo "make faults               runs the program over rows with calls that fail, in turn; outside the gate"
-	@echo "make gate                 the gate: the same, and everything proved, in one to two hours on four cores"
+	@echo "make gate                 the gate: the same, and everything proved, in hours"
 	@echo "make prove                proves and builds the program, and prints its path"
 	@echo "make check CRATE=NAME     proves a crate, and what it stands on, and says which crate it is at"
 	@echo "make try CRATE=NAME       runs a program without proof, or the tests of a library; of a program with WORDS=--test"
