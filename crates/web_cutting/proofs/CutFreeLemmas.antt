@@ -1,5 +1,5 @@
 -- Arguments that do not depend on the cutting.
-use Rattle.std.proofs.Common.{◌≡◌, ◌≤◌, ℕ, max, List, [], length, refl, sym, ◌∙◌, ap, subst}
+use Rattle.std.proofs.Common.{◌≡◌, ◌≤◌, ℕ, max, List, [], length, refl, ◌∙◌, subst}
 use Rattle.std.specs.Prelude.{Option, None, Some, Result, Ok, Err}
 use Rattle.std.specs.Option.{option_map}
 use Rattle.http_header.specs.FieldValue.{FieldValue}
@@ -8,8 +8,6 @@ use Rattle.web_request.specs.declared.source.Mark.{Mark}
 use Rattle.web_request.specs.Reading.{Content, reading}
 use Rattle.web_body.specs.Collector.{Read, read_of}
 use Rattle.web_body.specs.MessageBody.{answer_of}
-use Rattle.web_body.specs.declared.message_body.PayloadError.{PayloadError}
-use Rattle.web_decoders.specs.Decoding.{DecodedReading, RefusedOr}
 use Rattle.web_body.specs.HeadTests.{refusal_by}
 use Rattle.web_reply.specs.Replies.{Fault}
 use Rattle.web_body.specs.PayloadSettings.{PayloadSettings}

@@ -1,14 +1,9 @@
 -- JSON bodies, forms, and one of two, in every cutting.
-use Rattle.std.proofs.Common.{◌≡◌, ◌≤◌, ℕ, ◌+◌, Bool, true, false, List, [], length, refl}
-use Rattle.std.specs.Prelude.{Option, None, Some, Result, Ok, Err}
-use Rattle.http_header.specs.FieldValue.{FieldValue}
-use Rattle.http_header.specs.HeaderMap.{Entries}
+use Rattle.std.proofs.Common.{ℕ, ◌+◌, Bool, true, false, List, [], refl}
 use Rattle.web_request.specs.declared.source.Mark.{Mark}
-use Rattle.web_request.specs.Body.{piece_bytes}
 use Rattle.web_request.specs.Head.{Head}
 use Rattle.web_values.specs.DecodedForms.{PairReader}
 use Rattle.web_values.specs.DecodedJson.{JsonReader}
-use Rattle.web_body.specs.Collector.{read_of}
 use Rattle.web_body.specs.Cuttings.{SameBody}
 use Rattle.web_body.specs.declared.form_error.UrlencodedError.{UrlencodedError}
 use Rattle.web_body.specs.declared.json_error.JsonPayloadError.{JsonPayloadError}
@@ -20,7 +15,7 @@ use Rattle.web_decoders.specs.TypePredicates.{Predicate}
 use Rattle.web_reply.specs.Replies.{Fault}
 use Rattle.web_extract.specs.Refusals.{Handler}
 use Rattle.web_extract.specs.ListMeanings.{ArgumentMeaning}
-use Rattle.web_types.specs.EitherArgument.{EitherResult, MeansEither}
+use Rattle.web_types.specs.EitherArgument.{MeansEither}
 use Rattle.web_types.specs.FormArgument.{MeansForm, form_rest}
 use Rattle.web_types.specs.HandledBodies.{rest_where}
 use Rattle.web_types.specs.JsonArgument.{MeansJson, json_head_refusal}

@@ -1,5 +1,6 @@
 pub mod CutReadingLemmas
 pub mod CutFreeLemmas
+pub mod CutWithinLemmas
 mod CutValuesLemmas
 mod CutRepliesLemmas
 mod TakingLemmas

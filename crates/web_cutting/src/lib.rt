@@ -11,6 +11,7 @@ mod multipart_cutting;
 mod pool_calls;
 mod reply_cutting;
 mod value_cutting;
+mod within_cutting;
 
 pub use argument_cutting::{argument_cutting_law, capped_cutting_law, place_cutting_law};
 pub use decoder_cutting::decoder_cutting_law;
@@ -24,3 +25,6 @@ pub use multipart_cutting::{multipart_cutting_law, multipart_taking_law};
 pub use pool_calls::{PoolCall, make_calls};
 pub use reply_cutting::reply_cutting_law;
 pub use value_cutting::{either_cutting_law, value_cutting_law};
+pub use within_cutting::{
+    argument_within_law, capped_within_law, list_within_law, reply_within_law,
+};
