@@ -13,7 +13,7 @@ use web_arguments::{Header, Path, Query};
 use web_headers::{Accept, fmt_comma_delimited};
 use web_negotiate::prelude::AcceptChoices;
 use web_reply::{Error, ResponseError};
-use web_request::cookies::Cookie;
+use web_request::cookies::CookiePair;
 use web_request::{ConnectionInfo, NoMemory};
 use web_texts::{Mime, Text};
 use web_types::{Either, Form, Json};
@@ -154,7 +154,7 @@ impl PlainText for ConnectionInfo {
     }
 }
 
-fn push_pair(text: &mut String, cookie: &Cookie) -> Result<(), NoMemory>
+fn push_pair(text: &mut String, cookie: &CookiePair) -> Result<(), NoMemory>
     ensures { OnOk result
         (string_bytes text.new ≡ string_bytes text.old ++ pair_text cookie.now) }
 {
@@ -163,7 +163,7 @@ fn push_pair(text: &mut String, cookie: &Cookie) -> Result<(), NoMemory>
     Ok(text.push_str(cookie.value())?)
 }
 
-fn push_later_pair(text: &mut String, cookie: &Cookie) -> Result<(), NoMemory>
+fn push_later_pair(text: &mut String, cookie: &CookiePair) -> Result<(), NoMemory>
     ensures { OnOk result
         (string_bytes text.new ≡ string_bytes text.old ++ (space ++ pair_text cookie.now)) }
 {
@@ -172,7 +172,7 @@ fn push_later_pair(text: &mut String, cookie: &Cookie) -> Result<(), NoMemory>
 }
 
 /// Adds the names and values of cookies, each with a space before it.
-fn push_later_pairs(text: &mut String, cookies: &[Cookie]) -> Result<(), NoMemory>
+fn push_later_pairs(text: &mut String, cookies: &[CookiePair]) -> Result<(), NoMemory>
     ensures { OnOk result (string_bytes text.new
         ≡ string_bytes text.old ++ flat_map (λ c. space ++ pair_text c) cookies.now) }
 {
@@ -183,7 +183,7 @@ fn push_later_pairs(text: &mut String, cookies: &[Cookie]) -> Result<(), NoMemor
 }
 
 /// Adds the names and values of cookies, with spaces between.
-fn push_pairs(text: &mut String, cookies: &[Cookie]) -> Result<(), NoMemory>
+fn push_pairs(text: &mut String, cookies: &[CookiePair]) -> Result<(), NoMemory>
     ensures { OnOk result
         (string_bytes text.new ≡ string_bytes text.old ++ cookies_text cookies.now) }
 {
@@ -197,7 +197,7 @@ fn push_pairs(text: &mut String, cookies: &[Cookie]) -> Result<(), NoMemory>
 }
 
 /// The names and values of cookies, with spaces between.
-pub(crate) fn cookies_text(alloc: Global, cookies: &[Cookie]) -> Result<Text, NoMemory>
+pub(crate) fn cookies_text(alloc: Global, cookies: &[CookiePair]) -> Result<Text, NoMemory>
     ensures { IfOk result (λ text. text ≡ cookies_text cookies.now) }
 {
     let mut text = String::with_capacity(alloc, ROOM)?;

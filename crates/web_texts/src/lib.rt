@@ -5,6 +5,7 @@
 mod blanks;
 mod bytes;
 mod charsets;
+mod compact;
 mod cut;
 mod digits;
 mod duplicate;
@@ -33,6 +34,7 @@ mod written_media;
 pub use blanks::{trim, trim_bytes, trim_end, trim_front};
 pub use bytes::bytes_equal;
 pub use charsets::Charset;
+pub use compact::{push_compact, push_single};
 pub use cut::{cut_at, cut_at_last, cut_first, split_once_at};
 pub use digits::{next_digit, number_of, read_digits};
 pub use duplicate::Duplicate;

@@ -10,6 +10,7 @@ ghost use Rattle.web_texts.specs.MediaTypes.{parameters_of, AddsParameter};
 ghost use Rattle.web_texts.specs.declared.parameters.Place.TheVariants as place;
 
 use crate::blanks::{trim, trim_front};
+use crate::compact::push_single;
 use crate::cut::cut_at;
 use crate::errors::MimeFault;
 use crate::memory::Fail;
@@ -116,7 +117,7 @@ fn push_parameter(alloc: Global, params: &mut Vec<Pair>, piece: &str) -> Result<
     ensures { AddsParameter piece.now params.old.items params.new.items result }
 {
     let param = read_parameter(alloc, piece)?;
-    params.push(param)?;
+    push_single(params, param)?;
     Ok(())
 }
 
