@@ -271,16 +271,17 @@ impl PlainText for AllLines {
 
 /// Media types in their order.
 #[derive(Drop)]
-struct MediaTypes {
-    types: Vec<Mime>,
+struct MediaTypes<'a> {
+    types: Vec<&'a Mime>,
 }
 
-impl fmt::Display for MediaTypes {
+impl fmt::Display for MediaTypes<'_> {
     ghost use Rattle.std.specs.Prelude.{Some};
     ghost use Rattle.web_headers.specs.PrintedLists.{comma_joined};
     ghost use Rattle.web_texts.specs.MediaTypeTexts.{media_type_text};
 
-    ghost output = { λ list. Some (comma_joined media_type_text list.types.items) };
+    ghost output = { λ list.
+        Some (comma_joined (λ mime. media_type_text mime.now) list.types.items) };
 
     fn fmt<W: fmt::Write>(&self, f: &mut fmt::Formatter<W>) -> fmt::Result {
         fmt_comma_delimited(f, self.types.as_slice())
@@ -295,7 +296,7 @@ impl PlainText for Header<Accept> {
 
     fn plain_text(&self, alloc: Global) -> Result<Text, NoMemory> {
         let ranked = MediaTypes {
-            types: self.0.ranked(alloc)?,
+            types: self.0.ranked_references(alloc)?,
         };
         Ok(Text::from(ranked.to_string(alloc)?))
     }

@@ -55,6 +55,36 @@ pub fn ranked_references<'a, T, R: Ranking<QualityItem<T>>>(
     Ok(ranked)
 }
 
+/// The items, borrowed, without their qualities.
+fn without_qualities<'a, T>(
+    alloc: Global,
+    items: Vec<&'a QualityItem<T>>,
+) -> Result<Vec<&'a T>, NoMemory>
+    ensures { IfOk result (λ made. map (λ item. item.now) made.items
+        ≡ map (λ item. item.now.item) items.entry.items) }
+{
+    let mut made = Vec::with_capacity(alloc, items.len())?;
+    for item in items {
+        made.push(&item.item)?;
+    }
+    Ok(made)
+}
+
+/// The items in the order of their ranks, borrowed, without their qualities. Equal ones keep their
+/// order.
+pub fn ranked_item_references<'a, T, R: Ranking<QualityItem<T>>>(
+    alloc: Global,
+    ranking: &R,
+    items: &'a [QualityItem<T>],
+) -> Result<Vec<&'a T>, NoMemory>
+    ensures { IfOk result (λ ranked. IsRanking (R.ranks ranking.now) items.now
+        (map (λ item. item.now) ranked.items)) }
+{
+    let ranked = ranked_references(alloc, ranking, items)?;
+    let ranked = without_qualities(alloc, ranked)?;
+    Ok(ranked)
+}
+
 /// Copies of the items, without their qualities.
 fn copied_items<T: Duplicate>(
     alloc: Global,
