@@ -5,7 +5,7 @@ use Rattle.std.specs.List.{list_all, list_any, before_first, after_first}
 use Rattle.std.specs.Str.{is_utf8}
 use Rattle.http_header.specs.FieldValue.{FieldValue, plain_value}
 use Rattle.http_header.specs.Token.{is_token_byte, is_value_byte, lowercase}
-use Rattle.web_texts.specs.declared.text.Pair.{Pair}
+use Rattle.web_texts.specs.Pairs.{Pair}
 use Rattle.cli_script.specs.Line.{is_space}
 use Rattle.web_request.specs.Head.{Target}
 use Rattle.cli_script.specs.Targets.{target_of}

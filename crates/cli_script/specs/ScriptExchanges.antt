@@ -9,7 +9,7 @@ use Rattle.web_request.specs.declared.address.SocketAddr.{SocketAddr}
 use Rattle.web_request.specs.declared.source.Mark.{Mark}
 use Rattle.web_request.specs.declared.source.Mark.TheVariants as mark
 use Rattle.web_request.specs.Body.{whole}
-use Rattle.web_texts.specs.declared.text.Pair.{Pair}
+use Rattle.web_texts.specs.Pairs.{Pair}
 use Rattle.cli_script.specs.Line.{Line}
 use Rattle.cli_script.specs.ScriptedView.{ScriptedExchangeView}
 use Rattle.cli_script.specs.LineKinds.{has}

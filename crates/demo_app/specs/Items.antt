@@ -4,7 +4,7 @@ use Rattle.std.specs.Prelude.{option_and_then}
 use Rattle.serde_json.specs.Data.{Data, number, string, object, unsigned, member, no_members}
 use Rattle.serde_json.specs.Find.{get_member, as_object, as_str, as_number, as_u64}
 use Rattle.web_texts.specs.Digits.{digits_up_to}
-use Rattle.web_texts.specs.declared.text.Pair.{Pair}
+use Rattle.web_texts.specs.Pairs.{Pair}
 use Rattle.web_values.specs.declared.faults.ReadFault.{ReadFault}
 use Rattle.web_values.specs.Answers.{and_then, or_refuse}
 use Rattle.web_values.specs.FormPairs.{values_of}

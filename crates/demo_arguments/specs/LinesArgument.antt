@@ -2,7 +2,7 @@
 use Rattle.std.specs.Prelude.{◌≡◌, ℕ, suc, Bool, List, [], ◌∷◌, ◌++◌, Option, None, Some, Result}
 use Rattle.std.specs.Prelude.{Ok, Err, codes, refl, unwrap_or, ⊤}
 use Rattle.web_texts.specs.declared.errors.ContentTypeError.{ContentTypeError}
-use Rattle.web_texts.specs.declared.text.Pair.{Pair}
+use Rattle.web_texts.specs.Pairs.{Pair}
 use Rattle.web_request.specs.declared.source.Mark.{Mark}
 use Rattle.web_request.specs.MessageFields.{encoding_of}
 use Rattle.web_request.specs.Request.{Request}

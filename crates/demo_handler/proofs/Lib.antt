@@ -1,2 +1,3 @@
 pub mod DemoFunctionsLemmas
+pub mod JoinedLemmas
 pub mod NewlineLemmas

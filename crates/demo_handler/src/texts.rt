@@ -13,7 +13,7 @@ use web_arguments::{Header, Path, Query};
 use web_headers::{Accept, fmt_comma_delimited};
 use web_negotiate::prelude::AcceptChoices;
 use web_reply::{Error, ResponseError};
-use web_request::cookies::Cookie;
+use web_request::cookies::CookiePair;
 use web_request::{ConnectionInfo, NoMemory};
 use web_texts::{Mime, Text};
 use web_types::{Either, Form, Json};
@@ -154,7 +154,7 @@ impl PlainText for ConnectionInfo {
     }
 }
 
-fn push_pair(text: &mut String, cookie: &Cookie) -> Result<(), NoMemory>
+fn push_pair(text: &mut String, cookie: &CookiePair) -> Result<(), NoMemory>
     ensures { OnOk result
         (string_bytes text.new ≡ string_bytes text.old ++ pair_text cookie.now) }
 {
@@ -163,7 +163,7 @@ fn push_pair(text: &mut String, cookie: &Cookie) -> Result<(), NoMemory>
     Ok(text.push_str(cookie.value())?)
 }
 
-fn push_later_pair(text: &mut String, cookie: &Cookie) -> Result<(), NoMemory>
+fn push_later_pair(text: &mut String, cookie: &CookiePair) -> Result<(), NoMemory>
     ensures { OnOk result
         (string_bytes text.new ≡ string_bytes text.old ++ (space ++ pair_text cookie.now)) }
 {
@@ -172,7 +172,7 @@ fn push_later_pair(text: &mut String, cookie: &Cookie) -> Result<(), NoMemory>
 }
 
 /// Adds the names and values of cookies, each with a space before it.
-fn push_later_pairs(text: &mut String, cookies: &[Cookie]) -> Result<(), NoMemory>
+fn push_later_pairs(text: &mut String, cookies: &[CookiePair]) -> Result<(), NoMemory>
     ensures { OnOk result (string_bytes text.new
         ≡ string_bytes text.old ++ flat_map (λ c. space ++ pair_text c) cookies.now) }
 {
@@ -183,7 +183,7 @@ fn push_later_pairs(text: &mut String, cookies: &[Cookie]) -> Result<(), NoMemor
 }
 
 /// Adds the names and values of cookies, with spaces between.
-fn push_pairs(text: &mut String, cookies: &[Cookie]) -> Result<(), NoMemory>
+fn push_pairs(text: &mut String, cookies: &[CookiePair]) -> Result<(), NoMemory>
     ensures { OnOk result
         (string_bytes text.new ≡ string_bytes text.old ++ cookies_text cookies.now) }
 {
@@ -197,7 +197,7 @@ fn push_pairs(text: &mut String, cookies: &[Cookie]) -> Result<(), NoMemory>
 }
 
 /// The names and values of cookies, with spaces between.
-pub(crate) fn cookies_text(alloc: Global, cookies: &[Cookie]) -> Result<Text, NoMemory>
+pub(crate) fn cookies_text(alloc: Global, cookies: &[CookiePair]) -> Result<Text, NoMemory>
     ensures { IfOk result (λ text. text ≡ cookies_text cookies.now) }
 {
     let mut text = String::with_capacity(alloc, ROOM)?;
@@ -271,16 +271,17 @@ impl PlainText for AllLines {
 
 /// Media types in their order.
 #[derive(Drop)]
-struct MediaTypes {
-    types: Vec<Mime>,
+struct MediaTypes<'a> {
+    types: Vec<&'a Mime>,
 }
 
-impl fmt::Display for MediaTypes {
+impl fmt::Display for MediaTypes<'_> {
     ghost use Rattle.std.specs.Prelude.{Some};
     ghost use Rattle.web_headers.specs.PrintedLists.{comma_joined};
     ghost use Rattle.web_texts.specs.MediaTypeTexts.{media_type_text};
 
-    ghost output = { λ list. Some (comma_joined media_type_text list.types.items) };
+    ghost output = { λ list.
+        Some (comma_joined (λ mime. media_type_text mime.now) list.types.items) };
 
     fn fmt<W: fmt::Write>(&self, f: &mut fmt::Formatter<W>) -> fmt::Result {
         fmt_comma_delimited(f, self.types.as_slice())
@@ -295,7 +296,7 @@ impl PlainText for Header<Accept> {
 
     fn plain_text(&self, alloc: Global) -> Result<Text, NoMemory> {
         let ranked = MediaTypes {
-            types: self.0.ranked(alloc)?,
+            types: self.0.ranked_references(alloc)?,
         };
         Ok(Text::from(ranked.to_string(alloc)?))
     }

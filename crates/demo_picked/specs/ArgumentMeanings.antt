@@ -7,7 +7,7 @@ use Rattle.web_texts.specs.MediaTypes.{MediaType}
 use Rattle.web_texts.specs.declared.errors.ParseError.{ParseError}
 use Rattle.web_texts.specs.declared.errors.ParseError.TheVariants as refusal
 use Rattle.web_texts.specs.declared.quality_item.QualityItem.{QualityItem}
-use Rattle.web_texts.specs.declared.text.Pair.{Pair}
+use Rattle.web_texts.specs.Pairs.{Pair}
 use Rattle.web_headers.specs.ListHeaders.{accept_of}
 use Rattle.web_headers.specs.declared.accept_header.Accept.{Accept}
 use Rattle.web_request.specs.declared.source.Mark.{Mark}

@@ -3,7 +3,7 @@ use Rattle.std.specs.Prelude.{List, [], ◌∷◌, Result, Ok, codes, decimal, o
 use Rattle.serde_json.specs.Data.{Data, number, string, object, unsigned, member, no_members}
 use Rattle.serde_json.specs.Find.{get, as_str, as_number, as_u64}
 use Rattle.web_texts.specs.Digits.{digits_up_to}
-use Rattle.web_texts.specs.declared.text.Pair.{Pair}
+use Rattle.web_texts.specs.Pairs.{Pair}
 use Rattle.web_values.specs.Answers.{or_refuse}
 use Rattle.web_values.specs.FormPairs.{values_of}
 use Rattle.web_values.specs.declared.faults.ReadFault.{ReadFault}

@@ -4,7 +4,7 @@ use crate::requests::{Site, add, head, request_with};
 use http_header::{COOKIE, HeaderValue};
 use std::alloc::Global;
 use std::process::Abort;
-use web_request::cookies::{Cookie, CookieParseError};
+use web_request::cookies::{Cookie, CookiePair, CookieParseError};
 use web_request::{Fail, HttpRequest, RequestHead};
 
 /// Values of the header Cookie, and the names and values of the cookies that they say as they are.
@@ -44,7 +44,7 @@ fn push(rt: &impl Abort, text: &mut String, more: &str) {
 }
 
 /// The names and values of cookies.
-fn listed(rt: &impl Abort, alloc: Global, cookies: &[Cookie]) -> String {
+fn listed(rt: &impl Abort, alloc: Global, cookies: &[CookiePair]) -> String {
     let mut text = String::new(alloc);
     for cookie in cookies {
         if !text.is_empty() {
@@ -61,7 +61,7 @@ fn listed(rt: &impl Abort, alloc: Global, cookies: &[Cookie]) -> String {
 fn assert_listed(
     rt: &impl Abort,
     alloc: Global,
-    read: Result<&[Cookie], Fail<CookieParseError>>,
+    read: Result<&[CookiePair], Fail<CookieParseError>>,
     expected: &str,
 ) {
     match read {

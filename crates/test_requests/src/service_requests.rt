@@ -9,7 +9,7 @@ use std::process::Abort;
 use std::rc::Rc;
 use web_body::{Marks, Payload, PayloadError, Poll, Step, TakePayload};
 use web_reply::{Error, HttpResponse, WholeBody};
-use web_request::cookies::Cookie;
+use web_request::cookies::CookiePair;
 use web_request::{HttpMessage, HttpRequest, NoData};
 use web_service::{ServiceRequest, ServiceResponse};
 
@@ -76,7 +76,7 @@ fn the_parts_of_a_request_are_read(rt: HostRuntime) {
 }
 
 /// Compares the name and the value of the first cookie.
-fn assert_first(rt: &impl Abort, cookies: &[Cookie], expected: (&str, &str)) {
+fn assert_first(rt: &impl Abort, cookies: &[CookiePair], expected: (&str, &str)) {
     match cookies.first() {
         Some(cookie) => assert_same(rt, (cookie.name(), cookie.value()), expected),
         None => assert_same(rt, ("no", "cookie"), expected),

@@ -4,7 +4,7 @@ use crate::maps::map_of;
 use http_header::{COOKIE, HeaderMap, HeaderValue};
 use httpdate::HttpDate;
 use std::alloc::Global;
-use web_cookies::{Cookie, CookieParseError, decoded_cookies, raw_cookies};
+use web_cookies::{Cookie, CookiePair, CookieParseError, decoded_cookies, raw_cookies};
 use web_texts::{Fail, NoMemory};
 
 pub(crate) fn answer(alloc: Global, name: &str, fields: &[&str]) -> Answer {
@@ -85,7 +85,7 @@ fn cookies_in(
     alloc: Global,
     map: &HeaderMap<HeaderValue>,
     is_decoded: bool,
-) -> Result<Vec<Cookie>, Fail<CookieParseError>> {
+) -> Result<Vec<CookiePair>, Fail<CookieParseError>> {
     if is_decoded {
         decoded_cookies(alloc, map)
     } else {

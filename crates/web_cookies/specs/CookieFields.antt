@@ -1,5 +1,5 @@
 -- A cookie as contracts see it.
-use Rattle.std.specs.Prelude.{ℕ, Bool, false, List, Option, None}
+use Rattle.std.specs.Prelude.{ℕ, Bool, false, List, ◌++◌, ◌∷◌, Option, None}
 use Rattle.httpdate.specs.declared.parts.Parts.{Parts}
 use Rattle.httpdate.specs.declared.date.HttpDate.{HttpDate}
 use Rattle.web_cookies.specs.declared.same_site.SameSite.{SameSite}
@@ -33,3 +33,16 @@ plain_cookie name value = record {
   http_only = false;
   same_site = None;
 }
+
+-- a cookie as a client sends it back
+pub record PairFields : Type 0 where
+  pub name : List ℕ
+  pub value : List ℕ
+
+-- the cookie of a pair, which has no attributes
+abbrev pub cookie_of_pair : PairFields → CookieFields
+cookie_of_pair pair = plain_cookie pair.name pair.value
+
+-- as a client sends it
+abbrev pub pair_text : PairFields → List ℕ
+pair_text pair = pair.name ++ 61 ∷ pair.value

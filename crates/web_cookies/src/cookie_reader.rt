@@ -6,6 +6,7 @@ ghost use Rattle.web_texts.specs.Returns.{Returns};
 ghost use Rattle.web_cookies.specs.CookieReaders.{pair_said, utf8_text};
 
 use crate::attributes::read_attributes;
+use crate::cookie_pair::CookiePair;
 use crate::cookie_parse_error::CookieParseError;
 use crate::response_cookie::Cookie;
 use memchr::memchr;
@@ -36,24 +37,25 @@ impl Cookie {
 }
 
 /// Reads a cookie, with its name and value percent-decoded where `encoded`.
-pub fn read_cookie(
-    alloc: Global,
-    text: &str,
-    encoded: bool,
-) -> Result<Cookie, Fail<CookieParseError>>
+fn read_cookie(alloc: Global, text: &str, encoded: bool) -> Result<Cookie, Fail<CookieParseError>>
     ensures { Returns result (cookie_said encoded text.now) }
 {
     match cut_at(text, b';') {
         Some((pair, attributes)) => {
-            let mut cookie = read_pair(alloc, pair, encoded)?;
+            let mut cookie = read_pair(alloc, pair, encoded)?.into_cookie();
             read_attributes(alloc, &mut cookie, attributes)?;
             Ok(cookie)
         }
-        None => read_pair(alloc, text, encoded),
+        None => Ok(read_pair(alloc, text, encoded)?.into_cookie()),
     }
 }
 
-fn read_pair(alloc: Global, part: &str, encoded: bool) -> Result<Cookie, Fail<CookieParseError>>
+/// Reads a name and a value with `=` between them.
+pub(crate) fn read_pair(
+    alloc: Global,
+    part: &str,
+    encoded: bool,
+) -> Result<CookiePair, Fail<CookieParseError>>
     ensures { Returns result (pair_said encoded part.now) }
 {
     match cut_at(part, b'=') {
@@ -67,7 +69,7 @@ fn named(
     name: &str,
     value: &str,
     encoded: bool,
-) -> Result<Cookie, Fail<CookieParseError>>
+) -> Result<CookiePair, Fail<CookieParseError>>
     ensures { Returns result (named encoded name.now value.now) }
 {
     if name.is_empty() {
@@ -75,7 +77,7 @@ fn named(
     }
     let name = decoded(alloc, name, encoded)?;
     let value = decoded(alloc, value, encoded)?;
-    Ok(Cookie::new(name, value))
+    Ok(CookiePair::new(name, value))
 }
 
 fn decoded(alloc: Global, text: &str, encoded: bool) -> Result<Text, Fail<CookieParseError>>

@@ -1,18 +1,21 @@
 //! The cookies of a request.
 ghost use Rattle.std.specs.Prelude.{◌≡◌, ◌++◌, IfOk, IsOk, OnOk, codes, true, false, None};
 ghost use Rattle.std.specs.List.{find};
+ghost use Rattle.std.specs.Option.{option_map};
 ghost use Rattle.std.specs.Str.{bytes_eq};
 ghost use Rattle.http_header.specs.HeaderMap.{get_all};
 ghost use Rattle.web_texts.specs.Returns.{ReturnsBy};
+ghost use Rattle.web_cookies.specs.CookieFields.{cookie_of_pair};
 ghost use Rattle.web_cookies.specs.HeaderCookies.{cookie_of_part, cookies_in, cookies_said};
 
+use crate::cookie_pair::CookiePair;
 use crate::cookie_parse_error::CookieParseError;
-use crate::cookie_reader::read_cookie;
+use crate::cookie_reader::read_pair;
 use crate::response_cookie::Cookie;
 use http_header::{COOKIE, HeaderMap, HeaderValue};
 use std::alloc::Global;
 use std::str;
-use web_texts::{Duplicate, Fail, NoMemory, first_part, trim};
+use web_texts::{Fail, NoMemory, first_part, push_compact, trim};
 
 /// The cookies that a client sends back in the header Cookie (RFC 6265, section 5.4), in their
 /// order, with names and values percent-decoded. Each part between semicolons is trimmed and read
@@ -22,7 +25,7 @@ use web_texts::{Duplicate, Fail, NoMemory, first_part, trim};
 pub fn decoded_cookies(
     alloc: Global,
     headers: &HeaderMap<HeaderValue>,
-) -> Result<Vec<Cookie>, Fail<CookieParseError>>
+) -> Result<Vec<CookiePair>, Fail<CookieParseError>>
     ensures { ReturnsBy (λ cookies. cookies.items) result
         (cookies_said true (get_all headers.now (codes "cookie"))) }
 {
@@ -33,7 +36,7 @@ pub fn decoded_cookies(
 pub fn raw_cookies(
     alloc: Global,
     headers: &HeaderMap<HeaderValue>,
-) -> Result<Vec<Cookie>, Fail<CookieParseError>>
+) -> Result<Vec<CookiePair>, Fail<CookieParseError>>
     ensures { ReturnsBy (λ cookies. cookies.items) result
         (cookies_said false (get_all headers.now (codes "cookie"))) }
 {
@@ -44,7 +47,7 @@ fn read_cookies(
     alloc: Global,
     headers: &HeaderMap<HeaderValue>,
     encoded: bool,
-) -> Result<Vec<Cookie>, Fail<CookieParseError>>
+) -> Result<Vec<CookiePair>, Fail<CookieParseError>>
     ensures { ReturnsBy (λ cookies. cookies.items) result
         (cookies_said encoded (get_all headers.now (codes "cookie"))) }
 {
@@ -61,7 +64,7 @@ fn read_cookies(
 /// Adds the cookies that the parts between the semicolons of a text say.
 fn add_cookies(
     alloc: Global,
-    cookies: &mut Vec<Cookie>,
+    cookies: &mut Vec<CookiePair>,
     text: &str,
     encoded: bool,
 ) -> Result<(), NoMemory>
@@ -81,7 +84,7 @@ fn add_cookies(
 
 fn add_cookie(
     alloc: Global,
-    cookies: &mut Vec<Cookie>,
+    cookies: &mut Vec<CookiePair>,
     part: &str,
     encoded: bool,
 ) -> Result<(), NoMemory>
@@ -92,31 +95,29 @@ fn add_cookie(
     if text.is_empty() {
         return Ok(());
     }
-    match read_cookie(alloc, text, encoded) {
-        Ok(cookie) => {
-            cookies.push(cookie)?;
-            Ok(())
-        }
+    match read_pair(alloc, text, encoded) {
+        Ok(pair) => push_compact(cookies, pair),
         Err(Fail::NoMemory) => Err(NoMemory),
         Err(Fail::Of(_)) => Ok(()),
     }
 }
 
-/// A copy of the first of these cookies that has this name. Returns `NoMemory` where allocation
+/// The first of these cookies that has this name, as a copy. Returns `NoMemory` where allocation
 /// failed, which it does not where no cookie has it.
 pub fn cookie_named(
     alloc: Global,
-    cookies: &[Cookie],
+    cookies: &[CookiePair],
     name: &str,
 ) -> Result<Option<Cookie>, NoMemory>
     ensures value { IfOk result (λ found.
-        found ≡ find (λ cookie. bytes_eq cookie.name name.now) cookies.now) }
-    ensures memory { find (λ cookie. bytes_eq cookie.name name.now) cookies.now ≡ None
+        found ≡ option_map cookie_of_pair
+        (find (λ pair. bytes_eq pair.name name.now) cookies.now)) }
+    ensures memory { find (λ pair. bytes_eq pair.name name.now) cookies.now ≡ None
         → IsOk result }
 {
-    for cookie in cookies {
-        if cookie.name() == name {
-            return Ok(Some(cookie.duplicate(alloc)?));
+    for pair in cookies {
+        if pair.name() == name {
+            return Ok(Some(pair.to_cookie(alloc)?));
         }
     }
     Ok(None)

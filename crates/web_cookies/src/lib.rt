@@ -2,6 +2,7 @@
 #![tactic(auto)]
 
 mod attributes;
+mod cookie_pair;
 mod cookie_parse_error;
 mod cookie_reader;
 mod cookie_text;
@@ -9,6 +10,7 @@ mod header_cookies;
 mod response_cookie;
 mod same_site;
 
+pub use cookie_pair::CookiePair;
 pub use cookie_parse_error::CookieParseError;
 pub use header_cookies::{cookie_named, decoded_cookies, raw_cookies};
 pub use response_cookie::Cookie;

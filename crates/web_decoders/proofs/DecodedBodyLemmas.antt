@@ -3,7 +3,7 @@ use Rattle.std.proofs.Common.{◌≡◌, ℕ, List, ◌∙◌, ap}
 use Rattle.std.specs.Prelude.{Option, None, Some, Result, Ok, Err}
 use Rattle.std.specs.Option.{IfNone}
 use Rattle.serde_json.specs.Data.{Data}
-use Rattle.web_texts.specs.declared.text.Pair.{Pair}
+use Rattle.web_texts.specs.Pairs.{Pair}
 use Rattle.web_request.specs.Feed.{Feed}
 use Rattle.web_values.specs.declared.faults.ReadFault.{ReadFault}
 use Rattle.web_values.specs.declared.faults.JsonFault.{JsonFault}

@@ -1,7 +1,7 @@
 -- Collectors of forms, and the results that they may give.
 use Rattle.std.specs.Prelude.{◌≡◌, ℕ, Bool, List, [], Option, Result, Ok, Err, refl}
 use Rattle.std.specs.Option.{IfNone}
-use Rattle.web_texts.specs.declared.text.Pair.{Pair}
+use Rattle.web_texts.specs.Pairs.{Pair}
 use Rattle.web_request.specs.declared.source.Mark.{Mark}
 use Rattle.web_request.specs.Feed.{Feed}
 use Rattle.web_values.specs.declared.faults.ReadFault.{ReadFault}

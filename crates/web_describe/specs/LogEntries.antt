@@ -3,7 +3,7 @@ use Rattle.std.specs.Prelude.{ℕ, ◌==◌, ◌++◌, List, [], codes, flat_map
 use Rattle.http.specs.declared.version.Version.{Version}
 use Rattle.http_header.specs.FieldValue.{FieldValue}
 use Rattle.http_header.specs.HeaderMap.{Entries}
-use Rattle.web_texts.specs.declared.text.Pair.{Pair}
+use Rattle.web_texts.specs.Pairs.{Pair}
 use Rattle.web_describe.specs.HeaderDescriptions.{header_lines, newline}
 use Rattle.web_describe.specs.VersionNames.{version_name}
 

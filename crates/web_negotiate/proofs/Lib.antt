@@ -1,3 +1,4 @@
 pub mod GreatestLemmas
+pub mod ReferenceLemmas
 pub mod RankedLemmas
 pub mod RankingLemmas

@@ -1,5 +1,5 @@
 //! Choices among the media types of Accept.
-ghost use Rattle.std.specs.Prelude.{◌≡◌, true, List, Some, IfOk};
+ghost use Rattle.std.specs.Prelude.{◌≡◌, [], true, List, Some, IfOk, IsOk, map};
 ghost use Rattle.std.specs.Option.{is_some};
 ghost use Rattle.web_texts.specs.MediaTypes.{MediaType, media_type_of};
 ghost use Rattle.web_texts.specs.declared.quality_item.QualityItem.{QualityItem as Weighted};
@@ -7,7 +7,7 @@ ghost use Rattle.web_negotiate.specs.MediaChoices.{any_media_type, media_class a
 ghost use Rattle.web_negotiate.specs.MediaChoices.{IsMediaPreference, IsMediaRanking};
 
 use crate::greatest::first_greatest;
-use crate::rankings::{ByQuality, Ranking, ranked_items};
+use crate::rankings::{ByQuality, Ranking, ranked_item_references, ranked_items};
 use std::alloc::Global;
 use web_headers::Accept;
 use web_texts::{Duplicate, Fail, Mime, MimeFault, NoMemory, QualityItem, STAR_STAR};
@@ -68,7 +68,13 @@ pub trait AcceptChoices {
     /// `type/*`, and these before every item of type `*`; equal ones keep their order. Those of
     /// quality zero stand at the end.
     fn ranked(&self, alloc: Global) -> Result<Vec<Mime>, NoMemory>
-        ensures { IfOk result (λ ranked. IsMediaRanking (items self.now) ranked.items) };
+        ensures value { IfOk result (λ ranked. IsMediaRanking (items self.now) ranked.items) }
+        ensures memory { items self.now ≡ [] → IsOk result };
+
+    /// As `ranked`, without copies of the media types.
+    fn ranked_references(&self, alloc: Global) -> Result<Vec<&Mime>, NoMemory>
+        ensures { IfOk result (λ ranked.
+            IsMediaRanking (items self.now) (map (λ mime. mime.now) ranked.items)) };
 }
 
 impl AcceptChoices for Accept {
@@ -83,5 +89,9 @@ impl AcceptChoices for Accept {
 
     fn ranked(&self, alloc: Global) -> Result<Vec<Mime>, NoMemory> {
         ranked_items(alloc, &BySpecificity, &self.0)
+    }
+
+    fn ranked_references(&self, alloc: Global) -> Result<Vec<&Mime>, NoMemory> {
+        ranked_item_references(alloc, &BySpecificity, self.0.as_slice())
     }
 }

@@ -30,36 +30,86 @@ impl<T> Ranking<QualityItem<T>> for ByQuality {
     }
 }
 
-fn rank_items<T, R: Ranking<T>>(ranking: &R, items: &mut Vec<T>) -> Result<(), NoMemory>
-    ensures { OnOk result (IsRanked (R.ranks ranking.now) items.old.items items.new.items) }
+fn references<T>(alloc: Global, items: &[T]) -> Result<Vec<&T>, NoMemory>
+    ensures { IfOk result (λ made. map (λ item. item.now) made.items ≡ items.now) }
 {
-    items.sort_by_key(|x| Reverse(ranking.rank(x)))?;
-    Ok(())
+    let mut made = Vec::with_capacity(alloc, items.len())?;
+    for item in items {
+        made.push(item)?;
+    }
+    Ok(made)
 }
 
-fn without_qualities<T: Drop>(
+/// The items in the order of their ranks, borrowed. Equal ones keep their order. Returns `NoMemory`
+/// where allocation failed.
+pub fn ranked_references<'a, T, R: Ranking<QualityItem<T>>>(
     alloc: Global,
-    ranked: Vec<QualityItem<T>>,
-) -> Result<Vec<T>, NoMemory>
-    ensures { IfOk result (λ items. items.items ≡ map (λ x. x.item) ranked.items) }
+    ranking: &R,
+    items: &'a [QualityItem<T>],
+) -> Result<Vec<&'a QualityItem<T>>, NoMemory>
+    ensures { IfOk result (λ ranked.
+        IsRanked (R.ranks ranking.now) items.now (map (λ item. item.now) ranked.items)) }
 {
-    let mut items = Vec::with_capacity(alloc, ranked.len())?;
-    for x in ranked {
-        items.push(x.item)?;
+    let mut ranked = references(alloc, items)?;
+    ranked.sort_by_key(|item| Reverse(ranking.rank(*item)))?;
+    Ok(ranked)
+}
+
+/// The items, borrowed, without their qualities.
+fn without_qualities<'a, T>(
+    alloc: Global,
+    items: Vec<&'a QualityItem<T>>,
+) -> Result<Vec<&'a T>, NoMemory>
+    ensures { IfOk result (λ made. map (λ item. item.now) made.items
+        ≡ map (λ item. item.now.item) items.entry.items) }
+{
+    let mut made = Vec::with_capacity(alloc, items.len())?;
+    for item in items {
+        made.push(&item.item)?;
     }
-    Ok(items)
+    Ok(made)
+}
+
+/// The items in the order of their ranks, borrowed, without their qualities. Equal ones keep their
+/// order.
+pub fn ranked_item_references<'a, T, R: Ranking<QualityItem<T>>>(
+    alloc: Global,
+    ranking: &R,
+    items: &'a [QualityItem<T>],
+) -> Result<Vec<&'a T>, NoMemory>
+    ensures { IfOk result (λ ranked. IsRanking (R.ranks ranking.now) items.now
+        (map (λ item. item.now) ranked.items)) }
+{
+    let ranked = ranked_references(alloc, ranking, items)?;
+    let ranked = without_qualities(alloc, ranked)?;
+    Ok(ranked)
+}
+
+/// Copies of the items, without their qualities.
+fn copied_items<T: Duplicate>(
+    alloc: Global,
+    items: Vec<&QualityItem<T>>,
+) -> Result<Vec<T>, NoMemory>
+    ensures { IfOk result (λ copies.
+        copies.items ≡ map (λ item. item.now.item) items.entry.items) }
+{
+    let mut copies = Vec::with_capacity(alloc, items.len())?;
+    for item in items {
+        copies.push(item.item.duplicate(alloc)?)?;
+    }
+    Ok(copies)
 }
 
 fn ranked_copies<T: Duplicate, R: Ranking<QualityItem<T>>>(
     alloc: Global,
     ranking: &R,
-    items: &Items<QualityItem<T>>,
+    items: &[QualityItem<T>],
 ) -> Result<Vec<T>, NoMemory>
-    ensures { IfOk result (λ ranked. IsRanking (R.ranks ranking.now) items.now ranked.items) }
+    ensures { IfOk result (λ copies. IsRanking (R.ranks ranking.now) items.now copies.items) }
 {
-    let mut ranked = items.duplicate(alloc)?.into_vec();
-    rank_items(ranking, &mut ranked)?;
-    without_qualities(alloc, ranked)
+    let ranked = ranked_references(alloc, ranking, items)?;
+    let copies = copied_items(alloc, ranked)?;
+    Ok(copies)
 }
 
 /// Copies of the items in the order of their ranks. Equal ones keep their order. Those of no items
@@ -75,6 +125,6 @@ pub fn ranked_items<T: Duplicate, R: Ranking<QualityItem<T>>>(
 {
     match items.as_slice() {
         [] => Ok(Vec::new(alloc)),
-        _ => ranked_copies(alloc, ranking, items),
+        items => ranked_copies(alloc, ranking, items),
     }
 }

@@ -7,7 +7,7 @@ use Rattle.std.specs.Str.{bytes_eq}
 use Rattle.http_header.specs.FieldValue.{FieldValue}
 use Rattle.http_header.specs.HeaderMap.{get_all}
 use Rattle.web_cookies.specs.declared.cookie_parse_error.CookieParseError.{CookieParseError}
-use Rattle.web_cookies.specs.CookieFields.{CookieFields}
+use Rattle.web_cookies.specs.CookieFields.{CookieFields, PairFields, cookie_of_pair}
 use Rattle.web_cookies.specs.HeaderCookies.{cookies_said}
 use Rattle.web_request.specs.declared.kept_values.ComputedValues.{ComputedValues}
 use Rattle.web_request.specs.Connections.{Connection, connection_of}
@@ -22,14 +22,14 @@ kept_view (Some computed) = record {
 }
 
 abbrev pub CookiesSaid : Type 0
-CookiesSaid = Result (List CookieFields) CookieParseError
+CookiesSaid = Result (List PairFields) CookieParseError
 
 -- what is kept, else what is said now
-abbrev pub kept_or_said : Option (List CookieFields) → CookiesSaid → CookiesSaid
+abbrev pub kept_or_said : Option (List PairFields) → CookiesSaid → CookiesSaid
 kept_or_said None said = said
 kept_or_said (Some kept) said = Ok kept
 
-abbrev pub some_said : CookiesSaid → Result (Option (List CookieFields)) CookieParseError
+abbrev pub some_said : CookiesSaid → Result (Option (List PairFields)) CookieParseError
 some_said (Ok cookies) = Ok (Some cookies)
 some_said (Err error) = Err error
 
@@ -64,5 +64,6 @@ module _ {L D C : Type 0} where
 
 -- the first cookie of this name
 abbrev pub cookie_named : List ℕ → CookiesSaid → Option CookieFields
-cookie_named name (Ok cookies) = find (λ cookie. bytes_eq cookie.name name) cookies
+cookie_named name (Ok cookies) =
+    option_map cookie_of_pair (find (λ pair. bytes_eq pair.name name) cookies)
 cookie_named name (Err error) = None

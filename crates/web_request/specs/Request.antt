@@ -1,8 +1,8 @@
 -- A request, its parts and its record as contracts see them.
 use Rattle.std.specs.Prelude.{ℕ, List, Option, None}
-use Rattle.web_texts.specs.declared.text.Pair.{Pair}
+use Rattle.web_texts.specs.Pairs.{Pair}
 use Rattle.web_request.specs.declared.config.AppConfig.{AppConfig}
-use Rattle.web_cookies.specs.CookieFields.{CookieFields}
+use Rattle.web_cookies.specs.CookieFields.{PairFields}
 use Rattle.web_request.specs.Connections.{Connection}
 use Rattle.web_request.specs.Head.{Head}
 
@@ -28,9 +28,9 @@ pub record Parts (L D C : Type 0) : Type 0 where
 pub record Kept : Type 0 where
   pub connection : Option Connection
   -- the cookies of the header Cookie, percent-decoded
-  pub decoded : Option (List CookieFields)
+  pub decoded : Option (List PairFields)
   -- those cookies as they are
-  pub raw : Option (List CookieFields)
+  pub raw : Option (List PairFields)
 
 abbrev pub nothing_kept : Kept
 nothing_kept = record { connection = None; decoded = None; raw = None }

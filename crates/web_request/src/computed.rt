@@ -17,7 +17,9 @@ use crate::full_url::read_full_url;
 use crate::request::HttpRequest;
 use std::alloc::Global;
 use url::{ParseError, Url};
-use web_cookies::{Cookie, CookieParseError, cookie_named, decoded_cookies, raw_cookies};
+use web_cookies::{
+    Cookie, CookiePair, CookieParseError, cookie_named, decoded_cookies, raw_cookies,
+};
 use web_texts::{Fail, NoMemory};
 
 impl<A: App> HttpRequest<A> {
@@ -96,7 +98,7 @@ impl<A: App> HttpRequest<A> {
         Ok(())
     }
 
-    fn kept_cookies(&self) -> Option<&[Cookie]>
+    fn kept_cookies(&self) -> Option<&[CookiePair]>
         ensures { option_copied result ≡ self.now.kept.decoded }
     {
         self.kept.decoded()
@@ -108,7 +110,7 @@ impl<A: App> HttpRequest<A> {
     ///
     /// Returns `CookieParseError::Utf8` where a value of the header Cookie is not UTF-8 and no
     /// cookies are kept, and `NoMemory` where allocation failed; the request is then as before.
-    pub fn cookies(&mut self, alloc: Global) -> Result<&[Cookie], Fail<CookieParseError>>
+    pub fn cookies(&mut self, alloc: Global) -> Result<&[CookiePair], Fail<CookieParseError>>
         ensures value { ReturnsBy (λ cookies. cookies.now) result (known_cookies self.old) }
         ensures memory { IsSome self.old.kept.decoded → IsOk result }
         ensures* after { sem 𝓛 (Rests
@@ -164,14 +166,14 @@ impl<A: App> HttpRequest<A> {
         Ok(())
     }
 
-    fn kept_raw_cookies(&self) -> Option<&[Cookie]>
+    fn kept_raw_cookies(&self) -> Option<&[CookiePair]>
         ensures { option_copied result ≡ self.now.kept.raw }
     {
         self.kept.raw()
     }
 
     /// As `cookies`, with names and values as they are. The two lists are kept apart.
-    pub fn cookies_raw(&mut self, alloc: Global) -> Result<&[Cookie], Fail<CookieParseError>>
+    pub fn cookies_raw(&mut self, alloc: Global) -> Result<&[CookiePair], Fail<CookieParseError>>
         ensures value { ReturnsBy (λ cookies. cookies.now) result (known_raw_cookies self.old) }
         ensures memory { IsSome self.old.kept.raw → IsOk result }
         ensures* after { sem 𝓛 (Rests

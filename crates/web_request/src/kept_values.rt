@@ -6,7 +6,7 @@ ghost use Rattle.web_request.specs.Request.{nothing_kept};
 use crate::connection_info::ConnectionInfo;
 use std::alloc::Global;
 use std::marker::Model;
-use web_cookies::Cookie;
+use web_cookies::CookiePair;
 use web_texts::NoMemory;
 
 /// What is computed of a request once and then kept, whatever its head is later.
@@ -21,8 +21,8 @@ pub struct KeptValues {
 #[derive(Drop)]
 struct ComputedValues {
     connection: Option<ConnectionInfo>,
-    decoded: Option<Vec<Cookie>>,
-    raw: Option<Vec<Cookie>>,
+    decoded: Option<Vec<CookiePair>>,
+    raw: Option<Vec<CookiePair>>,
 }
 
 impl Model for KeptValues {
@@ -54,7 +54,7 @@ impl KeptValues {
     }
 
     /// The cookies, percent-decoded.
-    pub fn decoded(&self) -> Option<&[Cookie]>
+    pub fn decoded(&self) -> Option<&[CookiePair]>
         ensures { option_copied result ≡ self.now.decoded }
     {
         match &self.computed {
@@ -64,7 +64,7 @@ impl KeptValues {
     }
 
     /// The cookies as they are.
-    pub fn raw(&self) -> Option<&[Cookie]>
+    pub fn raw(&self) -> Option<&[CookiePair]>
         ensures { option_copied result ≡ self.now.raw }
     {
         match &self.computed {
@@ -94,7 +94,7 @@ impl KeptValues {
     }
 
     /// As `keep_connection`, of the percent-decoded cookies.
-    pub fn keep_decoded(&mut self, alloc: Global, cookies: Vec<Cookie>) -> Result<(), NoMemory>
+    pub fn keep_decoded(&mut self, alloc: Global, cookies: Vec<CookiePair>) -> Result<(), NoMemory>
         ensures ok { OnOk result (self.new ≡ record self.old { decoded = Some cookies.items }) }
         ensures err { OnErr result (self.new ≡ self.old) }
     {
@@ -113,7 +113,7 @@ impl KeptValues {
     }
 
     /// As `keep_connection`, of the cookies as they are.
-    pub fn keep_raw(&mut self, alloc: Global, cookies: Vec<Cookie>) -> Result<(), NoMemory>
+    pub fn keep_raw(&mut self, alloc: Global, cookies: Vec<CookiePair>) -> Result<(), NoMemory>
         ensures ok { OnOk result (self.new ≡ record self.old { raw = Some cookies.items }) }
         ensures err { OnErr result (self.new ≡ self.old) }
     {
@@ -132,7 +132,7 @@ impl KeptValues {
     }
 }
 
-fn cookies_in(kept: &Option<Vec<Cookie>>) -> Option<&[Cookie]>
+fn cookies_in(kept: &Option<Vec<CookiePair>>) -> Option<&[CookiePair]>
     ensures { option_copied result ≡ option_map (λ cookies. cookies.items) kept.now }
 {
     match kept {

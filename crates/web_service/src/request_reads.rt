@@ -17,7 +17,7 @@ use http::{Method, Version};
 use http_header::{HeaderMap, HeaderValue};
 use http_uri::Uri;
 use std::alloc::Global;
-use web_request::cookies::{Cookie, CookieParseError};
+use web_request::cookies::{Cookie, CookiePair, CookieParseError};
 use web_request::{
     App, AppConfig, ConnectionInfo, Fail, Holds, NoMemory, Pair, RequestHead, SocketAddr,
 };
@@ -130,7 +130,7 @@ impl<A: App> ServiceRequest<A> {
     /// The cookies of the request, percent-decoded, which are kept. Returns
     /// `CookieParseError::Utf8` where a value of the header Cookie is not UTF-8 and no cookies are
     /// kept, and `NoMemory` where allocation failed; the request is then as before.
-    pub fn cookies(&mut self, alloc: Global) -> Result<&[Cookie], Fail<CookieParseError>>
+    pub fn cookies(&mut self, alloc: Global) -> Result<&[CookiePair], Fail<CookieParseError>>
         ensures value { ReturnsBy (λ cookies. cookies.now) result
             (known_cookies self.old.request) }
         ensures memory { IsSome self.old.request.kept.decoded → IsOk result }
@@ -144,7 +144,7 @@ impl<A: App> ServiceRequest<A> {
     }
 
     /// As `cookies`, with names and values as they are. The two lists are kept apart.
-    pub fn cookies_raw(&mut self, alloc: Global) -> Result<&[Cookie], Fail<CookieParseError>>
+    pub fn cookies_raw(&mut self, alloc: Global) -> Result<&[CookiePair], Fail<CookieParseError>>
         ensures value { ReturnsBy (λ cookies. cookies.now) result
             (known_raw_cookies self.old.request) }
         ensures memory { IsSome self.old.request.kept.raw → IsOk result }

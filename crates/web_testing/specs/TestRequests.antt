@@ -4,7 +4,7 @@ use Rattle.http.specs.declared.version.TheConstants.Version.{HTTP_11}
 use Rattle.http_header.specs.FieldValue.{plain_value}
 use Rattle.http_uri.specs.Grammar.{IsUriText}
 use Rattle.http_uri.specs.Uri.{SpellsNone}
-use Rattle.web_texts.specs.declared.text.Pair.{Pair}
+use Rattle.web_texts.specs.Pairs.{Pair}
 use Rattle.web_body.specs.declared.payload.Payload.TheVariants as payload
 use Rattle.web_request.specs.Head.{Head}
 use Rattle.web_request.specs.declared.address.SocketAddr.{SocketAddr}

@@ -5,7 +5,7 @@ use Rattle.std.specs.Str.{str_to_ascii_lowercase}
 use Rattle.std.specs.Char.{to_ascii_lowercase}
 use Rattle.std.proofs.lemmas.List.{append-nil}
 use Rattle.std.proofs.lemmas.Bool.Decides.{nat_tests}
-use Rattle.web_texts.specs.declared.text.Pair.{Pair}
+use Rattle.web_texts.specs.Pairs.{Pair}
 use Rattle.web_texts.specs.MediaTypes.{is_slash, is_plus, has_suffix, subtype_of, suffix_of, suffix_text, of_essence, essence_of}
 use Rattle.web_texts.proofs.LastCutLemmas.{before_last_at, after_last_at}
 use Rattle.web_texts.proofs.SplitLemmas.{cut_parts}

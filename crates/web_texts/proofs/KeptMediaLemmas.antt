@@ -16,7 +16,7 @@ use Rattle.web_texts.specs.Tokens.{is_token, is_token_byte}
 use Rattle.web_texts.specs.MediaTypes.{and_parameters, is_essence, is_slash, of_essence, essence_of}
 use Rattle.web_texts.specs.MediaTypes.{parameter, parameter_of, parameter_value, parameters_of}
 use Rattle.web_texts.specs.WrittenMediaTypes.{AreKeptParameters, IsKept, IsKeptParameter}
-use Rattle.web_texts.specs.declared.text.Pair.{Pair}
+use Rattle.web_texts.specs.Pairs.{Pair}
 use Rattle.web_texts.proofs.EssenceLemmas.{essence_back, has_slash_lowered, slash_lowered}
 use Rattle.web_texts.proofs.LastCutLemmas.{stop}
 use Rattle.web_texts.proofs.TestLemmas.{and_left, and_right, same_byte, or_true}

@@ -15,7 +15,7 @@ use Rattle.web_texts.specs.Pieces.{pieces}
 use Rattle.web_texts.specs.Tokens.{is_token, is_token_byte}
 use Rattle.web_texts.specs.MediaTypes.{is_slash, media_type_of, of_essence, parameter_of, parameters_of}
 use Rattle.web_texts.specs.WrittenMediaTypes.{AreKeptParameters, ArePlain, IsKept, IsKeptParameter, ParameterThen, unquoted}
-use Rattle.web_texts.specs.declared.text.Pair.{Pair}
+use Rattle.web_texts.specs.Pairs.{Pair}
 use Rattle.web_texts.specs.declared.parameters.Place.TheVariants.{Outside}
 use Rattle.web_texts.proofs.EssenceLemmas.{slash_back}
 use Rattle.web_texts.proofs.KeptMediaLemmas.{differs, kept_essence, token_bytes}

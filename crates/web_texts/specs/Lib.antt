@@ -12,6 +12,7 @@ pub mod MediaTypeEquality
 pub mod MediaTypeTexts
 pub mod MediaTypes
 pub mod Methods
+pub mod Pairs
 pub mod ParameterPlaces
 pub mod PieceItems
 pub mod Pieces

@@ -4,7 +4,7 @@ use Rattle.std.specs.Prelude.{if◌then◌else◌}
 use Rattle.std.specs.Str.{chars}
 use Rattle.web_texts.specs.Tokens.{is_token}
 use Rattle.web_texts.specs.MediaTypes.{MediaType, essence_of}
-use Rattle.web_texts.specs.declared.text.Pair.{Pair}
+use Rattle.web_texts.specs.Pairs.{Pair}
 
 -- a backslash stands before a double quote and before a backslash
 abbrev pub escaped : ℕ → List ℕ

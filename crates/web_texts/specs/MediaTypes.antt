@@ -14,7 +14,7 @@ use Rattle.web_texts.specs.Pieces.{pieces}
 use Rattle.web_texts.specs.QuotedText.{is_closed, unescaped}
 use Rattle.web_texts.specs.Tokens.{is_token}
 use Rattle.web_texts.specs.ParameterPlaces.{semicolons}
-use Rattle.web_texts.specs.declared.text.Pair.{Pair}
+use Rattle.web_texts.specs.Pairs.{Pair, pair_eq}
 use Rattle.web_texts.specs.declared.memory.Fail.{Fail}
 use Rattle.web_texts.specs.declared.memory.Fail.TheVariants as fail
 use Rattle.web_texts.specs.declared.parameters.Place.TheVariants.{Outside}
@@ -138,9 +138,6 @@ param_value name m = value_in name m.params
 
 abbrev pub charset_of : MediaType → Option (List ℕ)
 charset_of m = param_value (codes "charset") m
-
-abbrev pub pair_eq : Pair → Pair → Bool
-pair_eq = eq_of_both (on (λ p. p.name) bytes_eq) (on (λ p. p.value) bytes_eq)
 
 -- the same essence, and the same parameters in the same order
 abbrev pub media_type_eq : MediaType → MediaType → Bool

@@ -1,6 +1,6 @@
 -- Media types as they are kept, and their plainest spelling.
 use Rattle.std.specs.Prelude.{◌≡◌, ◌⊎◌, ℕ, true, List, [], ◌∷◌, ◌++◌, Some, ⊤}
-use Rattle.web_texts.specs.declared.text.Pair.{Pair}
+use Rattle.web_texts.specs.Pairs.{Pair}
 use Rattle.web_texts.specs.Tokens.{is_token}
 use Rattle.web_texts.specs.MediaTypes.{of_essence, parameter_of, with_parameters}
 

@@ -5,7 +5,7 @@ ghost use Rattle.std.specs.Fmt.{WritesOnOk};
 ghost use Rattle.web_texts.specs.MediaTypeTexts.{escaped};
 
 use crate::media_type::Mime;
-use crate::text::Pair;
+use crate::pair::Pair;
 use crate::tokens::is_token;
 use std::fmt;
 
@@ -79,8 +79,8 @@ impl<'a> fmt::Display for Parameter<'a> {
     ghost output = { λ p. Some (parameter_text p.0.now) };
 
     fn fmt<W: fmt::Write>(&self, f: &mut fmt::Formatter<W>) -> fmt::Result {
-        let name = self.0.name.as_str();
-        let value = self.0.value.as_str();
+        let name = self.0.name();
+        let value = self.0.value();
         if is_token(value) {
             write!(f, "; {name}={value}")
         } else {

@@ -15,10 +15,11 @@ use crate::duplicate::Duplicate;
 use crate::errors::{MimeFault, ParseError};
 use crate::items::Items;
 use crate::memory::{Fail, NoMemory};
+use crate::pair::Pair;
 use crate::parameters::{Place, read_parameters};
 use crate::pieces::first_piece;
 use crate::readers::ReadText;
-use crate::text::{Pair, Text};
+use crate::text::Text;
 use crate::tokens::{is_token, to_lowercase};
 use crate::written_media::{are_plain, behind};
 use std::alloc::Global;
@@ -183,7 +184,7 @@ impl Mime {
 fn has_name(param: &Pair, name: &str) -> bool
     ensures { result ≡ is_named name.now param.now }
 {
-    param.name.as_str().eq_ignore_ascii_case(name)
+    param.name().eq_ignore_ascii_case(name)
 }
 
 fn first_value<'a>(params: &'a [Pair], name: &str) -> Option<&'a str>
@@ -195,7 +196,7 @@ fn first_value<'a>(params: &'a [Pair], name: &str) -> Option<&'a str>
             [] => return None,
             [param, more @ ..] => {
                 if has_name(param, name) {
-                    return Some(param.value.as_str());
+                    return Some(param.value());
                 }
                 rest = more;
             }

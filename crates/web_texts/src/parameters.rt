@@ -1,6 +1,6 @@
 //! Parameters of a media type (RFC 9110, section 5.6.6).
 ghost use Rattle.std.specs.Prelude.{◌≡◌, ◌==◌, ◌-◌, ◌&&◌, length, take, drop, slice_index};
-ghost use Rattle.std.specs.Prelude.{true, false, MatchOption};
+ghost use Rattle.std.specs.Prelude.{true, false, MatchOption, IfOk};
 ghost use Rattle.web_texts.specs.TextReaders.{Reads, ReadsBy};
 ghost use Rattle.web_texts.specs.Pieces.{pieces};
 ghost use Rattle.web_texts.specs.QuotedText.{is_closed as closed_test};
@@ -10,12 +10,14 @@ ghost use Rattle.web_texts.specs.MediaTypes.{parameters_of, AddsParameter};
 ghost use Rattle.web_texts.specs.declared.parameters.Place.TheVariants as place;
 
 use crate::blanks::{trim, trim_front};
+use crate::compact::push_single;
 use crate::cut::cut_at;
 use crate::errors::MimeFault;
-use crate::memory::Fail;
+use crate::memory::{Fail, NoMemory};
+use crate::pair::Pair;
 use crate::pieces::{Mode, first_piece};
 use crate::quoted_text::{is_closed, unescape};
-use crate::text::{Pair, Text};
+use crate::text::Text;
 use crate::tokens::{in_lowercase, is_token, to_lowercase};
 use std::alloc::Global;
 
@@ -88,14 +90,15 @@ fn read_value(alloc: Global, text: &str) -> Result<Text, Fail<MimeFault>>
     }
 }
 
-fn make_parameter(name: Text, value: Text) -> Pair
-    ensures { result ≡ parameter name value }
+fn make_parameter(name: Text, value: Text) -> Result<Pair, NoMemory>
+    ensures { IfOk result (λ made. made ≡ parameter name value) }
 {
-    if name.as_str() == "charset" {
-        let value = in_lowercase(value);
-        return Pair { name, value };
-    }
-    Pair { name, value }
+    let value = if name.as_str() == "charset" {
+        in_lowercase(value)
+    } else {
+        value
+    };
+    Pair::named(name, value.as_str())
 }
 
 fn read_parameter(alloc: Global, piece: &str) -> Result<Pair, Fail<MimeFault>>
@@ -109,14 +112,14 @@ fn read_parameter(alloc: Global, piece: &str) -> Result<Pair, Fail<MimeFault>>
     }
     let name = to_lowercase(alloc, name)?;
     let value = read_value(alloc, value)?;
-    Ok(make_parameter(name, value))
+    Ok(make_parameter(name, value)?)
 }
 
 fn push_parameter(alloc: Global, params: &mut Vec<Pair>, piece: &str) -> Result<(), Fail<MimeFault>>
     ensures { AddsParameter piece.now params.old.items params.new.items result }
 {
     let param = read_parameter(alloc, piece)?;
-    params.push(param)?;
+    push_single(params, param)?;
     Ok(())
 }
 

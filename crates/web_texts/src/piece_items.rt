@@ -7,6 +7,7 @@ ghost use Rattle.web_texts.specs.PieceItems.{item_of_piece, all_items, AddsPiece
 ghost use Rattle.web_texts.specs.TextReaders.{ReadsBy};
 
 use crate::blanks::trim;
+use crate::compact::push_compact;
 use crate::cut::split_str_once;
 use crate::errors::ParseError;
 use crate::memory::{Fail, NoMemory};
@@ -27,7 +28,7 @@ fn push_readable<T: ReadText + Drop>(
         return Ok(());
     }
     match T::parse(alloc, item) {
-        Ok(value) => out.push(value)?,
+        Ok(value) => push_compact(out, value)?,
         Err(Fail::NoMemory) => return Err(NoMemory),
         Err(Fail::Of(_)) => {}
     }
@@ -88,7 +89,7 @@ fn push_piece<T: ReadText + Drop>(
         return Ok(());
     }
     let item = T::parse(alloc, piece)?;
-    out.push(item)?;
+    push_compact(out, item)?;
     Ok(())
 }
 

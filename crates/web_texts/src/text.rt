@@ -1,4 +1,4 @@
-//! Texts, and pairs of them.
+//! Texts.
 ghost use Rattle.std.specs.Prelude.{◌≡◌, string_bytes, IfOk};
 
 use crate::duplicate::Duplicate;
@@ -141,22 +141,5 @@ impl fmt::Display for Text {
 
     fn fmt<W: fmt::Write>(&self, f: &mut fmt::Formatter<W>) -> fmt::Result {
         f.write_str(self.as_str())
-    }
-}
-
-/// A name and a value, as of a parameter of a path or a field of a form.
-#[derive(Debug, Drop, PartialEq, Eq, PartialOrd, Ord, Hash)]
-pub struct Pair {
-    /// The name.
-    pub name: Text,
-    /// The value.
-    pub value: Text,
-}
-
-impl Duplicate for Pair {
-    fn duplicate(&self, alloc: Global) -> Result<Pair, NoMemory> {
-        let name = self.name.duplicate(alloc)?;
-        let value = self.value.duplicate(alloc)?;
-        Ok(Pair { name, value })
     }
 }

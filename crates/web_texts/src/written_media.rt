@@ -3,7 +3,7 @@ ghost use Rattle.std.specs.Prelude.{◌≡◌, ◌⊎◌, ◌∷◌, ◌++◌, t
 ghost use Rattle.web_texts.specs.WrittenMediaTypes.{ArePlain, ParameterThen};
 
 use crate::bytes::bytes_equal;
-use crate::text::Pair;
+use crate::pair::Pair;
 use crate::tokens::is_token;
 
 /// What stands behind this front of a text.
@@ -36,13 +36,13 @@ fn without_space(text: &[u8]) -> &[u8]
 fn behind_parameter<'a>(text: &'a [u8], param: &Pair) -> Option<&'a [u8]>
     ensures { IfSome result (λ rest. ParameterThen param.now text.now rest.now) }
 {
-    if !is_token(param.value.as_str()) {
+    if !is_token(param.value()) {
         return None;
     }
     let named = without_space(behind(text, b";")?);
-    let equals = behind(named, param.name.as_str().as_bytes())?;
+    let equals = behind(named, param.name().as_bytes())?;
     let value = behind(equals, b"=")?;
-    let rest = behind(value, param.value.as_str().as_bytes())?;
+    let rest = behind(value, param.value().as_bytes())?;
     Some(rest)
 }
 

@@ -7,7 +7,7 @@ use Rattle.serde_json.specs.Data.{Data}
 use Rattle.serde_json.specs.Written.{has_float}
 use Rattle.web_texts.specs.MediaTypes.{MediaType}
 use Rattle.web_texts.specs.declared.errors.ContentTypeError.{ContentTypeError}
-use Rattle.web_texts.specs.declared.text.Pair.{Pair}
+use Rattle.web_texts.specs.Pairs.{Pair}
 use Rattle.web_request.specs.declared.source.Mark.{Mark}
 use Rattle.web_request.specs.Head.{Head}
 use Rattle.web_request.specs.MessageFields.{mime_type_of}

@@ -2,7 +2,7 @@
 use Rattle.std.specs.Prelude.{Bool, List, Result}
 use Rattle.serde_json.specs.Data.{Data}
 use Rattle.web_texts.specs.MediaTypes.{MediaType}
-use Rattle.web_texts.specs.declared.text.Pair.{Pair}
+use Rattle.web_texts.specs.Pairs.{Pair}
 use Rattle.web_request.specs.declared.source.Mark.{Mark}
 use Rattle.web_request.specs.Head.{Head}
 use Rattle.web_request.specs.Request.{Request}

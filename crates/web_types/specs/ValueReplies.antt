@@ -1,7 +1,7 @@
 -- The responses that JSON values and forms become.
 use Rattle.std.specs.Prelude.{◌≡◌, ℕ, List, Result, Ok, Err, codes}
 use Rattle.serde_json.specs.Data.{Data}
-use Rattle.web_texts.specs.declared.text.Pair.{Pair}
+use Rattle.web_texts.specs.Pairs.{Pair}
 use Rattle.web_values.specs.declared.faults.WriteFault.{WriteFault}
 use Rattle.web_values.specs.PrintedValues.{PrintsForm, PrintsJson}
 use Rattle.web_body.specs.declared.json_error.JsonPayloadError.TheVariants as json

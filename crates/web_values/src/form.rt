@@ -6,13 +6,22 @@ use form_urlencoded::Serializer;
 use std::alloc::Global;
 use web_texts::{NoMemory, Pair, Text};
 
+/// How many pairs a form has: its parts between `&`, but for empty ones.
+fn pair_count(bytes: &[u8]) -> usize {
+    bytes
+        .split(|byte| *byte == b'&')
+        .filter(|part| !part.is_empty())
+        .count()
+}
+
 /// The names and values of a form, decoded, in their order. Bytes that are no UTF-8 are replaced by
 /// U+FFFD, and a `%` that two hexadecimal digits do not follow stands for itself; no form is
 /// refused.
 pub fn form_pairs(alloc: Global, bytes: &[u8]) -> Result<Vec<Pair>, NoMemory>
     ensures { IfOk result (λ v. v.items ≡ form_pairs bytes.now) }
 {
-    let mut pairs = Vec::new(alloc);
+    // A pair may stand for two bytes alone: so the list has no place more than it needs.
+    let mut pairs = Vec::with_capacity(alloc, pair_count(bytes))?;
     for item in form_urlencoded::parse(alloc, bytes).into_owned() {
         let (name, value) = item?;
         pairs.push(Pair {

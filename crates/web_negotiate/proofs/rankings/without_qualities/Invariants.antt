@@ -1,5 +1,5 @@
 use Rattle.std.proofs.Common.{◌≡◌, map}
 use Rattle.web_negotiate.proofs.rankings.without_qualities.Given as goal
 
-abbrev pub invariant-loop-x : goal.invariant-loop-x
-invariant-loop-x g l = l.items.items ≡ map (λ x. x.item) l.yielded
+abbrev pub invariant-loop-item : goal.invariant-loop-item
+invariant-loop-item g l = map (λ item. item.now) l.made.items ≡ map (λ item. item.now.item) l.yielded

@@ -4,4 +4,4 @@ use Rattle.demo_handler.proofs.texts.MediaTypesDisplay.fmt.Goals as goal
 
 pub returns-clause-writes : goal.returns-clause-writes
 returns-clause-writes g c =
-    rw c.as_slice.ensures.value at (c.fmt_comma_delimited.ensures media_type_text (λ x. refl))
+    rw c.as_slice.ensures.value at (c.fmt_comma_delimited.ensures (λ mime. media_type_text mime.now) (λ x. refl))

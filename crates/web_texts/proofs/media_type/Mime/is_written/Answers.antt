@@ -1,6 +1,6 @@
 use Rattle.std.proofs.Common.{ℕ, List, ◌++◌, Some, ap, subst, sym, ◌∙◌}
 use Rattle.web_texts.specs.WrittenMediaTypes.{ArePlain}
-use Rattle.web_texts.specs.declared.text.Pair.{Pair}
+use Rattle.web_texts.specs.Pairs.{Pair}
 use Rattle.web_texts.proofs.WrittenMediaLemmas.{media_written}
 use Rattle.web_texts.proofs.media_type.Mime.is_written.Goals as goal
 

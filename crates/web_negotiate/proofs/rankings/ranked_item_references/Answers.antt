@@ -1,0 +1,12 @@
+use Rattle.std.proofs.Common.{map, sym, ◌∙◌}
+use Rattle.std.specs.Borrow.{Bor}
+use Rattle.std.proofs.lemmas.Simd.{map-map}
+use Rattle.web_texts.specs.declared.quality_item.QualityItem.{QualityItem}
+use Rattle.web_negotiate.proofs.rankings.ranked_item_references.Goals as goal
+
+pub returns : goal.returns
+returns g c = record {
+  ranked = map (λ item. item.now) c.in_ok-ranked.ranked.items;
+  is_ranked = c.in_ok-ranked.ensures;
+  are = c.in_ok-ranked-2.ensures ∙ sym (map-map (λ (x : QualityItem g.row.T.Denot). x.item) (λ (r : Bor (QualityItem g.row.T.Denot)). r.now) c.in_ok-ranked.ranked.items);
+}
