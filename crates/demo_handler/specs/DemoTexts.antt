@@ -4,7 +4,7 @@ use Rattle.std.specs.Prelude.{Option, None, Some, Result, Ok, Err, unwrap_or}
 use Rattle.std.specs.Prelude.{◌-◌, take, if◌then◌else◌}
 use Rattle.std.specs.Io.BufRead.{ends_with_byte}
 use Rattle.std.specs.List.{join_by}
-use Rattle.web_cookies.specs.CookieFields.{PairFields}
+use Rattle.web_texts.specs.Pairs.{Pair}
 use Rattle.web_cookies.specs.declared.cookie_parse_error.CookieParseError.{CookieParseError}
 use Rattle.web_texts.specs.MediaTypeTexts.{media_type_text}
 use Rattle.web_request.specs.Connections.{Connection}
@@ -66,11 +66,11 @@ who_text c =
     codes "host=" ++ (c.host ++ (codes " scheme=" ++ (c.scheme ++ (codes " peer="
     ++ (text_or_dash c.peer ++ (codes " realip=" ++ text_or_dash c.client))))))
 
-abbrev pub pair_text : PairFields → List ℕ
+abbrev pub pair_text : Pair → List ℕ
 pair_text cookie = cookie.name ++ (codes "=" ++ cookie.value)
 
 -- the names and values of cookies, with spaces between
-abbrev pub cookies_text : List PairFields → List ℕ
+abbrev pub cookies_text : List Pair → List ℕ
 cookies_text cookies = join_by pair_text space cookies
 
 -- the same, where the cookies can be read

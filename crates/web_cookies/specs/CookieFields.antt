@@ -1,6 +1,7 @@
 -- A cookie as contracts see it.
 use Rattle.std.specs.Prelude.{ℕ, Bool, false, List, ◌++◌, ◌∷◌, Option, None}
 use Rattle.httpdate.specs.declared.parts.Parts.{Parts}
+use Rattle.web_texts.specs.Pairs.{Pair}
 use Rattle.httpdate.specs.declared.date.HttpDate.{HttpDate}
 use Rattle.web_cookies.specs.declared.same_site.SameSite.{SameSite}
 
@@ -34,15 +35,10 @@ plain_cookie name value = record {
   same_site = None;
 }
 
--- a cookie as a client sends it back
-pub record PairFields : Type 0 where
-  pub name : List ℕ
-  pub value : List ℕ
-
 -- the cookie of a pair, which has no attributes
-abbrev pub cookie_of_pair : PairFields → CookieFields
+abbrev pub cookie_of_pair : Pair → CookieFields
 cookie_of_pair pair = plain_cookie pair.name pair.value
 
 -- as a client sends it
-abbrev pub pair_text : PairFields → List ℕ
+abbrev pub pair_text : Pair → List ℕ
 pair_text pair = pair.name ++ 61 ∷ pair.value

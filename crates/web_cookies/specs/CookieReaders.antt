@@ -10,7 +10,8 @@ use Rattle.web_cookies.specs.declared.cookie_parse_error.CookieParseError.{Cooki
 use Rattle.web_cookies.specs.declared.cookie_parse_error.CookieParseError.TheVariants.{MissingPair}
 use Rattle.web_cookies.specs.declared.cookie_parse_error.CookieParseError.TheVariants.{EmptyName}
 use Rattle.web_cookies.specs.declared.cookie_parse_error.CookieParseError.TheVariants.{Utf8}
-use Rattle.web_cookies.specs.CookieFields.{CookieFields, PairFields, cookie_of_pair}
+use Rattle.web_texts.specs.Pairs.{Pair}
+use Rattle.web_cookies.specs.CookieFields.{CookieFields, cookie_of_pair}
 use Rattle.web_cookies.specs.Attributes.{attributes_of, with_attributes}
 
 abbrev pub utf8_text : List ℕ → Result (List ℕ) CookieParseError
@@ -22,25 +23,25 @@ decoded_text false text = Ok text
 decoded_text true text = utf8_text (percent_decode text)
 
 abbrev pub pair_of : Result (List ℕ) CookieParseError → Result (List ℕ) CookieParseError
-    → Result PairFields CookieParseError
+    → Result Pair CookieParseError
 pair_of (Ok name) (Ok value) = Ok (record { name = name; value = value })
 pair_of (Ok name) (Err error) = Err error
 pair_of (Err error) value = Err error
 
-abbrev pub named : Bool → List ℕ → List ℕ → Result PairFields CookieParseError
+abbrev pub named : Bool → List ℕ → List ℕ → Result Pair CookieParseError
 named encoded name value =
     if is_empty name then Err EmptyName
     else pair_of (decoded_text encoded name) (decoded_text encoded value)
 
-abbrev pub pair_in : Bool → Option (List ℕ × List ℕ) → Result PairFields CookieParseError
+abbrev pub pair_in : Bool → Option (List ℕ × List ℕ) → Result Pair CookieParseError
 pair_in encoded None = Err MissingPair
 pair_in encoded (Some halves) = named encoded (trimmed halves.0) (trimmed halves.1)
 
 -- what the first part says: a name and a value round its first `=`, trimmed
-abbrev pub pair_said : Bool → List ℕ → Result PairFields CookieParseError
+abbrev pub pair_said : Bool → List ℕ → Result Pair CookieParseError
 pair_said encoded part = pair_in encoded (split_once 61 part)
 
-abbrev pub said_with : (CookieFields → CookieFields) → Result PairFields CookieParseError
+abbrev pub said_with : (CookieFields → CookieFields) → Result Pair CookieParseError
     → Result CookieFields CookieParseError
 said_with f (Ok pair) = Ok (f (cookie_of_pair pair))
 said_with f (Err error) = Err error

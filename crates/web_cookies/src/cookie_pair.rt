@@ -6,60 +6,53 @@ use crate::response_cookie::Cookie;
 use std::alloc::Global;
 use std::fmt;
 use std::marker::Model;
-use web_texts::{Duplicate, NoMemory, Text};
+use web_texts::{NoMemory, Pair, Text};
 
 /// A cookie as a client sends it back (RFC 6265, section 4.2.2): a name and a value. Attributes are
 /// not sent back. So it takes a third of the memory of a `Cookie`, of which a header may have
 /// thousands.
 #[derive(Drop)]
 pub struct CookiePair {
-    name: Text,
-    value: Text,
+    pair: Pair,
 }
 
 impl Model for CookiePair {
-    ghost use Rattle.web_cookies.specs.CookieFields.{PairFields};
+    ghost use Rattle.web_texts.specs.Pairs.{Pair as NamedValue};
 
-    ghost Value = { PairFields };
+    ghost Value = { NamedValue };
 
-    ghost view = { λ p. record { name = p.name; value = p.value } };
+    ghost view = { λ cookie. cookie.pair };
 }
 
 impl CookiePair {
-    /// A pair of this name and this value.
-    pub fn new(name: Text, value: Text) -> CookiePair
-        ensures { result ≡ record { name = name; value = value } }
+    /// The cookie of a pair.
+    pub fn new(pair: Pair) -> CookiePair
+        ensures { result ≡ pair }
     {
-        CookiePair { name, value }
+        CookiePair { pair }
     }
 
     /// The name.
     pub fn name(&self) -> &str
         ensures { result.now ≡ self.now.name }
     {
-        self.name.as_str()
+        self.pair.name()
     }
 
     /// The value.
     pub fn value(&self) -> &str
         ensures { result.now ≡ self.now.value }
     {
-        self.value.as_str()
+        self.pair.value()
     }
 
-    /// The cookie with this name and value, and no attribute. It takes no memory.
-    pub fn into_cookie(self) -> Cookie
-        ensures { result ≡ cookie_of_pair self }
-    {
-        Cookie::new(self.name, self.value)
-    }
-
-    /// As `into_cookie`, of a copy.
+    /// A cookie with copies of this name and this value, and no attribute. Returns `NoMemory` where
+    /// allocation failed.
     pub fn to_cookie(&self, alloc: Global) -> Result<Cookie, NoMemory>
         ensures { IfOk result (λ cookie. cookie ≡ cookie_of_pair self.now) }
     {
-        let name = self.name.duplicate(alloc)?;
-        let value = self.value.duplicate(alloc)?;
+        let name = Text::of(alloc, self.name())?;
+        let value = Text::of(alloc, self.value())?;
         Ok(Cookie::new(name, value))
     }
 }

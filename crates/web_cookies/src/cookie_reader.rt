@@ -2,7 +2,8 @@
 ghost use Rattle.std.specs.Prelude.{◌≡◌, true, false};
 ghost use Rattle.percent_encoding.specs.Percent.{percent_decode};
 ghost use Rattle.web_cookies.specs.CookieReaders.{cookie_said, decoded_text, named};
-ghost use Rattle.web_texts.specs.Returns.{Returns};
+ghost use Rattle.std.specs.Cow.{cow_str_bytes};
+ghost use Rattle.web_texts.specs.Returns.{Returns, ReturnsBy};
 ghost use Rattle.web_cookies.specs.CookieReaders.{pair_said, utf8_text};
 
 use crate::attributes::read_attributes;
@@ -12,7 +13,8 @@ use crate::response_cookie::Cookie;
 use memchr::memchr;
 use percent_encoding::{DecodeError, percent_decode};
 use std::alloc::Global;
-use web_texts::{Fail, Text, cut_at, trim};
+use std::borrow::CowStr;
+use web_texts::{Fail, Pair, cut_at, trim};
 
 impl Cookie {
     /// Reads a cookie as a response sets it (RFC 6265, section 5.2): a name and a value with `=`
@@ -42,11 +44,11 @@ fn read_cookie(alloc: Global, text: &str, encoded: bool) -> Result<Cookie, Fail<
 {
     match cut_at(text, b';') {
         Some((pair, attributes)) => {
-            let mut cookie = read_pair(alloc, pair, encoded)?.into_cookie();
+            let mut cookie = read_pair(alloc, pair, encoded)?.to_cookie(alloc)?;
             read_attributes(alloc, &mut cookie, attributes)?;
             Ok(cookie)
         }
-        None => Ok(read_pair(alloc, text, encoded)?.into_cookie()),
+        None => Ok(read_pair(alloc, text, encoded)?.to_cookie(alloc)?),
     }
 }
 
@@ -77,28 +79,37 @@ fn named(
     }
     let name = decoded(alloc, name, encoded)?;
     let value = decoded(alloc, value, encoded)?;
-    Ok(CookiePair::new(name, value))
+    let pair = Pair::new(alloc, name.as_str(), value.as_str())?;
+    Ok(CookiePair::new(pair))
 }
 
-fn decoded(alloc: Global, text: &str, encoded: bool) -> Result<Text, Fail<CookieParseError>>
-    ensures { Returns result (decoded_text encoded text.now) }
+/// A text as it is, or percent-decoded. It is copied only where something was decoded.
+fn decoded(
+    alloc: Global,
+    text: &str,
+    encoded: bool,
+) -> Result<CowStr<'_, Global>, Fail<CookieParseError>>
+    ensures { ReturnsBy cow_str_bytes result (decoded_text encoded text.now) }
 {
     if encoded {
         percent_decoded(alloc, text)
     } else {
-        Ok(Text::of(alloc, text)?)
+        Ok(CowStr::Borrowed(text))
     }
 }
 
-fn percent_decoded(alloc: Global, text: &str) -> Result<Text, Fail<CookieParseError>>
-    ensures { Returns result (utf8_text (percent_decode text.now)) }
+fn percent_decoded(
+    alloc: Global,
+    text: &str,
+) -> Result<CowStr<'_, Global>, Fail<CookieParseError>>
+    ensures { ReturnsBy cow_str_bytes result (utf8_text (percent_decode text.now)) }
 {
     let bytes = text.as_bytes();
     if memchr(b'%', bytes).is_none() {
-        return Ok(Text::of(alloc, text)?);
+        return Ok(CowStr::Borrowed(text));
     }
     match percent_decode(bytes).decode_utf8(alloc) {
-        Ok(text) => Ok(Text::from(text.into_owned(alloc)?)),
+        Ok(text) => Ok(text),
         Err(DecodeError::Utf8(_)) => Err(Fail::Of(CookieParseError::Utf8)),
         Err(DecodeError::OutOfMemory) => Err(Fail::NoMemory),
     }

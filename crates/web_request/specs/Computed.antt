@@ -7,7 +7,7 @@ use Rattle.web_texts.specs.declared.memory.Fail.{Fail}
 use Rattle.web_texts.specs.declared.memory.Fail.TheVariants as fail
 use Rattle.web_texts.specs.declared.memory.NoMemory.{NoMemory}
 use Rattle.web_cookies.specs.declared.cookie_parse_error.CookieParseError.{CookieParseError}
-use Rattle.web_cookies.specs.CookieFields.{PairFields}
+use Rattle.web_texts.specs.Pairs.{Pair}
 use Rattle.web_request.specs.Connections.{Connection}
 use Rattle.web_request.specs.KeptValues.{with_connection, with_cookies, with_raw_cookies}
 use Rattle.web_request.specs.Request.{Record}
@@ -21,12 +21,12 @@ module _ {L D C : Type 0} where
 
   -- the cookies that were returned are kept; else all is as before
   abbrev pub KeepsCookies : Record L D C
-      → Result (Bor (List PairFields)) (Fail CookieParseError) → Record L D C → Type 0
+      → Result (Bor (List Pair)) (Fail CookieParseError) → Record L D C → Type 0
   KeepsCookies old (Ok cookies) new = new ≡ with_cookies (Ok cookies.now) old
   KeepsCookies old (Err error) new = new ≡ old
 
   abbrev pub KeepsRawCookies : Record L D C
-      → Result (Bor (List PairFields)) (Fail CookieParseError) → Record L D C → Type 0
+      → Result (Bor (List Pair)) (Fail CookieParseError) → Record L D C → Type 0
   KeepsRawCookies old (Ok cookies) new = new ≡ with_raw_cookies (Ok cookies.now) old
   KeepsRawCookies old (Err error) new = new ≡ old
 

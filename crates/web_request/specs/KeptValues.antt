@@ -7,7 +7,8 @@ use Rattle.std.specs.Str.{bytes_eq}
 use Rattle.http_header.specs.FieldValue.{FieldValue}
 use Rattle.http_header.specs.HeaderMap.{get_all}
 use Rattle.web_cookies.specs.declared.cookie_parse_error.CookieParseError.{CookieParseError}
-use Rattle.web_cookies.specs.CookieFields.{CookieFields, PairFields, cookie_of_pair}
+use Rattle.web_texts.specs.Pairs.{Pair}
+use Rattle.web_cookies.specs.CookieFields.{CookieFields, cookie_of_pair}
 use Rattle.web_cookies.specs.HeaderCookies.{cookies_said}
 use Rattle.web_request.specs.declared.kept_values.ComputedValues.{ComputedValues}
 use Rattle.web_request.specs.Connections.{Connection, connection_of}
@@ -22,14 +23,14 @@ kept_view (Some computed) = record {
 }
 
 abbrev pub CookiesSaid : Type 0
-CookiesSaid = Result (List PairFields) CookieParseError
+CookiesSaid = Result (List Pair) CookieParseError
 
 -- what is kept, else what is said now
-abbrev pub kept_or_said : Option (List PairFields) → CookiesSaid → CookiesSaid
+abbrev pub kept_or_said : Option (List Pair) → CookiesSaid → CookiesSaid
 kept_or_said None said = said
 kept_or_said (Some kept) said = Ok kept
 
-abbrev pub some_said : CookiesSaid → Result (Option (List PairFields)) CookieParseError
+abbrev pub some_said : CookiesSaid → Result (Option (List Pair)) CookieParseError
 some_said (Ok cookies) = Ok (Some cookies)
 some_said (Err error) = Err error
 

@@ -2,7 +2,6 @@
 use Rattle.std.specs.Prelude.{ℕ, List, Option, None}
 use Rattle.web_texts.specs.Pairs.{Pair}
 use Rattle.web_request.specs.declared.config.AppConfig.{AppConfig}
-use Rattle.web_cookies.specs.CookieFields.{PairFields}
 use Rattle.web_request.specs.Connections.{Connection}
 use Rattle.web_request.specs.Head.{Head}
 
@@ -28,9 +27,9 @@ pub record Parts (L D C : Type 0) : Type 0 where
 pub record Kept : Type 0 where
   pub connection : Option Connection
   -- the cookies of the header Cookie, percent-decoded
-  pub decoded : Option (List PairFields)
+  pub decoded : Option (List Pair)
   -- those cookies as they are
-  pub raw : Option (List PairFields)
+  pub raw : Option (List Pair)
 
 abbrev pub nothing_kept : Kept
 nothing_kept = record { connection = None; decoded = None; raw = None }
