@@ -98,10 +98,7 @@ fn decoded(
     }
 }
 
-fn percent_decoded(
-    alloc: Global,
-    text: &str,
-) -> Result<CowStr<'_, Global>, Fail<CookieParseError>>
+fn percent_decoded(alloc: Global, text: &str) -> Result<CowStr<'_, Global>, Fail<CookieParseError>>
     ensures { ReturnsBy cow_str_bytes result (utf8_text (percent_decode text.now)) }
 {
     let bytes = text.as_bytes();

@@ -37,9 +37,9 @@ fn push_param(out: &mut String, pair: &Pair) -> Result<(), NoMemory>
     ensures { OnOk result (string_bytes out.new ≡ string_bytes out.old ++ param_line pair.now) }
 {
     out.push_str("  params: ")?;
-    out.push_str(pair.name.as_str())?;
+    out.push_str(pair.name())?;
     out.push_str("=")?;
-    out.push_str(pair.value.as_str())?;
+    out.push_str(pair.value())?;
     Ok(out.push_str("\n")?)
 }
 
