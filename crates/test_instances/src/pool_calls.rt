@@ -1,48 +1,13 @@
 //! Calls of a pool that keeps one record.
-use http::{Method, Version};
-use http_header::HeaderMap;
-use http_uri::Uri;
+use crate::requests::{parts, pool};
 use std::alloc::Global;
 use std::process::Abort;
-use std::rc::Rc;
 use web_body::Marks;
 use web_cutting::{PoolCall, make_calls};
-use web_request::{
-    App, AppConfig, HttpRequest, HttpRequestPool, IpAddr, NoData, PlainApp, RequestHead,
-    RequestParts, SocketAddr,
-};
-use web_texts::Text;
+use web_request::{App, HttpRequest, HttpRequestPool, NoData, PlainApp, RequestParts};
 
-/// A pool that keeps one record.
-fn pool_of_one(rt: &impl Abort, alloc: Global) -> HttpRequestPool<PlainApp<Marks>> {
-    let root = Rc::new(alloc, NoData).expect(rt, "memory");
-    let config = AppConfig {
-        host: Text::of(alloc, "localhost:8080").expect(rt, "memory"),
-        secure: false,
-        local_addr: SocketAddr {
-            ip: IpAddr::V4([127, 0, 0, 1]),
-            port: 8080,
-        },
-    };
-    HttpRequestPool::with_capacity(alloc, root, config, 1).expect(rt, "memory")
-}
-
-/// A start of a request without parameters, layers and data.
 fn start<A: App>(rt: &impl Abort, alloc: Global) -> PoolCall<RequestParts<A>> {
-    let head = RequestHead {
-        uri: Uri::from_static("/").expect(rt, "a target"),
-        method: Method::GET,
-        version: Version::HTTP_11,
-        headers: HeaderMap::new(alloc),
-        peer_addr: None,
-    };
-    PoolCall::Start(RequestParts {
-        head,
-        params: Vec::new(alloc),
-        layers: Vec::new(alloc),
-        conn: None,
-        local: None,
-    })
+    PoolCall::Start(parts(rt, alloc))
 }
 
 /// Makes the calls, and compares the numbers that the pool keeps, how many it made, and the numbers
@@ -69,7 +34,8 @@ fn assert_after<A: App>(
 #[test]
 fn records_are_kept_used_again_and_dropped(rt: HostRuntime) {
     let alloc = rt.alloc();
-    let (mut pool, mut held) = (pool_of_one(&rt, alloc), Vec::new(alloc));
+    let mut pool = pool::<PlainApp<Marks>>(&rt, alloc, NoData, 1);
+    let mut held = Vec::new(alloc);
     // One of two records is kept, and is used again.
     let calls = vec![in alloc;
         start(&rt, alloc),

@@ -188,7 +188,7 @@ fn labelled(rt: &impl Abort, alloc: Global, label: u64, log: &Log) -> Exchange<L
         left: 1,
     };
     let params = vec![in alloc; pair].expect(rt, "memory");
-    exchange(alloc, head(rt, alloc, "/"), params, Payload::Stream(source))
+    exchange(alloc, head(rt, alloc), params, Payload::Stream(source))
 }
 
 /// Exchange 0 with the label 1, and exchange 1 with the label 2.
