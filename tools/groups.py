@@ -44,9 +44,23 @@ def names():
     return [*folders(), *proved_crates(), PAGES]
 
 
+def stands_apart(name):
+    """Whether a group cannot be a part of another crate: a program whose specs name its own modules."""
+    return name in toolchain.program_crates() and bool(repository.sources(name, ["specs"]))
+
+
 def text_of(path):
     with open(path, encoding="utf-8") as opened:
         return opened.read()
+
+
+def module(path):
+    """The name of the module that a test is."""
+    return os.path.basename(path).removesuffix(".rs")
+
+
+def declaration(path):
+    return f"#[cfg(test)]\nmod {module(path)};\n"
 
 
 def without_root(text):
@@ -84,12 +98,19 @@ def modules_of(name):
     found = {f"{name}.rt": ""} if name not in repository.crates() else {}
     if name in proved_crates() or name in toolchain.program_crates():
         found.update(crate_modules(name))
-    folder = folders().get(name)
-    for path in files(folder) if folder else []:
-        module = os.path.basename(path).removesuffix(".rs")
-        found[f"{name}.rt"] = found.get(f"{name}.rt", "") + f"#[cfg(test)]\nmod {module};\n"
-        found[f"{name}/{module}.rt"] = text_of(path)
+    for path in files(folders()[name]) if name in folders() else []:
+        found[f"{name}.rt"] += declaration(path)
+        found[f"{name}/{module(path)}.rt"] = text_of(path)
     return {path: re.sub(r"\bcrate::", f"crate::{name}::", text) for path, text in found.items()}
+
+
+def parts(count):
+    """All groups in as many parts, which can be compiled beside each other: each in the smallest part, the largest first."""
+    sizes = {name: sum(map(len, modules_of(name).values())) for name in names()}
+    found = [[] for _ in range(count)]
+    for name in sorted(sizes, key=sizes.get, reverse=True):
+        min(found, key=lambda part: sum(sizes[it] for it in part)).append(name)
+    return found
 
 
 def libraries_in(texts):

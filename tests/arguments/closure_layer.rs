@@ -1,5 +1,4 @@
 //! A layer whose handlers and predicate are closures.
-ghost use Rattle.std.specs.Prelude.{IfSome};
 ghost use Rattle.web_extract.specs.LayerConfigurations.{IsUsableForm, IsUsableJson};
 
 use web_body::{JsonPayloadError, UrlencodedError};

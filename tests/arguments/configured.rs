@@ -1,6 +1,4 @@
 //! JSON values and forms under a layer whose handlers and predicate are closures.
-ghost use Rattle.web_extract.specs.LayerConfigurations.{IsUsableForm, IsUsableJson};
-
 use crate::closure_layer::ClosureLayer;
 use crate::item::Item;
 use crate::outcomes::assert_first;
@@ -34,11 +32,7 @@ struct Row {
 fn json_config<
     F: Fn(JsonPayloadError, &RequestHead) -> Result<Error, NoMemory> + Drop,
     P: Fn(&Mime) -> bool + Drop,
->(row: &Row, on_json: F, json_type: P) -> JsonConfig<ByFn<F>, ByFn<P>>
-    requires json { F.IsAlwaysCallable on_json }
-    requires json_type { P.IsAlwaysCallable json_type }
-    ensures { IsUsableJson (λ h. F.IsAlwaysCallable h.0) (λ p. P.IsAlwaysCallable p.0) result }
-{
+>(row: &Row, on_json: F, json_type: P) -> JsonConfig<ByFn<F>, ByFn<P>> {
     let config: JsonConfig<ByFn<F>, ByFn<P>> = JsonConfig::new();
     let config = config
         .limit(row.limit)
@@ -55,10 +49,7 @@ fn json_config<
 fn form_config<G: Fn(UrlencodedError, &RequestHead) -> Result<Error, NoMemory> + Drop>(
     row: &Row,
     on_form: G,
-) -> FormConfig<ByFn<G>>
-    requires { G.IsAlwaysCallable on_form }
-    ensures { IsUsableForm (λ h. G.IsAlwaysCallable h.0) result }
-{
+) -> FormConfig<ByFn<G>> {
     let config: FormConfig<ByFn<G>> = FormConfig::new();
     let config = config.limit(row.limit);
     if row.handles {
@@ -69,9 +60,7 @@ fn form_config<G: Fn(UrlencodedError, &RequestHead) -> Result<Error, NoMemory> +
 }
 
 /// Compares what comes of a row's request under a layer.
-fn assert_layer<L: Configs>(rt: &impl Abort, alloc: Global, layer: L, row: &Row)
-    requires { L.ready layer }
-{
+fn assert_layer<L: Configs>(rt: &impl Abort, alloc: Global, layer: L, row: &Row) {
     let request = body_request(rt, alloc, layer, [row.content_type, row.content_length]);
     assert_first::<Site<L>, Json<Item>>(rt, alloc, &request, row.body, row.json);
     assert_first::<Site<L>, Form<Item>>(rt, alloc, &request, row.body, row.form);
@@ -176,11 +165,7 @@ fn assert_closures<
     F: Fn(JsonPayloadError, &RequestHead) -> Result<Error, NoMemory> + Drop,
     G: Fn(UrlencodedError, &RequestHead) -> Result<Error, NoMemory> + Drop,
     P: Fn(&Mime) -> bool + Drop,
->(rt: &impl Abort, alloc: Global, on_json: F, on_form: G, json_type: P, row: &Row)
-    requires json { F.IsAlwaysCallable on_json }
-    requires form { G.IsAlwaysCallable on_form }
-    requires json_type { P.IsAlwaysCallable json_type }
-{
+>(rt: &impl Abort, alloc: Global, on_json: F, on_form: G, json_type: P, row: &Row) {
     let json = json_config(row, on_json, json_type);
     let form = form_config(row, on_form);
     assert_layer(rt, alloc, ClosureLayer { json, form }, row);

@@ -119,9 +119,7 @@ pub(crate) fn started<L: AppLayer>(
     alloc: Global,
     root: L,
     parts: RequestParts<Site<L>>,
-) -> HttpRequest<Site<L>>
-    requires { L.ready root }
-{
+) -> HttpRequest<Site<L>> {
     let root = Rc::new(alloc, root).expect(rt, "memory");
     let mut pool = HttpRequestPool::with_capacity(alloc, root, config(rt, alloc), 0).expect(
         rt, "memory",
@@ -136,9 +134,7 @@ pub(crate) fn new_request<L: AppLayer>(
     alloc: Global,
     root: L,
     head: RequestHead,
-) -> HttpRequest<Site<L>>
-    requires { L.ready root }
-{
+) -> HttpRequest<Site<L>> {
     let parts = RequestParts {
         head,
         params: Vec::new(alloc),
@@ -155,9 +151,7 @@ pub(crate) fn body_request<L: AppLayer>(
     alloc: Global,
     root: L,
     fields: [Option<&[u8]>; 2],
-) -> HttpRequest<Site<L>>
-    requires { L.ready root }
-{
+) -> HttpRequest<Site<L>> {
     let mut head = head(rt, alloc, "/");
     add_some(rt, alloc, &mut head, CONTENT_TYPE, fields[0]);
     add_some(rt, alloc, &mut head, CONTENT_LENGTH, fields[1]);

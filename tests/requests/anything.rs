@@ -1,6 +1,4 @@
 //! A value that is read from every body, and what a poll gives.
-ghost use Rattle.std.specs.Prelude.{◌≡◌, false};
-
 use serde_json::Value;
 use std::alloc::Global;
 use std::fmt::Display;
@@ -38,9 +36,7 @@ pub(crate) fn first_text<E: Display + Drop, P: Poll<Output = Result<Anything, E>
     rt: &impl Abort,
     alloc: Global,
     body: P,
-) -> String
-    requires { P.is_finished body ≡ false }
-{
+) -> String {
     let mut body = body;
     match body.poll(alloc) {
         Step::Ready(Ok(_)) => String::from_str(alloc, "read").expect(rt, "memory"),

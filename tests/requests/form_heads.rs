@@ -1,6 +1,4 @@
 //! Heads of forms.
-ghost use Rattle.std.specs.Prelude.{◌≡◌, [], false};
-
 use crate::anything::{Anything, assert_text, first_text};
 use crate::requests::body_request;
 use bytes::Bytes;
@@ -129,12 +127,7 @@ const HEADS: &[HeadRow] = &[
 ];
 
 /// Sets a limit, if any.
-fn limited(body: UrlEncoded<Anything, Marks>, limit: Option<usize>) -> UrlEncoded<Anything, Marks>
-    requires empty { body.decoding.body.held ≡ [] }
-    requires unfinished { body.decoding.is_finished ≡ false }
-    ensures empty { result.decoding.body.held ≡ [] }
-    ensures unfinished { result.decoding.is_finished ≡ false }
-{
+fn limited(body: UrlEncoded<Anything, Marks>, limit: Option<usize>) -> UrlEncoded<Anything, Marks> {
     match limit {
         Some(limit) => body.limit(limit),
         None => body,

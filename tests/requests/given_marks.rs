@@ -76,9 +76,7 @@ impl Source for GivenMarks {
 
 /// How many bytes were given with this piece. There is no number behind an empty one, or where they
 /// are too many.
-fn total(given: u32, piece: &[u8]) -> Option<u32>
-    ensures { IfSome result (λ sum. (sum ≡ given + length piece.now) × (0 < length piece.now)) }
-{
+fn total(given: u32, piece: &[u8]) -> Option<u32> {
     if piece.is_empty() {
         return None;
     }

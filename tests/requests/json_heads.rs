@@ -69,12 +69,7 @@ impl AllowType for Never {
 }
 
 /// Sets a limit, if any.
-fn limited(body: JsonBody<Anything, Marks>, limit: Option<usize>) -> JsonBody<Anything, Marks>
-    requires empty { body.decoding.body.held ≡ [] }
-    requires unfinished { body.decoding.is_finished ≡ false }
-    ensures empty { result.decoding.body.held ≡ [] }
-    ensures unfinished { result.decoding.is_finished ≡ false }
-{
+fn limited(body: JsonBody<Anything, Marks>, limit: Option<usize>) -> JsonBody<Anything, Marks> {
     match limit {
         Some(limit) => body.limit(limit),
         None => body,

@@ -86,9 +86,7 @@ pub(crate) fn started<A: App>(
     alloc: Global,
     root: Rc<A::Layer>,
     parts: RequestParts<A>,
-) -> HttpRequest<A>
-    requires { A.Layer.ready root.value }
-{
+) -> HttpRequest<A> {
     let mut pool = HttpRequestPool::with_capacity(alloc, root, config(rt, alloc), 0).expect(
         rt, "memory",
     );

@@ -111,9 +111,7 @@ fn are_read<A: App, T: FromRequest<A>, U: FromRequest<A>>(
     rt: &impl Abort,
     alloc: Global,
     root: A::Layer,
-) -> (bool, bool)
-    requires { A.Layer.ready root }
-{
+) -> (bool, bool) {
     let request = request::<A>(rt, alloc, root);
     (
         is_read::<A, T>(rt, alloc, &request),

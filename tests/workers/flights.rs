@@ -1,6 +1,4 @@
 //! Flights that are polled one by one, and in rounds.
-ghost use Rattle.std.specs.Prelude.{◌≡◌};
-
 use crate::compare::assert_same;
 use crate::replies::write_outcome;
 use crate::requests::worker;
@@ -42,7 +40,6 @@ fn write_flight<A: App, Args: FromRequest<A>, H: Handler<Args>>(
 }
 
 /// Polls one flight, and adds what is seen of it then.
-#[tactic(auto, using(example_handlers::proofs::FlightLemmas::may_make_most))]
 fn poll<A: App, Args: FromRequest<A>, H: Handler<Args>>(
     rt: &impl Abort,
     alloc: Global,
@@ -54,8 +51,6 @@ fn poll<A: App, Args: FromRequest<A>, H: Handler<Args>>(
 )
 where
     H::Output: Responder<A>,
-    requires { H.ready handler.old }
-    ensures { H.ready handler.new }
 {
     assert!(rt; worker.pool().made() < 9);
     poll_one(alloc, worker, handler, flights, place);
@@ -73,7 +68,6 @@ fn polled<A: App, Args: FromRequest<A>, H: Handler<Args> + Drop>(
 ) -> String
 where
     H::Output: Responder<A>,
-    requires { H.ready handler }
 {
     let mut lines = String::new(alloc);
     let mut flights = flights::<A, Args, H>(rt, alloc, exchanges);
@@ -124,7 +118,6 @@ fn polled_in_rounds<A: App, Args: FromRequest<A>, H: Handler<Args> + Drop>(
 ) -> String
 where
     H::Output: Responder<A>,
-    requires { H.ready handler }
 {
     let mut flights = flights::<A, Args, H>(rt, alloc, exchanges);
     let once = poll_rounds(alloc, &mut worker, &mut handler, &mut flights, 1);

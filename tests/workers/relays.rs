@@ -1,6 +1,4 @@
 //! Bodies that are handed on unread.
-ghost use Rattle.std.specs.Prelude.{◌<◌, length};
-
 use crate::compare::assert_same;
 use crate::replies::text_of;
 use crate::requests::{exchange, head, hello, worker};
@@ -53,9 +51,7 @@ fn row_head(rt: &impl Abort, alloc: Global, row: &Row) -> RequestHead {
 }
 
 /// An exchange of each row.
-fn exchanges<A: App<Source = Marks>>(rt: &impl Abort, alloc: Global) -> Vec<Exchange<A>>
-    ensures { length result.items < 9 }
-{
+fn exchanges<A: App<Source = Marks>>(rt: &impl Abort, alloc: Global) -> Vec<Exchange<A>> {
     let mut exchanges = Vec::new(alloc);
     for row in ROWS {
         let head = row_head(rt, alloc, row);
@@ -118,9 +114,7 @@ fn write_relayed<A: App>(rt: &impl Abort, lines: &mut String, outcome: Outcome<A
 }
 
 /// Serves the exchanges of the rows by the handler of a proxy.
-fn relayed<A: App<Source = Marks>>(rt: &impl Abort, alloc: Global, root: A::Layer) -> String
-    requires { A.Layer.ready root }
-{
+fn relayed<A: App<Source = Marks>>(rt: &impl Abort, alloc: Global, root: A::Layer) -> String {
     let mut worker = worker::<A>(rt, alloc, root);
     let exchanges = exchanges::<A>(rt, alloc);
     let outcomes = serve_relay(alloc, &mut worker, exchanges, &[0, 1, 2, 3]);

@@ -1,7 +1,5 @@
 //! Requests, exchanges and workers of any application. Each function makes one value, which the
 //! tests hand on.
-ghost use Rattle.std.specs.Prelude.{◌≡◌, []};
-
 use bytes::Bytes;
 use http::{Method, Version};
 use http_header::HeaderMap;
@@ -28,9 +26,7 @@ fn config(rt: &impl Abort, alloc: Global) -> AppConfig {
 }
 
 /// The head of a POST request for this target, without headers.
-pub(crate) fn head(rt: &impl Abort, alloc: Global, target: &'static str) -> RequestHead
-    ensures { result.headers ≡ [] }
-{
+pub(crate) fn head(rt: &impl Abort, alloc: Global, target: &'static str) -> RequestHead {
     RequestHead {
         uri: Uri::from_static(target).expect(rt, "a target"),
         method: Method::POST,
@@ -41,9 +37,7 @@ pub(crate) fn head(rt: &impl Abort, alloc: Global, target: &'static str) -> Requ
 }
 
 /// A request for `/bytes` under this root layer, of a pool of its own.
-pub(crate) fn request<A: App>(rt: &impl Abort, alloc: Global, root: A::Layer) -> HttpRequest<A>
-    requires { A.Layer.ready root }
-{
+pub(crate) fn request<A: App>(rt: &impl Abort, alloc: Global, root: A::Layer) -> HttpRequest<A> {
     let parts = RequestParts {
         head: head(rt, alloc, "/bytes"),
         params: Vec::new(alloc),
@@ -77,10 +71,7 @@ pub(crate) fn exchange<A: App>(
 }
 
 /// A worker with this root layer that made no record yet.
-pub(crate) fn worker<A: App>(rt: &impl Abort, alloc: Global, root: A::Layer) -> Worker<A>
-    requires { A.Layer.ready root }
-    ensures { result.made ≡ 0 }
-{
+pub(crate) fn worker<A: App>(rt: &impl Abort, alloc: Global, root: A::Layer) -> Worker<A> {
     let root = Rc::new(alloc, root).expect(rt, "memory");
     Worker::new(alloc, root, config(rt, alloc), 0).expect(rt, "memory")
 }

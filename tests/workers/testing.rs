@@ -42,9 +42,6 @@ fn reply_text<A: App, Args: FromRequest<A>, H: Handler<Args>>(
 ) -> String
 where
     H::Output: Responder<A>,
-    requires root { A.Layer.ready root }
-    requires ready { H.ready handler.old }
-    ensures { H.ready handler.new }
 {
     let outcome = serve_request::<A, Args, H>(alloc, root, exchange, handler).expect(rt, "memory");
     let reply = match TestReply::of(alloc, outcome) {
@@ -82,9 +79,6 @@ fn reply_to_pieces<A: App<Source = Marks>, Args: FromRequest<A>, H: Handler<Args
 ) -> String
 where
     H::Output: Responder<A>,
-    requires root { A.Layer.ready root }
-    requires ready { H.ready handler.old }
-    ensures { H.ready handler.new }
 {
     let request = TestRequest::post(alloc, "/bytes").header("Content-Type", "text/x-hello");
     let exchange = exchange_in_pieces::<A>(rt, alloc, request);

@@ -1,6 +1,4 @@
 //! Workers that serve exchanges by a plan, with each handler of the examples.
-ghost use Rattle.std.specs.Prelude.{◌≡◌, ◌<◌, length};
-
 use crate::compare::assert_same;
 use crate::replies::{lines, lines_of, text_of};
 use crate::requests::{exchange, failing, head, hello, worker};
@@ -14,9 +12,10 @@ use web_request::{App, NoData};
 use web_worker::{Exchange, Worker};
 
 /// `hello` with a stall, `ab` with a stall and a fault, a whole body, and `hello` once more.
-pub(crate) fn exchanges<A: App<Source = Marks>>(rt: &impl Abort, alloc: Global) -> Vec<Exchange<A>>
-    ensures { length result.items < 9 }
-{
+pub(crate) fn exchanges<A: App<Source = Marks>>(
+    rt: &impl Abort,
+    alloc: Global,
+) -> Vec<Exchange<A>> {
     let bodies = [
         hello(rt, alloc),
         failing(rt, alloc),
@@ -56,7 +55,6 @@ fn write_calls(rt: &impl Abort, lines: &mut String, echo: &Echo) {
 fn served_by_echo<A: App<Source = Marks>>(rt: &impl Abort, alloc: Global, root: A::Layer) -> String
 where
     A::Layer: Configs,
-    requires { A.Layer.ready root }
 {
     let mut echo = Echo::new(alloc);
     let mut worker = worker::<A>(rt, alloc, root);
@@ -73,9 +71,7 @@ fn served_by_greeter<A: App<Source = Marks>>(
     rt: &impl Abort,
     alloc: Global,
     root: A::Layer,
-) -> String
-    requires { A.Layer.ready root }
-{
+) -> String {
     let mut worker = worker::<A>(rt, alloc, root);
     let exchanges = exchanges::<A>(rt, alloc);
     lines_of(
