@@ -52,6 +52,7 @@ lint:
 
 fmt:
 	@for crate in crates/*; do (cd $$crate && rt fmt) || exit 1; done
+	@tools/format-tests
 
 wrong-bodies:
 	@tools/try-wrong-bodies $(CRATE)

@@ -9,8 +9,6 @@ mod handler;
 mod item;
 mod layer;
 mod order;
-#[cfg(test)]
-mod tests;
 
 use crate::error::replied;
 use crate::handler::{Answer, OrderArguments, Reply, take_order};

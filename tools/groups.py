@@ -1,0 +1,121 @@
+"""The groups of tests that are run and not proved, and how they become modules of one crate.
+
+A group is a folder of tests/, or the folder tests/ of a crate, by the crate's name. Each of its files is a module, which
+sees the others by `crate::`. The tests of a program stand among its own modules, and see these so too. A library whose
+name begins with `test_` is a group as well, though it is proved, and `pages` are the examples that stand in pages alone."""
+import os
+import re
+
+import pages
+import repository
+import toolchain
+
+PAGES = "pages"
+# An attribute of the root of a crate, or its page.
+OF_ROOT = ("#![", "//!")
+
+
+def folders():
+    """The folder of each group whose tests stand in files `.rs`."""
+    top = os.path.join(repository.TOP, "tests")
+    found = {it: os.path.join(top, it) for it in sorted(os.listdir(top)) if os.path.isdir(os.path.join(top, it))}
+    for crate in repository.crates():
+        folder = os.path.join(repository.TOP, "crates", crate, "tests")
+        if os.path.isdir(folder):
+            found[crate] = folder
+    return found
+
+
+def files(folder):
+    """The paths of the tests in the folder of a group, sorted."""
+    return [os.path.join(folder, it) for it in sorted(os.listdir(folder)) if it.endswith(".rs")]
+
+
+def all_files():
+    return [path for folder in folders().values() for path in files(folder)]
+
+
+def proved_crates():
+    """The libraries that are there for their tests."""
+    return [it for it in repository.crates() if it.startswith("test_") and it not in toolchain.program_crates()]
+
+
+def names():
+    return [*folders(), *proved_crates(), PAGES]
+
+
+def stands_apart(name):
+    """Whether a group cannot be a part of another crate: a program whose specs name its own modules."""
+    return name in toolchain.program_crates() and bool(repository.sources(name, ["specs"]))
+
+
+def text_of(path):
+    with open(path, encoding="utf-8") as opened:
+        return opened.read()
+
+
+def module(path):
+    """The name of the module that a test is."""
+    return os.path.basename(path).removesuffix(".rs")
+
+
+def declaration(path):
+    return f"#[cfg(test)]\nmod {module(path)};\n"
+
+
+def without_root(text):
+    return "".join(line for line in text.splitlines(True) if not line.startswith(OF_ROOT))
+
+
+def crate_modules(crate):
+    """The sources of a crate as modules below one that has its name."""
+    top = os.path.join(repository.TOP, "crates", crate, "src")
+    modules = {}
+    for path in repository.sources(crate, ["src"], (".rt",)):
+        inside = os.path.relpath(path, top)
+        is_root = inside in ("lib.rt", "main.rt")
+        text = text_of(path)
+        modules[f"{crate}.rt" if is_root else f"{crate}/{inside}"] = without_root(text) if is_root else text
+    return modules
+
+
+def page_modules():
+    """The examples of each page as a module."""
+    modules = {f"{PAGES}.rt": ""}
+    for page in pages.documents():
+        source, _ = pages.example(page)
+        if source:
+            name = re.sub(r"\W", "_", os.path.basename(page).removesuffix(".md").lower())
+            modules[f"{PAGES}.rt"] += f"mod {name};\n"
+            modules[f"{PAGES}/{name}.rt"] = source
+    return modules
+
+
+def modules_of(name):
+    """The texts of a group's modules, by their paths below the `src` of the crate that they become a part of."""
+    if name == PAGES:
+        return page_modules()
+    found = {f"{name}.rt": ""} if name not in repository.crates() else {}
+    if name in proved_crates() or name in toolchain.program_crates():
+        found.update(crate_modules(name))
+    for path in files(folders()[name]) if name in folders() else []:
+        found[f"{name}.rt"] += declaration(path)
+        found[f"{name}/{module(path)}.rt"] = text_of(path)
+    return {path: re.sub(r"\bcrate::", f"crate::{name}::", text) for path, text in found.items()}
+
+
+def parts(count):
+    """All groups in as many parts, which can be compiled beside each other: each in the smallest part, the largest first."""
+    sizes = {name: sum(map(len, modules_of(name).values())) for name in names()}
+    found = [[] for _ in range(count)]
+    for name in sorted(sizes, key=sizes.get, reverse=True):
+        min(found, key=lambda part: sum(sizes[it] for it in part)).append(name)
+    return found
+
+
+def libraries_in(texts):
+    """The libraries that these sources name, with all that these are listed with."""
+    listed = repository.listed_crates()
+    known = set(listed).union(*listed.values()) - {*proved_crates(), *toolchain.program_crates()}
+    named = {it for text in texts for it in re.findall(r"\b([a-z]\w*)(?:::|\.specs\b)", text)} & known
+    return sorted(named.union(*(listed[it] for it in named if it in listed)))
