@@ -69,11 +69,11 @@ fn one_value<'a>(
 ) -> Result<&'a str, Fail<ReadFault>> {
     let mut found: Option<&'a str> = None;
     for pair in pairs {
-        if pair.name.as_str() == name {
+        if pair.name() == name {
             if found.is_some() {
                 return Err(ReadFault::refusal(alloc, twice));
             }
-            found = Some(pair.value.as_str());
+            found = Some(pair.value());
         }
     }
     match found {
@@ -111,11 +111,8 @@ impl WriteJson for Item {
 }
 
 /// A name with a value.
-fn pair(alloc: Global, name: &str, value: Text) -> Result<Pair, Fail<WriteFault>> {
-    Ok(Pair {
-        name: Text::of(alloc, name)?,
-        value,
-    })
+fn pair(alloc: Global, name: &str, value: &str) -> Result<Pair, Fail<WriteFault>> {
+    Ok(Pair::new(alloc, name, value)?)
 }
 
 impl WritePairs for Item {
@@ -124,8 +121,8 @@ impl WritePairs for Item {
     ghost writes_pairs = { λ n x. ⊤ };
 
     fn write_pairs(&self, alloc: Global) -> Result<Vec<Pair>, Fail<WriteFault>> {
-        let name = pair(alloc, "name", Text::of(alloc, self.name.as_str())?)?;
-        let n = pair(alloc, "n", Text::from(self.n.to_string(alloc)?))?;
+        let name = pair(alloc, "name", self.name.as_str())?;
+        let n = pair(alloc, "n", &self.n.to_string(alloc)?)?;
         Ok(vec![in alloc; name, n]?)
     }
 }

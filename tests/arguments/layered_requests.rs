@@ -6,7 +6,7 @@ use std::process::Abort;
 use std::rc::Rc;
 use web_decoders::{PathConfig, QueryConfig};
 use web_extract::{Configs, LayerConfigs, NoHandler, NoType};
-use web_request::{AppLayer, Data, Holds, HttpRequest, Pair, RequestParts, Text};
+use web_request::{AppLayer, Data, Holds, HttpRequest, Pair, RequestParts};
 
 /// A layer with a number and handlers of refused paths and queries.
 #[derive(Drop)]
@@ -88,10 +88,7 @@ pub(crate) const fn targeted(target: &'static str) -> Parts {
 fn pairs(rt: &impl Abort, alloc: Global, params: &[(&str, &str)]) -> Vec<Pair> {
     let mut pairs = Vec::new(alloc);
     for (name, value) in params {
-        let pair = Pair {
-            name: Text::of(alloc, name).expect(rt, "memory"),
-            value: Text::of(alloc, value).expect(rt, "memory"),
-        };
+        let pair = Pair::new(alloc, name, value).expect(rt, "memory");
         pairs.push(pair).ok().expect(rt, "memory");
     }
     pairs

@@ -74,10 +74,7 @@ pub(crate) fn head_of(
 }
 
 pub(crate) fn pair(rt: &impl Abort, alloc: Global, pair: &(&str, &str)) -> Pair {
-    Pair {
-        name: Text::of(alloc, pair.0).expect(rt, "memory"),
-        value: Text::of(alloc, pair.1).expect(rt, "memory"),
-    }
+    Pair::new(alloc, pair.0, pair.1).expect(rt, "memory")
 }
 
 /// A request of these parts under this root layer, of a pool of its own.

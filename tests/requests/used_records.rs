@@ -8,7 +8,6 @@ use std::rc::Rc;
 use web_body::Marks;
 use web_request::{
     App, AppLayer, Duplicate, Holds, HttpRequest, HttpRequestPool, NoMemory, Pair, RequestParts,
-    Text,
 };
 
 /// A number that a layer, a connection or a request has.
@@ -75,10 +74,7 @@ fn earlier_request(
     alloc: Global,
     pool: &mut HttpRequestPool<Visited>,
 ) -> HttpRequest<Visited> {
-    let param = Pair {
-        name: Text::of(alloc, "id").expect(rt, "memory"),
-        value: Text::of(alloc, "7").expect(rt, "memory"),
-    };
+    let param = Pair::new(alloc, "id", "7").expect(rt, "memory");
     let parts = RequestParts {
         head: head_of(rt, alloc, "/earlier?a=1", EARLIER),
         params: vec![in alloc; param].expect(rt, "memory"),

@@ -78,9 +78,9 @@ fn assert_body(rt: &impl Abort, alloc: Global, body: &[u8], expected: &str) {
 fn listed(rt: &impl Abort, alloc: Global, pairs: &[Pair]) -> String {
     let mut text = String::new(alloc);
     for pair in pairs {
-        text.push_str(pair.name.as_str()).expect(rt, "memory");
+        text.push_str(pair.name()).expect(rt, "memory");
         text.push(' ').expect(rt, "memory");
-        text.push_str(pair.value.as_str()).expect(rt, "memory");
+        text.push_str(pair.value()).expect(rt, "memory");
         text.push(' ').expect(rt, "memory");
     }
     text

@@ -196,7 +196,7 @@ fn route_of(rt: &impl Abort, alloc: Global, target: &str) -> (Option<Page>, Stri
     let mut exchange = request.into_exchange::<Site>().expect(rt, "a request");
     let page = page_of(alloc, &router, &mut exchange).expect(rt, "memory");
     let text = match exchange.params.first() {
-        Some(pair) => format!(in alloc; "{}={}", pair.name, pair.value),
+        Some(pair) => format!(in alloc; "{}={}", pair.name(), pair.value()),
         None => format!(in alloc; ""),
     };
     (page, text.expect(rt, "memory"))

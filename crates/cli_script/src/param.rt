@@ -9,14 +9,14 @@ ghost use Rattle.cli_script.specs.declared.reason.Reason.TheVariants.{BadParam};
 use crate::reason::Reason;
 use std::alloc::Global;
 use std::str;
-use web_texts::{Fail, Pair, Text, split_once_at};
+use web_texts::{Fail, Pair, split_once_at};
 
-/// A copy of the bytes as a text, if they are UTF-8.
-fn read_text(alloc: Global, bytes: &[u8]) -> Result<Text, Fail<Reason>>
-    ensures { Accepts result (unless (is_utf8 bytes.now) BadParam) (λ text. text ≡ bytes.now) }
+/// The bytes as a text, if they are UTF-8.
+fn read_text(bytes: &[u8]) -> Result<&str, Fail<Reason>>
+    ensures { Accepts result (unless (is_utf8 bytes.now) BadParam) (λ text. text.now ≡ bytes.now) }
 {
     match str::from_utf8(bytes) {
-        Ok(text) => Ok(Text::of(alloc, text)?),
+        Ok(text) => Ok(text),
         Err(_) => Err(Fail::Of(Reason::BadParam)),
     }
 }
@@ -33,7 +33,7 @@ pub fn read_param(alloc: Global, text: &[u8]) -> Result<Pair, Fail<Reason>>
     if name.is_empty() {
         return Err(Fail::Of(Reason::BadParam));
     }
-    let name = read_text(alloc, name)?;
-    let value = read_text(alloc, value)?;
-    Ok(Pair { name, value })
+    let name = read_text(name)?;
+    let value = read_text(value)?;
+    Ok(Pair::new(alloc, name, value)?)
 }

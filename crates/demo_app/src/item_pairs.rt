@@ -1,12 +1,12 @@
 //! An item, as it is read from names with values and written.
-ghost use Rattle.std.specs.Prelude.{◌≡◌, IfOk};
+ghost use Rattle.std.specs.Prelude.{◌≡◌};
 ghost use Rattle.web_values.specs.Answers.{AnswersBy};
 ghost use Rattle.web_values.specs.FormPairs.{values_of};
 ghost use Rattle.demo_app.specs.Items.{because, one_value};
 
 use crate::item::Item;
 use std::alloc::Global;
-use web_texts::{Fail, NoMemory, Pair, Text, read_digits};
+use web_texts::{Fail, Pair, Text, read_digits};
 use web_values::{ReadFault, ReadPairs, WriteFault, WritePairs};
 
 /// The value of a name that comes once. The texts are those of the refusals where it comes not at
@@ -24,11 +24,11 @@ fn one_value<'a>(
 {
     let mut found: Option<&'a str> = None;
     for pair in pairs {
-        if pair.name.as_str() == name {
+        if pair.name() == name {
             if found.is_some() {
                 return Err(ReadFault::refusal(alloc, twice));
             }
-            found = Some(pair.value.as_str());
+            found = Some(pair.value());
         }
     }
     match found {
@@ -59,16 +59,6 @@ impl ReadPairs for Item {
     }
 }
 
-/// The pair of these texts.
-fn pair_of(alloc: Global, name: &str, value: &str) -> Result<Pair, NoMemory>
-    ensures { IfOk result (λ pair. pair ≡ record { name = name.now; value = value.now }) }
-{
-    Ok(Pair {
-        name: Text::of(alloc, name)?,
-        value: Text::of(alloc, value)?,
-    })
-}
-
 /// The pairs `name` and `n`, in this order, the number in decimal. No item is refused.
 impl WritePairs for Item {
     ghost use Rattle.std.specs.Prelude.{◌≡◌, Ok};
@@ -78,9 +68,9 @@ impl WritePairs for Item {
 
     fn write_pairs(&self, alloc: Global) -> Result<Vec<Pair>, Fail<WriteFault>> {
         let mut pairs = Vec::new(alloc);
-        pairs.push(pair_of(alloc, "name", self.name.as_str())?)?;
+        pairs.push(Pair::new(alloc, "name", self.name.as_str())?)?;
         let n = self.n.to_string(alloc)?;
-        pairs.push(pair_of(alloc, "n", n.as_str())?)?;
+        pairs.push(Pair::new(alloc, "n", n.as_str())?)?;
         Ok(pairs)
     }
 }

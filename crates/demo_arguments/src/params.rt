@@ -11,7 +11,7 @@ const MAX_DELAY: u64 = 1_000_000;
 fn first_param<'a>(params: &'a [Pair], name: &str) -> Option<&'a Pair>
     ensures { option_map (λ p. p.now) result ≡ first_param name.now params.now }
 {
-    params.iter().find(|pair| pair.name.as_str() == name)
+    params.iter().find(|pair| pair.name() == name)
 }
 
 /// The value of the first parameter of this name, if it is digits alone and at most `max`.
@@ -19,7 +19,7 @@ pub(crate) fn number_in(params: &[Pair], name: &str, max: u64) -> Option<u64>
     ensures { result ≡ number_in name.now max params.now }
 {
     match first_param(params, name) {
-        Some(pair) => read_digits(pair.value.as_str(), max),
+        Some(pair) => read_digits(pair.value(), max),
         None => None,
     }
 }

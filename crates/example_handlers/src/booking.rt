@@ -1,10 +1,10 @@
 //! A type of one's own that is read from JSON bodies and from forms, and written as both.
-ghost use Rattle.std.specs.Prelude.{◌≡◌, IfOk, option_map, slice_get};
+ghost use Rattle.std.specs.Prelude.{◌≡◌, option_map, slice_get};
 ghost use Rattle.web_values.specs.FormPairs.{values_of};
 
 use serde_json::{Value, json};
 use std::alloc::Global;
-use web_texts::{Fail, NoMemory, Pair, Text, read_digits};
+use web_texts::{Fail, Pair, Text, read_digits};
 use web_values::{ReadFault, ReadJson, ReadPairs, WriteFault, WriteJson, WritePairs};
 
 /// A booking: for whom, and how many seats.
@@ -59,8 +59,8 @@ fn first_value<'a>(pairs: &'a [Pair], name: &str) -> Option<&'a str>
     ensures { option_map (λ value. value.now) result ≡ slice_get (values_of name.now pairs.now) 0 }
 {
     for pair in pairs {
-        if pair.name.as_str() == name {
-            return Some(pair.value.as_str());
+        if pair.name() == name {
+            return Some(pair.value());
         }
     }
     None
@@ -98,18 +98,9 @@ impl WritePairs for Booking {
 
     fn write_pairs(&self, alloc: Global) -> Result<Vec<Pair>, Fail<WriteFault>> {
         let mut pairs = Vec::new(alloc);
-        pairs.push(new_pair(alloc, "name", self.name.as_str())?)?;
+        pairs.push(Pair::new(alloc, "name", self.name.as_str())?)?;
         let seats = self.seats.to_string(alloc)?;
-        pairs.push(new_pair(alloc, "seats", seats.as_str())?)?;
+        pairs.push(Pair::new(alloc, "seats", seats.as_str())?)?;
         Ok(pairs)
     }
-}
-
-fn new_pair(alloc: Global, name: &str, value: &str) -> Result<Pair, NoMemory>
-    ensures { IfOk result (λ pair. pair ≡ record { name = name.now; value = value.now }) }
-{
-    Ok(Pair {
-        name: Text::of(alloc, name)?,
-        value: Text::of(alloc, value)?,
-    })
 }

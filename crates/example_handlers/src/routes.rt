@@ -2,7 +2,7 @@
 
 use matchit::{InsertError, Router};
 use std::alloc::Global;
-use web_request::{App, NoMemory, Pair, Text};
+use web_request::{App, NoMemory, Pair};
 use web_worker::Exchange;
 
 /// What an application has under a path.
@@ -35,9 +35,7 @@ pub fn page_of<A: App>(
     let page = *found.value;
     let mut params = Vec::new(alloc);
     for (name, value) in found.params.iter() {
-        let name = Text::of(alloc, name)?;
-        let value = Text::of(alloc, value)?;
-        params.push(Pair { name, value })?;
+        params.push(Pair::new(alloc, name, value)?)?;
     }
     exchange.params = params;
     Ok(Some(page))

@@ -16,8 +16,8 @@ impl ReadPairs for Order {
 
     fn read_pairs(alloc: Global, pairs: &[Pair]) -> Result<Order, Fail<ReadFault>> {
         for pair in pairs {
-            if pair.name.as_str() == "count" {
-                return match read_digits(pair.value.as_str(), u64::MAX) {
+            if pair.name() == "count" {
+                return match read_digits(pair.value(), u64::MAX) {
                     Some(count) => Ok(Order { count }),
                     None => Err(ReadFault::refusal(alloc, "count is no number")),
                 };

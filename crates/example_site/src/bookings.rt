@@ -37,8 +37,8 @@ pub struct Refused {
 /// A copy of the first value of this name, or an empty text.
 fn field(alloc: Global, pairs: &[Pair], name: &str) -> Result<String, NoMemory> {
     let mut text = String::new(alloc);
-    if let Some(pair) = pairs.iter().find(|pair| pair.name.as_str() == name) {
-        text.push_str(pair.value.as_str())?;
+    if let Some(pair) = pairs.iter().find(|pair| pair.name() == name) {
+        text.push_str(pair.value())?;
     }
     Ok(text)
 }

@@ -11,7 +11,7 @@ use std::rc::Rc;
 use web_body::{Payload, Poll, Step};
 use web_extract::{FromRequest, Never, Ready};
 use web_reply::Responder;
-use web_request::{App, Duplicate, HttpRequest, NoData, NoMemory, Pair, Source, Text, Turn};
+use web_request::{App, Duplicate, HttpRequest, NoData, NoMemory, Pair, Source, Turn};
 use web_texts::read_digits;
 use web_worker::{Exchange, Flight, Handler, Worker, serve_all, serve_flights};
 
@@ -118,10 +118,7 @@ impl Poll for LabelFuture {
 
 /// The label that the first parameter has.
 fn label_of(req: &HttpRequest<LabelledSite>) -> Label {
-    let digits = req
-        .match_info()
-        .first()
-        .map_or("", |pair| pair.value.as_str());
+    let digits = req.match_info().first().map_or("", |pair| pair.value());
     Label(read_digits(digits, 9).unwrap_or(0))
 }
 
@@ -177,10 +174,8 @@ impl Handler<Label> for LabelHandler {
 
 /// The exchange of this label, whose source writes into the log.
 fn labelled(rt: &impl Abort, alloc: Global, label: u64, log: &Log) -> Exchange<LabelledSite> {
-    let pair = Pair {
-        name: Text::of(alloc, "label").expect(rt, "memory"),
-        value: Text::from(format!(in alloc; "{label}").expect(rt, "memory")),
-    };
+    let digits = format!(in alloc; "{label}").expect(rt, "memory");
+    let pair = Pair::new(alloc, "label", &digits).expect(rt, "memory");
     let source = LoggedSource {
         label,
         log: Rc::clone(log).expect(rt, "memory"),

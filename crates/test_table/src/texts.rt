@@ -47,10 +47,8 @@ fn digits(alloc: Global, field: &str, max: &str) -> Answer {
 
 /// The texts of a copy.
 fn pair(alloc: Global, name: &str, value: &str) -> Answer {
-    let name = Text::of(alloc, name)?;
-    let value = Text::of(alloc, value)?;
-    let copy = Pair { name, value }.duplicate(alloc)?;
-    let (name, value) = (copy.name.as_str(), copy.value.as_str());
+    let copy = Pair::new(alloc, name, value)?.duplicate(alloc)?;
+    let (name, value) = (copy.name(), copy.value());
     Ok(format!(in alloc; "[{name}] [{value}]")?)
 }
 

@@ -14,7 +14,7 @@ use std::marker::Model;
 use web_body::Payload;
 use web_reply::header_setting::{Placing, named, place_one};
 use web_request::{App, Pair, RequestHead, SocketAddr};
-use web_texts::{Fail, NoMemory, Text};
+use web_texts::{Fail, NoMemory};
 use web_worker::Exchange;
 
 /// The parts of a request that was not refused.
@@ -112,9 +112,8 @@ fn with_param(
     ensures { ComesTo (with_param name.now value.now parts) result }
 {
     let mut parts = parts?;
-    let name = Text::of(alloc, name)?;
-    let value = Text::of(alloc, value)?;
-    match parts.params.push(Pair { name, value }) {
+    let param = Pair::new(alloc, name, value)?;
+    match parts.params.push(param) {
         Ok(()) => Ok(parts),
         Err(_) => Err(TestError::NoMemory),
     }

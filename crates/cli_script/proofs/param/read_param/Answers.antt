@@ -31,5 +31,8 @@ returns-in_err-value c =
 
 pub returns : goal.returns
 returns c =
-    param_read c.args.text.now c.in-Some.name.now c.in-Some.value.now c.in-Some.ensures c.in_ok-name.name c.in_ok-value.value (sym c.is_empty.ensures ∙ c.if-is_empty.false) c.in_ok-name.ensures.0
-    c.in_ok-value.ensures.0 c.in_ok-name.ensures.1 c.in_ok-value.ensures.1
+    let read =
+    param_read c.args.text.now c.in-Some.name.now c.in-Some.value.now c.in-Some.ensures c.in_ok-name.name.now c.in_ok-value.value.now
+    (sym c.is_empty.ensures ∙ c.if-is_empty.false) c.in_ok-name.ensures.0 c.in_ok-value.ensures.0 c.in_ok-name.ensures.1 c.in_ok-value.ensures.1
+    in
+    (read.0, c.in_ok-new.ensures ∙ read.1)
