@@ -1,6 +1,6 @@
 -- The program's handler meets its functions.
 use Rattle.std.proofs.Common.{◌≡◌, ◌∙◌}
-use Rattle.demo_picked.specs.ServiceFunctions.{HandlerMeets}
+use Rattle.demo_app.specs.ServiceFunctions.{HandlerMeets}
 use Rattle.demo_handler.specs.DemoFunctions.{demo_handler}
 use Rattle.demo_handler.specs.DemoReplies.{HandlerAnswers, output_reply}
 

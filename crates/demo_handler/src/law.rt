@@ -1,6 +1,6 @@
 //! The functions that the program's arguments and handler meet.
 ghost use Rattle.demo_picked.specs.PickedFunctions.{picked_arguments};
-ghost use Rattle.demo_picked.specs.ServiceFunctions.{ArgumentsMeet, HandlerMeets};
+ghost use Rattle.demo_app.specs.ServiceFunctions.{ArgumentsMeet, HandlerMeets};
 ghost use Rattle.demo_handler.specs.DemoFunctions.{demo_handler};
 
 use crate::answer::DemoOutput;

@@ -2,12 +2,12 @@ use Rattle.std.proofs.Common.{◌≡◌}
 use Rattle.demo_picked.specs.PickedArguments.{MeansPicked}
 use Rattle.demo_picked.specs.PickedFunctions.{picked_arguments}
 use Rattle.demo_picked.proofs.PickedFunctionsLemmas.{picked_meets}
-use Rattle.web_cli.specs.PickedScripts.{AppendsPickedCalls, ArePickedReplies, IsPickedSummary}
+use Rattle.demo_command.specs.PickedScripts.{AppendsPickedCalls, ArePickedReplies, IsPickedSummary}
 use Rattle.web_cli.specs.LoadTexts.{IsSummary, load_script}
 use Rattle.web_cli.specs.ScriptAnswers.{AppendsScriptCalls, AreReplies}
 use Rattle.web_cli.proofs.DemoSettingLemmas.{demo_setting}
 use Rattle.web_cli.proofs.RunLemmas.{alone_as, headline_as, result_as}
-use Rattle.web_cli.proofs.serving.run.Goals as goal
+use Rattle.demo_command.proofs.run.run.Goals as goal
 
 pub returns-clause-serves : goal.returns-clause-serves
 returns-clause-serves g c = λ capacity words.
