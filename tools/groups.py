@@ -1,10 +1,12 @@
 """The groups of tests that are run and not proved, and how they become modules of one crate.
 
 A group is a folder of tests/, or the folder tests/ of a crate, by the crate's name. Each of its files is a module, which
-sees the others by `crate::`. The tests of a program stand among its own modules, and see these so too. A library whose
-name begins with `test_` is a group as well, though it is proved, and `pages` are the examples that stand in pages alone."""
+sees the others by `crate::`. The tests of a program stand among its own modules, and see these so too. One with a file
+`main.rs` is a program, which reads its file `stdin` and has to write its file `stdout`. A library whose name begins with
+`test_` is a group as well, though it is proved, and `pages` are the examples that stand in pages alone."""
 import os
 import re
+import shutil
 
 import pages
 import repository
@@ -44,9 +46,14 @@ def names():
     return [*folders(), *proved_crates(), PAGES]
 
 
+def is_program(name):
+    return name in folders() and os.path.isfile(os.path.join(folders()[name], "main.rs"))
+
+
 def stands_apart(name):
-    """Whether a group cannot be a part of another crate: a program whose specs name its own modules."""
-    return name in toolchain.program_crates() and bool(repository.sources(name, ["specs"]))
+    """Whether a group cannot be a part of another crate: a program, and the tests of one whose specs name its own
+    modules."""
+    return is_program(name) or name in toolchain.program_crates() and bool(repository.sources(name, ["specs"]))
 
 
 def text_of(path):
@@ -105,12 +112,41 @@ def modules_of(name):
 
 
 def parts(count):
-    """All groups in as many parts, which can be compiled beside each other: each in the smallest part, the largest first."""
-    sizes = {name: sum(map(len, modules_of(name).values())) for name in names()}
+    """All groups in so many parts that are compiled beside each other, each in the smallest part, the largest first; and
+    those that stand apart."""
+    sizes = {name: sum(map(len, modules_of(name).values())) for name in names() if not stands_apart(name)}
     found = [[] for _ in range(count)]
     for name in sorted(sizes, key=sizes.get, reverse=True):
         min(found, key=lambda part: sum(sizes[it] for it in part)).append(name)
-    return found
+    return found + [[name] for name in names() if stands_apart(name)]
+
+
+def write(path, text):
+    os.makedirs(os.path.dirname(path), exist_ok=True)
+    with open(path, "w", encoding="utf-8") as it:
+        it.write(text)
+
+
+def copy_crates(room):
+    """Copies the sources of all crates."""
+    left_out = shutil.ignore_patterns("out", "must-fail", "wrong-bodies")
+    shutil.copytree(os.path.join(repository.TOP, "crates"), f"{room}/crates", ignore=left_out)
+
+
+def write_list(room, listed):
+    """Makes a repository of these crates."""
+    write(f"{room}/crates.txt", "".join(f"{name}: {' '.join(below)}\n" for name, below in listed.items()))
+    os.mkdir(f"{room}/.git")
+
+
+def write_program(room, name):
+    """Writes a copy of all crates with a group that is a program, and returns the folder of its crate."""
+    copy_crates(room)
+    sources = {path: text_of(path) for path in files(folders()[name])}
+    for path, text in sources.items():
+        write(f"{room}/crates/{name}/src/{module(path)}.rt", text)
+    write_list(room, {**repository.listed_crates(), name: libraries_in(sources.values())})
+    return f"{room}/crates/{name}"
 
 
 def libraries_in(texts):

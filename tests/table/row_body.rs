@@ -1,6 +1,4 @@
 //! A body that a field of a row says: bytes, and marks among them.
-ghost use Rattle.std.specs.Prelude.{◌≡◌, ◌+◌, ◌<◌, IfSome};
-
 use bytes::Bytes;
 use std::alloc::Global;
 use std::collections::VecDeque;
@@ -68,9 +66,7 @@ impl Source for RowBody {
 
 /// How many bytes were given with a piece of this size. There is no number behind an empty one, or
 /// where they are too many.
-fn total(given: u32, size: usize) -> Option<u32>
-    ensures { IfSome result (λ sum. (sum ≡ given + size) × (0 < size)) }
-{
+fn total(given: u32, size: usize) -> Option<u32> {
     if size == 0 {
         return None;
     }

@@ -1,6 +1,4 @@
-//! How a file service sends a part of a file, as an example.
-use crate::answers::{Answer, no_number, no_such_call, text};
-use crate::maps::map_of;
+//! What a file service sends where a part of a file is asked for.
 use http_header::{HeaderMap, HeaderValue};
 use std::alloc::Global;
 use web_entities::{ContentRange, ContentRangeSpec, Range};
@@ -10,7 +8,7 @@ use web_texts::{Fail, NoMemory, ParseError};
 
 /// What a file service sends.
 #[derive(Debug, Drop, PartialEq, Eq)]
-enum Sent {
+pub enum Sent {
     /// The whole file, with status 200.
     Whole,
     /// The bytes from the first to the second position, both of them included, with status 206 and
@@ -22,7 +20,7 @@ enum Sent {
 
 /// What to send of a file of this length. A Range that cannot be read, one of another unit, and one
 /// of several parts count as none, as RFC 9110, section 14.2, allows.
-fn part_to_send(
+pub fn part_to_send(
     alloc: Global,
     headers: &HeaderMap<HeaderValue>,
     length: u64,
@@ -46,31 +44,5 @@ fn described(range: Option<(u64, u64)>, length: u64) -> Sent {
     match range {
         Some((first, last)) => Sent::Part(first, last, content_range),
         None => Sent::Nothing(content_range),
-    }
-}
-
-/// The fields of a row are a value of Range and the length of the file.
-pub(crate) fn answer(alloc: Global, name: &str, fields: &[&str]) -> Answer {
-    match (name, fields) {
-        ("part", [value, length]) => match length.parse::<u64>() {
-            Ok(length) => part(alloc, value, length),
-            Err(_) => no_number(alloc),
-        },
-        _ => no_such_call(alloc),
-    }
-}
-
-fn part(alloc: Global, value: &str, length: u64) -> Answer {
-    match map_of(alloc, &Range::name(), &[value])? {
-        Some(headers) => said(alloc, part_to_send(alloc, &headers, length)?),
-        None => text(alloc, "no value of a header"),
-    }
-}
-
-fn said(alloc: Global, sent: Sent) -> Answer {
-    match sent {
-        Sent::Whole => text(alloc, "whole"),
-        Sent::Part(first, last, range) => Ok(format!(in alloc; "{first} to {last}, [{range}]")?),
-        Sent::Nothing(range) => Ok(format!(in alloc; "nothing, [{range}]")?),
     }
 }
