@@ -1,2 +1,3 @@
 pub mod KeptLemmas
+pub mod NewlineLemmas
 pub mod StoredDocumentsLemmas

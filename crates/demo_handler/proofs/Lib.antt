@@ -1,2 +1,1 @@
 pub mod DemoFunctionsLemmas
-pub mod NewlineLemmas

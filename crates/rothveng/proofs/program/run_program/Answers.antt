@@ -1,6 +1,7 @@
 use Rattle.std.specs.Prelude.{◌≡◌, None, ⊤}
 use Rattle.demo_handler.specs.DemoFunctions.{demo_handler}
-use Rattle.demo_handler.specs.DemoReplies.{HandlerAnswers, output_reply}
+use Rattle.demo_handler.specs.DemoReplies.{HandlerAnswers}
+use Rattle.demo_content.specs.AnswerReplies.{output_reply}
 use Rattle.demo_handler.proofs.DemoFunctionsLemmas.{demo_meets}
 use Rattle.web_cli.specs.LoadTexts.{load_script}
 use Rattle.demo_command.specs.PickedScripts.{AppendsPickedCalls, ArePickedReplies, IsPickedSummary}

@@ -5,16 +5,17 @@ ghost use Rattle.web_reply.specs.Replies.{plain_reply};
 ghost use Rattle.web_reply.specs.ResponseBodies.{box_plain, whole_plain};
 ghost use Rattle.web_request.specs.KeptValues.{known_cookies};
 ghost use Rattle.web_texts.specs.Returns.{ReturnsBy};
-ghost use Rattle.demo_handler.specs.DemoReplies.{cookie_error, cookies_refusal, cookies_reply};
-ghost use Rattle.demo_handler.specs.DemoReplies.{demo_document_reply, demo_variant_reply};
-ghost use Rattle.demo_handler.specs.DemoReplies.{output_reply, raw_reply};
-ghost use Rattle.demo_handler.specs.DemoTexts.{printed_cookies};
+ghost use Rattle.demo_content.specs.AnswerReplies.{cookie_error, cookies_refusal, cookies_reply};
+ghost use Rattle.demo_content.specs.AnswerReplies.{demo_document_reply, demo_variant_reply};
+ghost use Rattle.demo_content.specs.AnswerReplies.{output_reply, raw_reply};
+ghost use Rattle.demo_content.specs.DemoTexts.{printed_cookies};
 
+use crate::documents::DemoDocuments;
 use crate::texts::cookies_text;
+use crate::variants::DemoVariants;
 use bytes::Bytes;
 use demo_app::{Demo, Item};
 use demo_arguments::{CookieArguments, RawBody, RequestArguments};
-use demo_content::{DemoDocuments, DemoVariants};
 use http::StatusCode;
 use http_header::{CONTENT_TYPE, HeaderMap, HeaderValue};
 use std::alloc::Global;
@@ -77,7 +78,7 @@ fn raw_response(alloc: Global, body: RawBody) -> Result<HttpResponse<BoxBody<Mar
 }
 
 /// A 200 with what is left of this body, as an answer.
-pub(crate) fn raw_answer(alloc: Global, body: RawBody) -> Result<DemoOutput, NoMemory>
+pub fn raw_answer(alloc: Global, body: RawBody) -> Result<DemoOutput, NoMemory>
     ensures { IfOk result (λ output. output_reply output ≡ raw_reply body) }
 {
     let response = raw_response(alloc, body)?;
@@ -116,10 +117,7 @@ fn refused_cookies(alloc: Global, error: CookieParseError) -> Result<DemoOutput,
 }
 
 /// The cookies of a request as a text, or the reply to the error where they cannot be read.
-pub(crate) fn cookies_answer(
-    alloc: Global,
-    arguments: CookieArguments,
-) -> Result<DemoOutput, NoMemory>
+pub fn cookies_answer(alloc: Global, arguments: CookieArguments) -> Result<DemoOutput, NoMemory>
     ensures { IfOk result (λ output. output_reply output ≡ cookies_reply arguments) }
 {
     let CookieArguments { mut request } = arguments;
@@ -139,7 +137,7 @@ fn whole_answer(alloc: Global, response: HttpResponse<WholeBody>) -> Result<Demo
 }
 
 /// The reply to a request for a document, as an answer.
-pub(crate) fn document_answer(
+pub fn document_answer(
     alloc: Global,
     documents: &mut DemoDocuments,
     arguments: RequestArguments,
@@ -151,7 +149,7 @@ pub(crate) fn document_answer(
 }
 
 /// The reply to a request for a variant, as an answer.
-pub(crate) fn variant_answer(
+pub fn variant_answer(
     alloc: Global,
     variants: &mut DemoVariants,
     arguments: RequestArguments,
@@ -179,7 +177,7 @@ fn boxed_response<A: App, R: Responder<A>>(
 }
 
 impl<A: App> Responder<A> for Answer<A::Source> {
-    ghost use Rattle.demo_handler.specs.DemoReplies.{AnswerNeedsNoMemory, answer_reply};
+    ghost use Rattle.demo_content.specs.AnswerReplies.{AnswerNeedsNoMemory, answer_reply};
 
     type Body = BoxBody<A::Source>;
 

@@ -5,7 +5,7 @@ use Rattle.std.specs.Io.BufRead.{ends_with_byte}
 use Rattle.std.proofs.lemmas.Bool.{eqb-true, lt-ltb, ltb-true}
 use Rattle.std.proofs.lemmas.List.{drop_all, length-append, take-append-drop}
 use Rattle.std.proofs.Math.Seq.{drop-cons, get_or-append_seam, take-append_seam}
-use Rattle.demo_handler.specs.DemoTexts.{without_newline}
+use Rattle.demo_content.specs.DemoTexts.{without_newline}
 
 pub stripped : (front : List ℕ) → without_newline (front ++ 10 ∷ []) ≡ front
 stripped front =

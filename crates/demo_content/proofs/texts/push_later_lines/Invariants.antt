@@ -1,6 +1,6 @@
 use Rattle.std.proofs.Common.{◌≡◌, ◌++◌, flat_map, string_bytes, take}
-use Rattle.demo_handler.specs.DemoTexts.{bar, without_newline}
-use Rattle.demo_handler.proofs.texts.push_later_lines.Given as goal
+use Rattle.demo_content.specs.DemoTexts.{bar, without_newline}
+use Rattle.demo_content.proofs.texts.push_later_lines.Given as goal
 
 abbrev pub invariant-loop-line : goal.invariant-loop-line
 invariant-loop-line l =

@@ -1,6 +1,6 @@
 use Rattle.std.specs.Prelude.{refl}
 use Rattle.web_texts.specs.MediaTypeTexts.{media_type_text}
-use Rattle.demo_handler.proofs.texts.MediaTypesDisplay.fmt.Goals as goal
+use Rattle.demo_content.proofs.texts.MediaTypesDisplay.fmt.Goals as goal
 
 pub returns-clause-writes : goal.returns-clause-writes
 returns-clause-writes g c =

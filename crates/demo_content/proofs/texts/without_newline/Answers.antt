@@ -1,8 +1,8 @@
 use Rattle.std.proofs.Common.{ap, lit<, sym, ◌∙◌}
 use Rattle.std.proofs.lemmas.Str.Pattern.{strip_suffix_char}
-use Rattle.demo_handler.specs.DemoTexts.{without_newline}
-use Rattle.demo_handler.proofs.NewlineLemmas.{kept, stripped}
-use Rattle.demo_handler.proofs.texts.without_newline.Goals as goal
+use Rattle.demo_content.specs.DemoTexts.{without_newline}
+use Rattle.demo_content.proofs.NewlineLemmas.{kept, stripped}
+use Rattle.demo_content.proofs.texts.without_newline.Goals as goal
 
 pub returns-in-Some : goal.returns-in-Some
 returns-in-Some c =

@@ -1,7 +1,7 @@
 use Rattle.std.proofs.Common.{◌≡◌, ◌++◌, flat_map, string_bytes, take}
-use Rattle.demo_handler.specs.DemoTexts.{bar}
-use Rattle.demo_handler.specs.PartsTexts.{part_text}
-use Rattle.demo_handler.proofs.parts_text.push_later_parts.Given as goal
+use Rattle.demo_content.specs.DemoTexts.{bar}
+use Rattle.demo_content.specs.PartsTexts.{part_text}
+use Rattle.demo_content.proofs.parts_text.push_later_parts.Given as goal
 
 abbrev pub invariant-loop-part : goal.invariant-loop-part
 invariant-loop-part l =

@@ -1,7 +1,7 @@
 //! The texts that the handler replies with.
 ghost use Rattle.std.specs.Prelude.{◌≡◌, ◌++◌, IfOk, OnOk, flat_map, string_bytes};
-ghost use Rattle.demo_handler.specs.DemoTexts.{bar, cookies_text, lines_text, pair_text, space};
-ghost use Rattle.demo_handler.specs.DemoTexts.{without_newline};
+ghost use Rattle.demo_content.specs.DemoTexts.{bar, cookies_text, lines_text, pair_text, space};
+ghost use Rattle.demo_content.specs.DemoTexts.{without_newline};
 ghost use Rattle.demo_app.specs.Items.{item_text};
 
 use bytes::Bytes;
@@ -22,7 +22,7 @@ use web_types::{Either, Form, Json};
 const ROOM: usize = 128;
 
 /// A value of which the handler replies with a text.
-pub(crate) trait PlainText {
+pub trait PlainText {
     ghost use Rattle.std.specs.Prelude.{ℕ, List};
 
     /// The text.
@@ -64,7 +64,7 @@ impl PlainText for Query<Item> {
 
 /// The side that was read, and its item.
 impl PlainText for Either<Json<Item>, Form<Item>> {
-    ghost use Rattle.demo_handler.specs.DemoTexts.{either_text};
+    ghost use Rattle.demo_content.specs.DemoTexts.{either_text};
 
     ghost text = { either_text };
 
@@ -79,7 +79,7 @@ impl PlainText for Either<Json<Item>, Form<Item>> {
 /// The item, where there is one, and the size of the body that was left.
 impl PlainText for (Option<Json<Item>>, Bytes) {
     ghost use Rattle.std.specs.Prelude.{length};
-    ghost use Rattle.demo_handler.specs.DemoTexts.{option_text};
+    ghost use Rattle.demo_content.specs.DemoTexts.{option_text};
 
     ghost text = { λ both. option_text both.0 (length both.1) };
 
@@ -94,7 +94,7 @@ impl PlainText for (Option<Json<Item>>, Bytes) {
 
 /// The item, or the status of the refusal.
 impl PlainText for Result<Json<Item>, Error> {
-    ghost use Rattle.demo_handler.specs.DemoTexts.{result_text};
+    ghost use Rattle.demo_content.specs.DemoTexts.{result_text};
 
     ghost text = { result_text };
 
@@ -111,7 +111,7 @@ impl PlainText for Result<Json<Item>, Error> {
 
 /// The numbers of the layers, of the request and of the connection.
 impl PlainText for DataArguments {
-    ghost use Rattle.demo_handler.specs.DemoTexts.{data_text};
+    ghost use Rattle.demo_content.specs.DemoTexts.{data_text};
 
     ghost text = { data_text };
 
@@ -136,7 +136,7 @@ fn push_named(text: &mut String, name: &str, value: &str) -> Result<(), NoMemory
 
 /// Where a request came from and was sent to.
 impl PlainText for ConnectionInfo {
-    ghost use Rattle.demo_handler.specs.DemoTexts.{who_text};
+    ghost use Rattle.demo_content.specs.DemoTexts.{who_text};
 
     ghost text = { who_text };
 
@@ -258,7 +258,7 @@ fn push_lines(text: &mut String, lines: &[Text]) -> Result<(), NoMemory>
 
 /// The lines without their newlines, with vertical bars between.
 impl PlainText for AllLines {
-    ghost use Rattle.demo_handler.specs.DemoTexts.{lines_text};
+    ghost use Rattle.demo_content.specs.DemoTexts.{lines_text};
 
     ghost text = { lines_text };
 
@@ -289,7 +289,7 @@ impl fmt::Display for MediaTypes {
 
 /// The media types that are accepted, the most wanted first.
 impl PlainText for Header<Accept> {
-    ghost use Rattle.demo_handler.specs.DemoTexts.{accept_text};
+    ghost use Rattle.demo_content.specs.DemoTexts.{accept_text};
 
     ghost text = { accept_text };
 

@@ -1,6 +1,6 @@
 use Rattle.std.proofs.Common.{◌≡◌, ◌++◌, flat_map, string_bytes, take}
-use Rattle.demo_handler.specs.DemoTexts.{pair_text, space}
-use Rattle.demo_handler.proofs.texts.push_later_pairs.Given as goal
+use Rattle.demo_content.specs.DemoTexts.{pair_text, space}
+use Rattle.demo_content.proofs.texts.push_later_pairs.Given as goal
 
 abbrev pub invariant-loop-cookie : goal.invariant-loop-cookie
 invariant-loop-cookie l =

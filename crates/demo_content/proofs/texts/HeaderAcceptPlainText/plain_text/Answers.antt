@@ -3,7 +3,7 @@ use Rattle.web_texts.specs.MediaTypeTexts.{media_type_text}
 use Rattle.web_headers.specs.PrintedLists.{comma_joined}
 use Rattle.web_negotiate.specs.MediaChoices.{media_rank}
 use Rattle.web_negotiate.proofs.RankedLemmas.{ranking_only}
-use Rattle.demo_handler.proofs.texts.HeaderAcceptPlainText.plain_text.Goals as goal
+use Rattle.demo_content.proofs.texts.HeaderAcceptPlainText.plain_text.Goals as goal
 
 pub returns : goal.returns
 returns c =

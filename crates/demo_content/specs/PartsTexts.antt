@@ -2,7 +2,7 @@
 use Rattle.std.specs.Prelude.{ℕ, List, ◌++◌, length, decimal}
 use Rattle.std.specs.List.{join_by}
 use Rattle.web_parts.specs.declared.part.Part.{Part}
-use Rattle.demo_handler.specs.DemoTexts.{bar, space, text_or_dash}
+use Rattle.demo_content.specs.DemoTexts.{bar, space, text_or_dash}
 
 -- the name, that of the file, and the size of the content
 abbrev pub part_text : Part → List ℕ

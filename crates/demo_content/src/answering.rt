@@ -16,7 +16,7 @@ pub struct Answering {
 impl Model for Answering {
     ghost use Rattle.web_request.specs.Feed.{Feed};
     ghost use Rattle.demo_arguments.specs.DelayedValue.{DelayedView};
-    ghost use Rattle.demo_handler.specs.declared.answer.Answer.{Answer};
+    ghost use Rattle.demo_content.specs.declared.answer.Answer.{Answer};
 
     ghost Value = { DelayedView (Answer Feed) };
 

@@ -1,7 +1,7 @@
 //! The text about the parts of a body.
 ghost use Rattle.std.specs.Prelude.{◌≡◌, ◌++◌, OnOk, flat_map, string_bytes};
-ghost use Rattle.demo_handler.specs.DemoTexts.{bar};
-ghost use Rattle.demo_handler.specs.PartsTexts.{part_text, parts_text};
+ghost use Rattle.demo_content.specs.DemoTexts.{bar};
+ghost use Rattle.demo_content.specs.PartsTexts.{part_text, parts_text};
 
 use crate::texts::PlainText;
 use std::alloc::Global;
@@ -59,7 +59,7 @@ fn push_parts(alloc: Global, text: &mut String, parts: &[Part]) -> Result<(), No
 
 /// The names of the parts, of their files, and the sizes of their contents.
 impl PlainText for Multipart<65536> {
-    ghost use Rattle.demo_handler.specs.PartsTexts.{parts_text};
+    ghost use Rattle.demo_content.specs.PartsTexts.{parts_text};
 
     ghost text = { λ parts. parts_text parts };
 
