@@ -111,14 +111,25 @@ def modules_of(name):
     return {path: re.sub(r"\bcrate::", f"crate::{name}::", text) for path, text in found.items()}
 
 
-def parts(count):
-    """All groups in so many parts that are compiled beside each other, each in the smallest part, the largest first; and
-    those that stand apart."""
-    sizes = {name: sum(map(len, modules_of(name).values())) for name in names() if not stands_apart(name)}
-    found = [[] for _ in range(count)]
-    for name in sorted(sizes, key=sizes.get, reverse=True):
-        min(found, key=lambda part: sum(sizes[it] for it in part)).append(name)
-    return found + [[name] for name in names() if stands_apart(name)]
+def bytes_below(group_names):
+    """The bytes of the libraries that these groups stand on."""
+    texts = [text for name in group_names for text in modules_of(name).values()]
+    ours = [it for it in libraries_in(texts) if it in repository.crates()]
+    return sum(os.path.getsize(path) for it in ours for path in repository.sources(it, ["src"], (".rt",)))
+
+
+def cost(group_names):
+    """About what it costs to compile these groups: a byte of a test is also turned into code, most of a library is not."""
+    modules = [text for name in group_names for text in modules_of(name).values()]
+    return bytes_below(group_names) + 3 * sum(map(len, modules))
+
+
+def parts(are_two):
+    """All groups in one part, or in two that are compiled beside each other, those on few libraries and the others; and
+    each that stands apart."""
+    joined = sorted((it for it in names() if not stands_apart(it)), key=lambda it: bytes_below([it]))
+    cuts = [(joined[:at], joined[at:]) for at in range(1, len(joined))] if are_two else [(joined,)]
+    return [*min(cuts, key=lambda cut: max(map(cost, cut))), *([it] for it in names() if stands_apart(it))]
 
 
 def write(path, text):
