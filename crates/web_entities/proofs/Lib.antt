@@ -4,6 +4,8 @@ pub mod PlainTextLemmas
 pub mod QuotedValueLemmas
 pub mod RawDispositionLemmas
 mod IfRangeLemmas
+mod ListedTagsLemmas
+mod ByteRangeLemmas
 mod CutPlaceLemmas
 mod QuoteCountLemmas
 mod QuotedPlaceLemmas

@@ -52,3 +52,13 @@ range_text (kind.Unregistered unit rest) = unit ++ codes "=" ++ rest
 -- a byte range from the first to the second of each pair
 abbrev pub from_pairs : List (ℕ × ℕ) → List ByteRangeSpec
 from_pairs pairs = map (λ p. spec.FromTo p.0 p.1) pairs
+
+-- the item of a list of one
+abbrev pub only_spec : List ByteRangeSpec → Option ByteRangeSpec
+only_spec (spec ∷ []) = Some spec
+only_spec other = None
+
+-- one range of bytes
+abbrev pub one_range : Option Range → Option ByteRangeSpec
+one_range (Some (kind.Bytes specs)) = only_spec specs
+one_range other = None

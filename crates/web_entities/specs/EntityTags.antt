@@ -5,6 +5,8 @@ use Rattle.std.specs.Prelude.{Option, None, Some, if◌then◌else◌}
 use Rattle.std.specs.Option.{option_map}
 use Rattle.std.specs.List.{list_all}
 use Rattle.std.specs.Str.{bytes_eq}
+use Rattle.web_entities.specs.declared.entity.Comparison.{Comparison}
+use Rattle.web_entities.specs.declared.entity.Comparison.TheVariants.{Strong, Weak}
 
 -- 0x21, 0x23 to 0x7E, and 0x80 and above: the RFC's etagc
 abbrev pub is_tag_byte : ℕ → Bool
@@ -52,3 +54,8 @@ strong_eq a b = not a.weak && (not b.weak && bytes_eq a.tag b.tag)
 -- of one text
 abbrev pub weak_eq : Tag → Tag → Bool
 weak_eq a b = bytes_eq a.tag b.tag
+
+-- the same, by either comparison
+abbrev pub equals : Comparison → Tag → Tag → Bool
+equals Strong a b = strong_eq a b
+equals Weak a b = weak_eq a b

@@ -7,5 +7,6 @@ pub mod Dispositions
 pub mod EntityLaws
 pub mod EntityTags
 pub mod IfRanges
+pub mod ListedTags
 pub mod TagLists
 pub mod CutPlaces

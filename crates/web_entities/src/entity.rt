@@ -1,9 +1,10 @@
 //! Entity tags.
-ghost use Rattle.std.specs.Prelude.{◌≡◌, true, false, not};
+ghost use Rattle.std.specs.Prelude.{◌≡◌, IfSome, true, false, not};
 ghost use Rattle.std.specs.Option.{option_map};
 ghost use Rattle.web_entities.specs.EntityTags.{is_tag_byte, is_tag_text as is_tag_text_lem};
 ghost use Rattle.web_entities.specs.EntityTags.{strong_eq as strong_eq_lem, has_weak_mark};
-ghost use Rattle.web_entities.specs.EntityTags.{weak_eq as weak_eq_lem, quoted_tag_of};
+ghost use Rattle.web_entities.specs.EntityTags.{equals, weak_eq as weak_eq_lem, quoted_tag_of};
+ghost use Rattle.web_entities.specs.EntityTags.{tag_of};
 
 use http_header::HeaderValue;
 use std::alloc::Global;
@@ -11,6 +12,15 @@ use std::fmt;
 use std::marker::Model;
 use web_headers::{TryIntoHeaderValue, printed_value};
 use web_texts::{Duplicate, Fail, InvalidHeaderValue, NoMemory, ParseError, ReadText, Text};
+
+/// How two tags are compared (RFC 9110, section 8.8.3.2).
+#[derive(Clone, Copy, Debug, PartialEq, Eq)]
+pub enum Comparison {
+    /// They are equal where both are strong and have one text.
+    Strong,
+    /// They are equal where they have one text.
+    Weak,
+}
 
 /// A tag of one version of a resource, weak or strong (RFC 9110, section 8.8.3). Its text is tag
 /// bytes alone: 0x21, 0x23 to 0x7E, and 0x80 and above. It is read from `"tag"` or `W/"tag"`.
@@ -135,6 +145,18 @@ impl EntityTag {
         self.tag == other.tag
     }
 
+    /// Whether the tag that a text is equals this one, by either comparison. `None` where the text
+    /// is no tag. It takes no memory.
+    pub fn equals_text(&self, comparison: Comparison, text: &str) -> Option<bool>
+        ensures { result ≡ option_map (λ t. equals comparison t self.now) (tag_of text.now) }
+    {
+        let (weak, tag) = tag_parts(text)?;
+        match comparison {
+            Comparison::Strong => Some(!weak && !self.weak && tag == self.tag()),
+            Comparison::Weak => Some(tag == self.tag()),
+        }
+    }
+
     /// The opposite of `strong_eq`.
     pub fn strong_ne(&self, other: &EntityTag) -> bool
         ensures { result ≡ not (strong_eq_lem self.now other.now) }
@@ -174,6 +196,20 @@ fn is_marked_weak(text: &str) -> bool
     }
 }
 
+/// Whether a tag is weak, and its text, where it stands in a text that is one.
+fn tag_parts(text: &str) -> Option<(bool, &str)>
+    ensures valid { IfSome result (λ parts. is_tag_text_lem parts.1.now ≡ true) }
+    ensures value { option_map (λ parts. record { weak = parts.0; tag = parts.1.now }) result
+        ≡ tag_of text.now }
+{
+    let weak = is_marked_weak(text);
+    let quoted = if weak { &text[2..] } else { text };
+    match quoted_tag(quoted) {
+        Some(tag) => Some((weak, tag)),
+        None => None,
+    }
+}
+
 impl ReadText for EntityTag {
     ghost use Rattle.std.specs.Prelude.{◌≡◌, None};
     ghost use Rattle.web_texts.specs.TextReaders.{NeverNoMemory, Reads};
@@ -186,10 +222,8 @@ impl ReadText for EntityTag {
         ensures value { Reads result (tag_of text.now) }
         ensures memory { tag_of text.now ≡ None → NeverNoMemory result }
     {
-        let weak = is_marked_weak(text);
-        let quoted = if weak { &text[2..] } else { text };
-        match quoted_tag(quoted) {
-            Some(tag) => Ok(EntityTag::new(weak, Text::of(alloc, tag)?)),
+        match tag_parts(text) {
+            Some((weak, tag)) => Ok(EntityTag::new(weak, Text::of(alloc, tag)?)),
             None => Err(Fail::Of(ParseError::Header)),
         }
     }

@@ -1,6 +1,13 @@
 //! If-None-Match.
-use crate::entity::EntityTag;
-use crate::tag_list::{fmt_tags, read_tags, says_any};
+ghost use Rattle.std.specs.Prelude.{◌≡◌, codes};
+ghost use Rattle.std.specs.Option.{option_map};
+ghost use Rattle.http_header.specs.HeaderMap.{get_all};
+ghost use Rattle.web_texts.specs.HeaderTexts.{value_bytes};
+ghost use Rattle.web_entities.specs.ListedTags.{if_there, lists_weakly};
+ghost use Rattle.web_entities.specs.TagLists.{if_none_match_of};
+
+use crate::entity::{Comparison, EntityTag};
+use crate::tag_list::{fmt_tags, is_listed, read_tags, says_any};
 use http_header::{HeaderMap, HeaderName, HeaderValue, IF_NONE_MATCH};
 use std::alloc::Global;
 use std::fmt;
@@ -49,6 +56,18 @@ impl Header for IfNoneMatch {
             Ok(tags) => Ok(IfNoneMatch::Items(tags)),
             Err(refused) => Err(refused),
         }
+    }
+}
+
+impl IfNoneMatch {
+    /// Whether the header lists this tag: `*`, or a tag that is weakly equal to it. `None` where
+    /// the header is absent or cannot be read. Tags are tested where they stand: reading the header
+    /// and testing each of its tags gives the same, but keeps them.
+    pub fn lists(headers: &HeaderMap<HeaderValue>, tag: &EntityTag) -> Option<bool>
+        ensures { result ≡ option_map (lists_weakly tag.now) (if_there if_none_match_of
+            (value_bytes (get_all headers.now (codes "if-none-match")))) }
+    {
+        is_listed(headers, &IF_NONE_MATCH, Comparison::Weak, tag)
     }
 }
 

@@ -20,7 +20,7 @@ pub use content_disposition::{ContentDisposition, DispositionType};
 pub use content_range::{ContentRange, ContentRangeSpec};
 pub use disposition_param::DispositionParam;
 pub use e_tag::ETag;
-pub use entity::EntityTag;
+pub use entity::{Comparison, EntityTag};
 pub use if_match::IfMatch;
 pub use if_none_match::IfNoneMatch;
 pub use if_range::IfRange;

@@ -1,20 +1,25 @@
 //! Range.
-ghost use Rattle.std.specs.Prelude.{◌≡◌, ◌∷◌, [], IfOk, flat_map};
-ghost use Rattle.std.specs.List.{join_by};
+ghost use Rattle.std.specs.Prelude.{◌≡◌, ◌∷◌, [], IfOk, codes, flat_map};
+ghost use Rattle.std.specs.List.{join_by, slice_split};
 ghost use Rattle.std.specs.Fmt.{WritesOnOk};
+ghost use Rattle.http_header.specs.HeaderMap.{get_all};
+ghost use Rattle.web_texts.specs.Bytes.{is_comma};
 ghost use Rattle.web_texts.specs.Digits.{number_of};
-ghost use Rattle.web_entities.specs.ByteRanges.{pair_of, bytes_of, byte_range_text};
-ghost use Rattle.web_entities.specs.ByteRanges.{from_pairs};
+ghost use Rattle.web_texts.specs.HeaderTexts.{value_bytes};
+ghost use Rattle.web_texts.specs.PieceItems.{item_of_piece, one_or_none};
+ghost use Rattle.web_headers.specs.HeaderReaders.{one_value_of};
+ghost use Rattle.web_entities.specs.ByteRanges.{byte_range_of, pair_of, bytes_of, byte_range_text};
+ghost use Rattle.web_entities.specs.ByteRanges.{from_pairs, one_range, only_spec, range_of};
 ghost use Rattle.web_entities.specs.declared.ranges.ByteRangeSpec.TheVariants as spec;
 ghost use Rattle.web_entities.specs.declared.ranges.Range.TheVariants as kind;
 
 use http_header::{HeaderMap, HeaderName, HeaderValue, RANGE};
 use std::alloc::Global;
 use std::fmt;
-use web_headers::{Header, TryIntoHeaderValue, from_one_value, printed_value};
+use web_headers::{EachComma, Header, TryIntoHeaderValue, from_one_value, printed_value};
 use web_texts::{
     Duplicate, Fail, InvalidHeaderValue, Items, NoMemory, ParseError, ReadText, Text, cut_at,
-    push_items, read_digits,
+    first_piece, first_text, push_items, read_digits, trim,
 };
 
 /// A range of the bytes of a representation (RFC 9110, section 14.1.2), counted from 0. It is read
@@ -57,6 +62,19 @@ pub fn read_pair(first: &str, last: &str) -> Option<(u64, u64)>
     if a <= b { Some((a, b)) } else { None }
 }
 
+fn read_spec(text: &str) -> Option<ByteRangeSpec>
+    ensures { result ≡ byte_range_of text.now }
+{
+    let (first, last) = cut_at(text, b'-')?;
+    if first.is_empty() {
+        read_number(last).map(ByteRangeSpec::Last)
+    } else if last.is_empty() {
+        read_number(first).map(ByteRangeSpec::From)
+    } else {
+        read_pair(first, last).map(|p| ByteRangeSpec::FromTo(p.0, p.1))
+    }
+}
+
 impl ReadText for ByteRangeSpec {
     ghost use Rattle.web_texts.specs.TextReaders.{Reads};
     ghost use Rattle.web_texts.specs.TextReaders.{NeverNoMemory};
@@ -68,17 +86,7 @@ impl ReadText for ByteRangeSpec {
         ensures value { Reads result (byte_range_of text.now) }
         ensures memory { NeverNoMemory result }
     {
-        let Some((first, last)) = cut_at(text, b'-') else {
-            return Err(Fail::Of(ParseError::Header));
-        };
-        let spec = if first.is_empty() {
-            read_number(last).map(ByteRangeSpec::Last)
-        } else if last.is_empty() {
-            read_number(first).map(ByteRangeSpec::From)
-        } else {
-            read_pair(first, last).map(|p| ByteRangeSpec::FromTo(p.0, p.1))
-        };
-        spec.ok_or(Fail::Of(ParseError::Header))
+        read_spec(text).ok_or(Fail::Of(ParseError::Header))
     }
 }
 
@@ -89,6 +97,50 @@ fn some_bytes(specs: Vec<ByteRangeSpec>) -> Option<Range>
         None
     } else {
         Some(Range::Bytes(Items::of(specs)))
+    }
+}
+
+/// The range in a piece, if it has one that can be read.
+fn spec_of_piece(piece: &str) -> Option<ByteRangeSpec>
+    ensures { one_or_none result ≡ item_of_piece byte_range_of piece.now }
+{
+    let item = trim(piece);
+    if item.is_empty() {
+        return None;
+    }
+    read_spec(item)
+}
+
+/// The range that stands between the commas of a text, where there is only one.
+fn only_range(text: &str) -> Option<ByteRangeSpec>
+    ensures { result ≡ only_spec
+        (flat_map (item_of_piece byte_range_of) (slice_split is_comma text.now)) }
+{
+    let mut only = None;
+    let mut rest = text;
+    'parts: loop {
+        let (part, behind) = first_piece::<EachComma>(rest);
+        match spec_of_piece(part) {
+            Some(spec) if only.is_none() => only = Some(spec),
+            Some(_) => return None,
+            None => {}
+        }
+        match behind {
+            Some(behind) => rest = behind,
+            None => return only,
+        }
+    }
+}
+
+/// The range of a value, where it is one range of bytes.
+fn only_range_of(value: &str) -> Option<ByteRangeSpec>
+    ensures { result ≡ one_range (range_of value.now) }
+{
+    let (unit, ranges) = cut_at(value, b'=')?;
+    if unit == "bytes" {
+        only_range(ranges)
+    } else {
+        None
     }
 }
 
@@ -123,6 +175,15 @@ impl Range {
         let mut specs = Vec::new(alloc);
         specs.push(ByteRangeSpec::FromTo(from, to))?;
         Ok(Range::Bytes(Items::of(specs)))
+    }
+
+    /// The range of the header, where it is one range of bytes. It is what reading the header would
+    /// give, but keeps no list and takes no memory.
+    pub fn only(headers: &HeaderMap<HeaderValue>) -> Option<ByteRangeSpec>
+        ensures { result ≡ one_range (one_value_of range_of
+            (value_bytes (get_all headers.now (codes "range")))) }
+    {
+        only_range_of(first_text(headers, &RANGE)?)
     }
 
     /// For each pair the bytes from its first to its second, both of them included.

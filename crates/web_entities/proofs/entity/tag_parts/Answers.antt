@@ -1,7 +1,7 @@
 use Rattle.std.proofs.Common.{arith, sym}
 use Rattle.std.proofs.lemmas.Str.{lead_after_ascii}
 use Rattle.web_entities.proofs.EntityTagLemmas.{marked_at}
-use Rattle.web_entities.proofs.entity.EntityTagReadText.parse.Goals as goal
+use Rattle.web_entities.proofs.entity.tag_parts.Goals as goal
 
 pub range_from-quoted-requires : goal.range_from-quoted-requires
 range_from-quoted-requires c some =
