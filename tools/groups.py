@@ -1,10 +1,12 @@
 """The groups of tests that are run and not proved, and how they become modules of one crate.
 
 A group is a folder of tests/, or the folder tests/ of a crate, by the crate's name. Each of its files is a module, which
-sees the others by `crate::`. The tests of a program stand among its own modules, and see these so too. A library whose
-name begins with `test_` is a group as well, though it is proved, and `pages` are the examples that stand in pages alone."""
+sees the others by `crate::`. The tests of a program stand among its own modules, and see these so too. One with a file
+`main.rs` is a program, which reads its file `stdin` and has to write its file `stdout`. A library whose name begins with
+`test_` is a group as well, though it is proved, and `pages` are the examples that stand in pages alone."""
 import os
 import re
+import shutil
 
 import pages
 import repository
@@ -44,9 +46,14 @@ def names():
     return [*folders(), *proved_crates(), PAGES]
 
 
+def is_program(name):
+    return name in folders() and os.path.isfile(os.path.join(folders()[name], "main.rs"))
+
+
 def stands_apart(name):
-    """Whether a group cannot be a part of another crate: a program whose specs name its own modules."""
-    return name in toolchain.program_crates() and bool(repository.sources(name, ["specs"]))
+    """Whether a group cannot be a part of another crate: a program, and the tests of one whose specs name its own
+    modules."""
+    return is_program(name) or name in toolchain.program_crates() and bool(repository.sources(name, ["specs"]))
 
 
 def text_of(path):
@@ -104,13 +111,53 @@ def modules_of(name):
     return {path: re.sub(r"\bcrate::", f"crate::{name}::", text) for path, text in found.items()}
 
 
-def parts(count):
-    """All groups in as many parts, which can be compiled beside each other: each in the smallest part, the largest first."""
-    sizes = {name: sum(map(len, modules_of(name).values())) for name in names()}
-    found = [[] for _ in range(count)]
-    for name in sorted(sizes, key=sizes.get, reverse=True):
-        min(found, key=lambda part: sum(sizes[it] for it in part)).append(name)
-    return found
+def bytes_below(group_names):
+    """The bytes of the libraries that these groups stand on."""
+    texts = [text for name in group_names for text in modules_of(name).values()]
+    ours = [it for it in libraries_in(texts) if it in repository.crates()]
+    return sum(os.path.getsize(path) for it in ours for path in repository.sources(it, ["src"], (".rt",)))
+
+
+def cost(group_names):
+    """About what it costs to compile these groups: a byte of a test is also turned into code, most of a library is not."""
+    modules = [text for name in group_names for text in modules_of(name).values()]
+    return bytes_below(group_names) + 3 * sum(map(len, modules))
+
+
+def parts(are_two):
+    """All groups in one part, or in two that are compiled beside each other, those on few libraries and the others; and
+    each that stands apart."""
+    joined = sorted((it for it in names() if not stands_apart(it)), key=lambda it: bytes_below([it]))
+    cuts = [(joined[:at], joined[at:]) for at in range(1, len(joined))] if are_two else [(joined,)]
+    return [*min(cuts, key=lambda cut: max(map(cost, cut))), *([it] for it in names() if stands_apart(it))]
+
+
+def write(path, text):
+    os.makedirs(os.path.dirname(path), exist_ok=True)
+    with open(path, "w", encoding="utf-8") as it:
+        it.write(text)
+
+
+def copy_crates(room):
+    """Copies the sources of all crates."""
+    left_out = shutil.ignore_patterns("out", "must-fail", "wrong-bodies")
+    shutil.copytree(os.path.join(repository.TOP, "crates"), f"{room}/crates", ignore=left_out)
+
+
+def write_list(room, listed):
+    """Makes a repository of these crates."""
+    write(f"{room}/crates.txt", "".join(f"{name}: {' '.join(below)}\n" for name, below in listed.items()))
+    os.mkdir(f"{room}/.git")
+
+
+def write_program(room, name):
+    """Writes a copy of all crates with a group that is a program, and returns the folder of its crate."""
+    copy_crates(room)
+    sources = {path: text_of(path) for path in files(folders()[name])}
+    for path, text in sources.items():
+        write(f"{room}/crates/{name}/src/{module(path)}.rt", text)
+    write_list(room, {**repository.listed_crates(), name: libraries_in(sources.values())})
+    return f"{room}/crates/{name}"
 
 
 def libraries_in(texts):

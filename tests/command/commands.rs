@@ -1,8 +1,9 @@
 //! Runs of the command, and their comparison with what is expected.
+use demo_command::run;
 use demo_handler::DemoHandler;
 use std::alloc::Global;
 use std::process::Abort;
-use web_cli::{Input, Output, Status, run};
+use web_cli::{Input, Output, Status};
 
 /// The arguments that serve a script.
 pub(crate) const SERVE: &[&str] = &["serve", "--pool=0"];

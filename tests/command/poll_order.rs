@@ -3,12 +3,14 @@ ghost use Rattle.std.specs.Prelude.{⊤};
 
 use crate::commands::{SERVE, assert_run, words};
 use bytes::Bytes;
+use demo_command::run;
+use demo_picked::Picked;
 use std::alloc::Global;
 use std::cell::Cell;
 use std::process::Abort;
 use std::rc::Rc;
 use web_body::{Poll, Step};
-use web_cli::{MemInput, Picked, PlainOutput, Status, run};
+use web_cli::{MemInput, PlainOutput, Status};
 use web_request::NoMemory;
 use web_worker::Handler;
 

@@ -1,2 +1,4 @@
+pub mod JoinedLemmas
 pub mod KeptLemmas
+pub mod NewlineLemmas
 pub mod StoredDocumentsLemmas

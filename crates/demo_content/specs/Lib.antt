@@ -1,2 +1,5 @@
+pub mod AnswerReplies
+pub mod DemoTexts
+pub mod PartsTexts
 pub mod StoredDocuments
 pub mod StoredVariants

@@ -1,3 +1,1 @@
 pub mod DemoFunctionsLemmas
-pub mod JoinedLemmas
-pub mod NewlineLemmas

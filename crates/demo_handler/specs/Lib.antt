@@ -1,4 +1,2 @@
 pub mod DemoFunctions
 pub mod DemoReplies
-pub mod DemoTexts
-pub mod PartsTexts

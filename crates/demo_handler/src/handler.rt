@@ -1,15 +1,14 @@
 //! The handler of the program.
 ghost use Rattle.std.specs.Prelude.{◌≡◌, IfOk, IsOk};
 ghost use Rattle.web_reply.specs.Responders.{text_reply};
-ghost use Rattle.demo_handler.specs.DemoReplies.{AnswersWithoutMemory, demo_reply, output_reply};
+ghost use Rattle.demo_handler.specs.DemoReplies.{AnswersWithoutMemory, demo_reply};
+ghost use Rattle.demo_content.specs.AnswerReplies.{output_reply};
 ghost use Rattle.demo_handler.specs.DemoReplies.{wait_of};
 
-use crate::answer::{
-    Answer, DemoOutput, cookies_answer, document_answer, raw_answer, variant_answer,
+use demo_content::{
+    Answer, Answering, DemoDocuments, DemoOutput, DemoVariants, PlainText, cookies_answer,
+    document_answer, raw_answer, variant_answer,
 };
-use crate::answering::Answering;
-use crate::texts::PlainText;
-use demo_content::{DemoDocuments, DemoVariants};
 use demo_picked::Picked;
 use std::alloc::Global;
 use web_request::NoMemory;

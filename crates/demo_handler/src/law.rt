@@ -1,11 +1,11 @@
 //! The functions that the program's arguments and handler meet.
 ghost use Rattle.demo_picked.specs.PickedFunctions.{picked_arguments};
-ghost use Rattle.demo_picked.specs.ServiceFunctions.{ArgumentsMeet, HandlerMeets};
+ghost use Rattle.demo_app.specs.ServiceFunctions.{ArgumentsMeet, HandlerMeets};
 ghost use Rattle.demo_handler.specs.DemoFunctions.{demo_handler};
 
-use crate::answer::DemoOutput;
 use crate::handler::DemoHandler;
 use demo_app::Demo;
+use demo_content::DemoOutput;
 use demo_picked::Picked;
 use web_extract::FromRequest;
 use web_reply::{Error, Responder};

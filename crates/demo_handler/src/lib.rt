@@ -2,20 +2,15 @@
 //! and `demo_picked`, and are re-exported here.
 #![tactic(auto)]
 
-mod answer;
-mod answering;
 mod handler;
 mod law;
-mod parts_text;
-mod texts;
 
-pub use answer::{Answer, DemoOutput};
-pub use answering::Answering;
 pub use demo_app::{Demo, DemoConn, DemoLayer, DemoLocal, Item};
 pub use demo_arguments::{
     AllLines, AllLinesFuture, CookieArguments, DataArguments, Delayed, Late, LateFuture, RawBody,
     Wait,
 };
+pub use demo_content::{Answer, Answering, DemoOutput};
 pub use demo_picked::{
     BothFuture, BoxedFuture, DataFuture, DecodedFuture, EitherItemFuture, FormFuture, FutureOf,
     IntoPicked, ItemFuture, JsonFuture, LinesFuture, OptionalFuture, Picked, PickedFuture,

@@ -6,7 +6,7 @@ use Rattle.demo_picked.specs.PickedArguments.{MeansPicked}
 use Rattle.demo_picked.specs.declared.picked.Picked.{Picked}
 use Rattle.demo_picked.proofs.PickedArgumentsLemmas.{picked_only}
 use Rattle.demo_picked.specs.PickedFunctions.{picked_arguments}
-use Rattle.demo_picked.specs.ServiceFunctions.{ArgumentsMeet, ConvertsTo}
+use Rattle.demo_app.specs.ServiceFunctions.{ArgumentsMeet, ConvertsTo}
 
 -- a result of the arguments is what it converts to
 converts_to_itself : (x : Result Picked Fault) → ConvertsTo (λ e f. f ≡ e) x x

@@ -7,4 +7,3 @@ pub mod PickedArguments
 pub mod PickedFunctions
 pub mod PickedRequests
 pub mod Picking
-pub mod ServiceFunctions

@@ -10,15 +10,18 @@
 //! (`rewritten_request`), and one that is a handler round a handler (`logged`); a body that is read
 //! piece by piece (`counted`), a request that was parsed elsewhere (`parsed_request`), exchanges
 //! that are told apart by their paths (`routes`), a handler whose reply is promised
-//! (`path_reply`), and forms with files (`upload`).
+//! (`path_reply`), forms with files (`upload`), the part of a file that is sent (`file_service`),
+//! and the coding that a proxy chooses (`compressing_proxy`).
 #![tactic(auto)]
 
 mod api_key;
 mod booking;
 mod booking_handlers;
 mod booking_layer;
+mod compressing_proxy;
 mod counted;
 mod echo;
+mod file_service;
 mod flight_rounds;
 mod hello;
 mod logged;
@@ -37,8 +40,10 @@ pub use api_key::ApiKey;
 pub use booking::Booking;
 pub use booking_handlers::{serve_form_bookings, serve_json_bookings};
 pub use booking_layer::{BookingLayer, Bookings, PlainText, Unprocessable};
+pub use compressing_proxy::coding_to_send;
 pub use counted::Counted;
 pub use echo::Echo;
+pub use file_service::{Sent, part_to_send};
 pub use flight_rounds::poll_rounds;
 pub use hello::{Site, serve_hello};
 pub use logged::Logged;

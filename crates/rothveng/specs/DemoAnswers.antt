@@ -3,8 +3,9 @@
 use Rattle.std.specs.Prelude.{◌≡◌, ℕ, List}
 use Rattle.demo_picked.specs.PickedFunctions.{picked_arguments}
 use Rattle.demo_handler.specs.DemoFunctions.{demo_handler}
-use Rattle.demo_handler.specs.DemoReplies.{HandlerAnswers, output_reply}
-use Rattle.web_cli.specs.ConnectionAnswers.{ArePickedAnswers}
+use Rattle.demo_handler.specs.DemoReplies.{HandlerAnswers}
+use Rattle.demo_content.specs.AnswerReplies.{output_reply}
+use Rattle.demo_command.specs.PickedScripts.{ArePickedAnswers}
 use Rattle.web_cli.specs.LoadTexts.{summary_text}
 use Rattle.web_cli.specs.ScriptAnswers.{replies_text}
 

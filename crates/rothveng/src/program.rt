@@ -8,9 +8,10 @@ ghost use Rattle.web_cli.specs.Run.{Headline, ReadFaultIsReported, RefusesWords,
 ghost use Rattle.web_cli.specs.Run.{TooLongIsReported, WriteFaultIsReported, WritesAlone};
 ghost use Rattle.rothveng.specs.DemoAnswers.{AreDemoAnswers, IsDemoSummary, IsDemoText};
 
+use demo_command::run;
 use demo_handler::DemoHandler;
 use std::alloc::Global;
-use web_cli::{Input, Output, Status, run};
+use web_cli::{Input, Output, Status};
 
 /// [`run`] with the program's own handler.
 pub fn run_program<I: Input, O: Output>(

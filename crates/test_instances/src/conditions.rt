@@ -54,7 +54,7 @@ fn set_tag(rt: &impl Abort, alloc: Global, text: &str) -> bool {
     if !EntityTag::is_tag_text(first.as_str()) || !EntityTag::is_tag_text(other.as_str()) {
         panic!(rt; "no text of a tag");
     }
-    let mut tag = EntityTag::new_strong(first);
+    let mut tag = EntityTag::strong(first);
     tag.set_tag(other);
     tag.tag() == text
 }

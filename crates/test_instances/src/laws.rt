@@ -2,7 +2,7 @@
 use bytes::Bytes;
 use example_handlers::{Booking, Echo};
 use web_arguments::{date_header_law, header_law, path_law, query_law};
-use web_body::{Marks, Ready, buffered_law, pending_count_law};
+use web_body::{Marks, buffered_law, pending_count_law};
 use web_build::layering_law;
 use web_cutting::{
     argument_cutting_law, argument_within_law, capped_cutting_law, capped_taking_law,
@@ -13,7 +13,7 @@ use web_cutting::{
     value_cutting_law, value_taking_law,
 };
 use web_extract::{
-    Error, connection_law, data_law, first_taker_law, head_law, list_law, nesting_law,
+    Error, Ready, connection_law, data_law, first_taker_law, head_law, list_law, nesting_law,
     optional_law, payload_law, place_law,
 };
 use web_headers::ContentLength;

@@ -15,7 +15,7 @@ use web_extract::{Configs, FromRequest, LayerConfigs, NoHandler};
 use web_reply::{
     Cause, Error, HttpResponse, MappedError, ResponseError, ResponseMapper, WholeBody,
 };
-use web_request::{App, AppLayer, ConfigChoice, Data, NoData, NoMemory, RequestHead};
+use web_request::{App, AppLayer, ConfigChoice, NoData, NoMemory, RequestHead};
 use web_texts::Mime;
 use web_types::Json;
 
@@ -98,7 +98,7 @@ impl ConfigChoice<NumberLayer> for Number {
         Some(&layer.number)
     }
 
-    fn shared(_layer: &NumberLayer) -> Option<&Data<u32>> {
+    fn shared(_layer: &NumberLayer) -> Option<&u32> {
         None
     }
 }

@@ -23,9 +23,9 @@ use Rattle.demo_app.specs.declared.layer.DemoLayer.{DemoLayer}
 use Rattle.demo_app.specs.declared.app.DemoLocal.{DemoLocal}
 use Rattle.demo_app.specs.declared.app.DemoConn.{DemoConn}
 use Rattle.demo_app.specs.DemoRequests.{DemoRequest, demo_request}
-use Rattle.demo_picked.specs.ServiceFunctions.{ArgumentFunctions, ArgumentsMeet, ConvertsTo}
-use Rattle.demo_picked.specs.ServiceFunctions.{HandlerFunctions, HandlerMeets}
-use Rattle.demo_picked.specs.ServiceFunctions.{delay_from, delay_of, reply_from, reply_of}
+use Rattle.demo_app.specs.ServiceFunctions.{ArgumentFunctions, ArgumentsMeet, ConvertsTo}
+use Rattle.demo_app.specs.ServiceFunctions.{HandlerFunctions, HandlerMeets}
+use Rattle.demo_app.specs.ServiceFunctions.{delay_from, delay_of, reply_from, reply_of}
 use Rattle.web_cli.specs.DemoExchanges.{demo_exchange, demo_pool}
 use Rattle.web_cli.specs.ScriptAnswers.{arguments_of}
 

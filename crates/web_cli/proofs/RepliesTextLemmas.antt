@@ -30,8 +30,8 @@ use Rattle.demo_app.specs.declared.layer.DemoLayer.{DemoLayer}
 use Rattle.demo_app.specs.declared.app.DemoLocal.{DemoLocal}
 use Rattle.demo_app.specs.declared.app.DemoConn.{DemoConn}
 use Rattle.web_cli.specs.DemoExchanges.{demo_exchange, demo_pool}
-use Rattle.demo_picked.specs.ServiceFunctions.{ArgumentFunctions, ArgumentsMeet}
-use Rattle.demo_picked.specs.ServiceFunctions.{HandlerFunctions, HandlerMeets, delay_of, reply_of}
+use Rattle.demo_app.specs.ServiceFunctions.{ArgumentFunctions, ArgumentsMeet}
+use Rattle.demo_app.specs.ServiceFunctions.{HandlerFunctions, HandlerMeets, delay_of, reply_of}
 use Rattle.web_cli.specs.ScriptAnswers.{AppendsCallsTo, AreRepliesTo, IsServed, arguments_of, calls_to}
 use Rattle.web_cli.specs.ScriptAnswers.{delay_in, outcome_in, replies_to, script_outcomes, script_pool}
 use Rattle.web_cli.specs.LoadTexts.{IsSummaryOf, replay_capacity, summary_of}

@@ -13,8 +13,6 @@ use Rattle.web_messages.specs.declared.limits.Limits.{Limits}
 use Rattle.web_http1.specs.Answers.{Answers}
 use Rattle.web_http1.specs.declared.ended.Ended.{Ended}
 use Rattle.demo_app.specs.DemoRequests.{DemoRequest}
-use Rattle.demo_picked.specs.declared.picked.Picked.{Picked}
-use Rattle.demo_picked.specs.PickedArguments.{MeansPicked}
 use Rattle.web_cli.specs.DemoExchanges.{demo_pool}
 use Rattle.web_cli.specs.Run.{AllocationFails, FailsToRead, HasNoMemory, too_long_text}
 use Rattle.web_cli.specs.declared.status.Status.{Status}
@@ -38,13 +36,6 @@ AreAnswers means converts answers responds capacity bytes text =
     (λ (f : Feed). f) (λ u n x. ⊥) (λ u n x. ⊥) (demo_pool capacity))
     connection_limits bytes given end
     → text ≡ given
-
--- the same with the program's own arguments
-abbrev pub ArePickedAnswers : {Y : Type 0} → (Picked → ℕ → Y → Type 0)
-    → (Y → DemoRequest → Reply Plain → Type 0) → ℕ → List ℕ → List ℕ → Type 0
-ArePickedAnswers answers responds capacity bytes text =
-    AreAnswers (λ q m rest n x. MeansPicked q m rest n x) (λ e f. f ≡ e) answers responds capacity
-    bytes text
 
 -- `answers` relates the bytes that came and the text that answers them
 module _ (answers : List ℕ → List ℕ → Type 0) where

@@ -1,7 +1,6 @@
 pub mod CommandWords
 pub mod DemoExchanges
 pub mod LoadTexts
-pub mod PickedScripts
 pub mod Run
 pub mod ConnectionAnswers
 pub mod ScriptAnswers

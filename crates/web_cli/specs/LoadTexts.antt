@@ -9,8 +9,8 @@ use Rattle.cli_print.specs.SummaryText.{summary}
 use Rattle.demo_app.specs.declared.layer.DemoLayer.{DemoLayer}
 use Rattle.demo_app.specs.declared.app.DemoLocal.{DemoLocal}
 use Rattle.demo_app.specs.declared.app.DemoConn.{DemoConn}
-use Rattle.demo_picked.specs.ServiceFunctions.{ArgumentFunctions, ArgumentsMeet}
-use Rattle.demo_picked.specs.ServiceFunctions.{HandlerFunctions, HandlerMeets}
+use Rattle.demo_app.specs.ServiceFunctions.{ArgumentFunctions, ArgumentsMeet}
+use Rattle.demo_app.specs.ServiceFunctions.{HandlerFunctions, HandlerMeets}
 use Rattle.web_cli.specs.ScriptAnswers.{script_outcomes, script_pool}
 
 -- the script of a load

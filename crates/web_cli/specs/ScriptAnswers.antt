@@ -24,8 +24,8 @@ use Rattle.demo_app.specs.declared.layer.DemoLayer.{DemoLayer}
 use Rattle.demo_app.specs.declared.app.DemoLocal.{DemoLocal}
 use Rattle.demo_app.specs.declared.app.DemoConn.{DemoConn}
 use Rattle.demo_app.specs.DemoRequests.{demo_request}
-use Rattle.demo_picked.specs.ServiceFunctions.{ArgumentFunctions, ArgumentsMeet}
-use Rattle.demo_picked.specs.ServiceFunctions.{HandlerFunctions, HandlerMeets, delay_of, reply_of}
+use Rattle.demo_app.specs.ServiceFunctions.{ArgumentFunctions, ArgumentsMeet}
+use Rattle.demo_app.specs.ServiceFunctions.{HandlerFunctions, HandlerMeets, delay_of, reply_of}
 use Rattle.web_cli.specs.DemoExchanges.{demo_exchange, demo_pool}
 use Rattle.web_cli.specs.declared.script_answer.ScriptAnswer.{ScriptAnswer}
 use Rattle.web_cli.specs.declared.script_answer.ScriptAnswer.TheVariants as answer

@@ -24,11 +24,7 @@ pub use cli_script::{
     read_script, read_script_into, target_law,
 };
 pub use demo_app::{Demo, DemoConn, DemoLayer, DemoLocal, Item};
-pub use demo_arguments::{
-    AllLines, CookieArguments, DataArguments, Delayed, Late, LateFuture, RawBody, Wait,
-};
 pub use demo_flights::DemoFlights;
-pub use demo_picked::{Picked, PickedFuture, picked_law};
-pub use serving::run;
+pub use serving::run_over;
 pub use status::Status;
 pub use words::{Command, command_of};

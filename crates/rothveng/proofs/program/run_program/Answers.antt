@@ -1,9 +1,10 @@
 use Rattle.std.specs.Prelude.{◌≡◌, None, ⊤}
 use Rattle.demo_handler.specs.DemoFunctions.{demo_handler}
-use Rattle.demo_handler.specs.DemoReplies.{HandlerAnswers, output_reply}
+use Rattle.demo_handler.specs.DemoReplies.{HandlerAnswers}
+use Rattle.demo_content.specs.AnswerReplies.{output_reply}
 use Rattle.demo_handler.proofs.DemoFunctionsLemmas.{demo_meets}
 use Rattle.web_cli.specs.LoadTexts.{load_script}
-use Rattle.web_cli.specs.PickedScripts.{AppendsPickedCalls, ArePickedReplies, IsPickedSummary}
+use Rattle.demo_command.specs.PickedScripts.{AppendsPickedCalls, ArePickedReplies, IsPickedSummary}
 use Rattle.web_cli.proofs.RunLemmas.{alone_as, headline_as, result_as}
 use Rattle.rothveng.specs.DemoAnswers.{IsDemoSummary, IsDemoText}
 use Rattle.rothveng.proofs.program.run_program.Goals as goal

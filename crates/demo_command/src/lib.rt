@@ -1,0 +1,6 @@
+//! The command over the demo's arguments, with any handler of them.
+#![tactic(auto)]
+
+mod run;
+
+pub use run::run;
