@@ -3,6 +3,7 @@ mod accept;
 mod arguments;
 mod body;
 mod cookies;
+mod documents;
 mod extract;
 mod http1;
 mod item;
@@ -14,6 +15,7 @@ mod refusal;
 mod request;
 mod response;
 mod script;
+mod tags;
 mod text;
 mod worker;
 
