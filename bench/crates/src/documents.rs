@@ -11,6 +11,7 @@ use http::header::{
 };
 use http::{Method, StatusCode};
 use std::collections::HashMap;
+use std::hint::black_box;
 use std::ops::Range;
 use std::sync::LazyLock;
 use std::time::{Duration, SystemTime};
@@ -25,13 +26,19 @@ struct Document {
     body: Bytes,
 }
 
-/// The demo's documents by their paths, which are stored when the first of them is asked for.
-static DOCUMENTS: LazyLock<HashMap<&str, Document>> = LazyLock::new(|| {
+/// Documents by their paths.
+struct Store(HashMap<&'static str, Document>);
+
+/// The demo's documents, which are stored when the first of them is asked for.
+static STORE: LazyLock<Store> = LazyLock::new(|| {
     let (strong, weak) = (Tag::strong("v1"), Tag::weak("e"));
-    HashMap::from([
-        ("/doc/a", Document::of(strong, b"0123456789")),
-        ("/doc/empty", Document::of(weak, b"")),
-    ])
+    Store(HashMap::from([
+        (
+            "/doc/a",
+            Document::of(strong, Bytes::from_static(b"0123456789")),
+        ),
+        ("/doc/empty", Document::of(weak, Bytes::new())),
+    ]))
 });
 
 /// What the conditions of a request come to.
@@ -47,15 +54,49 @@ enum Verdict {
 
 /// The reply to a request for one of the documents.
 pub fn reply(request: &Request) -> Response {
-    match DOCUMENTS.get(request.target.path()) {
-        Some(document) => document.reply(request),
-        None => Response::empty(StatusCode::NOT_FOUND),
+    STORE.reply(request)
+}
+
+/// The text of the last of so many replies to a request for the one document of a store, which has
+/// so many bytes.
+pub fn last_reply(numbers: [&str; 2], request: &str, headers: &[&str]) -> Option<String> {
+    let [count, size] = numbers.map(|digits| number(digits.as_bytes(), 1_000_000_000));
+    let body = Bytes::from(vec![b'x'; size? as usize]);
+    let document = Document::of(Tag::strong("v1"), body);
+    let store = Store(HashMap::from([("/doc/a", document)]));
+    let mut request = Request::read(request.as_bytes()).ok()?;
+    for pair in headers.chunks_exact(2) {
+        let name = HeaderName::from_bytes(pair[0].as_bytes()).ok()?;
+        request.headers.append(name, pair[1].parse().ok()?);
+    }
+    let mut reply = store.reply(&request);
+    for _ in 1..count? {
+        reply = black_box(&store).reply(black_box(&request));
+    }
+    Some(shown(&reply))
+}
+
+/// The status, the headers, and how long the body is.
+fn shown(reply: &Response) -> String {
+    let mut shown = format!("status {}\n", reply.status.as_u16());
+    for (name, value) in &reply.headers {
+        shown += &format!("{name}: {}\n", value.to_str().unwrap_or(""));
+    }
+    shown + &format!("body {}\n", reply.body.len())
+}
+
+impl Store {
+    fn reply(&self, request: &Request) -> Response {
+        match self.0.get(request.target.path()) {
+            Some(document) => document.reply(request),
+            None => Response::empty(StatusCode::NOT_FOUND),
+        }
     }
 }
 
 impl Document {
     /// A plain text of the demo's date.
-    fn of(tag: Tag<'static>, body: &'static [u8]) -> Document {
+    fn of(tag: Tag<'static>, body: Bytes) -> Document {
         let modified = SystemTime::UNIX_EPOCH + Duration::from_secs(1_700_000_000);
         let shared = |text: String| HeaderValue::try_from(text).expect("it is visible text");
         let mut validators = HeaderMap::new();
@@ -67,7 +108,7 @@ impl Document {
         Document {
             validators,
             headers,
-            body: Bytes::from_static(body),
+            body,
             tag,
             modified,
         }

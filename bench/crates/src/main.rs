@@ -49,6 +49,11 @@ fn main() -> ExitCode {
         ["generate", seed, count] => Load::read(seed, count).map(|load| say(&load.script(), 0)),
         ["replay", seed, count] => Load::read(seed, count).map(|load| replay(&load)),
         ["http1", pool] => capacity(pool).map(connect),
+        // For bench/documents/run.
+        ["documents", count, size, request, ref headers @ ..] => {
+            documents::last_reply([count, size], request, headers)
+                .map(|text| say(text.as_bytes(), 0))
+        }
         _ => None,
     };
     known.unwrap_or_else(|| say(USAGE, 64))
