@@ -96,5 +96,5 @@ def nanoseconds(words, few, many):
     return (seconds[1] - seconds[0]) * 1e9 / (many - few)
 
 
-def columns(ours, theirs):
-    return "%8.0f %8.0f %6.2f" % (ours, theirs, ours / theirs)
+def columns(ours, *others):
+    return "%8.0f" % ours + "".join(" %8.0f %6.2f" % (theirs, ours / theirs) for theirs in others)

@@ -2,6 +2,7 @@
 use crate::accept::Accept;
 use crate::body::Collect;
 use crate::cookies;
+use crate::documents;
 use crate::extract;
 use crate::item::Item;
 use crate::layer::{FormConfig, JsonConfig};
@@ -111,6 +112,7 @@ fn without_delay(request: &Request) -> Answer {
             let text = text.ok_or_else(|| Refusal::bad_request("cookie is not UTF-8"))?;
             Ok(Response::text(text))
         }
+        Segment::Documents => Ok(documents::reply(request)),
         _ => Ok(Response::empty(StatusCode::NOT_FOUND)),
     }
 }

@@ -3,6 +3,7 @@ mod accept;
 mod arguments;
 mod body;
 mod cookies;
+mod documents;
 mod extract;
 mod http1;
 mod item;
@@ -14,6 +15,7 @@ mod refusal;
 mod request;
 mod response;
 mod script;
+mod tags;
 mod text;
 mod worker;
 
@@ -47,6 +49,11 @@ fn main() -> ExitCode {
         ["generate", seed, count] => Load::read(seed, count).map(|load| say(&load.script(), 0)),
         ["replay", seed, count] => Load::read(seed, count).map(|load| replay(&load)),
         ["http1", pool] => capacity(pool).map(connect),
+        // For bench/documents/run.
+        ["documents", count, size, request, ref headers @ ..] => {
+            documents::last_reply([count, size], request, headers)
+                .map(|text| say(text.as_bytes(), 0))
+        }
         _ => None,
     };
     known.unwrap_or_else(|| say(USAGE, 64))

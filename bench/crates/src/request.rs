@@ -42,6 +42,7 @@ pub enum Segment {
     Header,
     Cookies,
     Lines,
+    Documents,
     Other,
 }
 
@@ -170,9 +171,9 @@ impl Segment {
             "header" => Segment::Header,
             "cookies" => Segment::Cookies,
             "lines" => Segment::Lines,
-            "capped" | "capped-json" | "data" | "option" | "raw" | "result" | "wait" | "who" => {
-                return None;
-            }
+            "doc" => Segment::Documents,
+            "capped" | "capped-json" | "data" | "option" | "parts" | "raw" | "result"
+            | "variant" | "wait" | "who" => return None,
             _ => Segment::Other,
         })
     }

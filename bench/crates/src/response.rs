@@ -3,13 +3,13 @@ use crate::refusal::Refusal;
 use crate::text::{put_line, put_number};
 use bytes::Bytes;
 use http::StatusCode;
-use http::header::{CONTENT_TYPE, HeaderMap, HeaderValue};
+use http::header::{CONTENT_TYPE, HeaderMap, HeaderName, HeaderValue};
 use std::borrow::Cow;
 
 pub struct Response {
     pub status: StatusCode,
-    headers: HeaderMap,
-    body: Bytes,
+    pub headers: HeaderMap,
+    pub body: Bytes,
 }
 
 impl Response {
@@ -40,6 +40,12 @@ impl Response {
             headers,
             body,
         }
+    }
+
+    /// The same with this header.
+    pub fn with(mut self, name: HeaderName, value: HeaderValue) -> Response {
+        self.headers.insert(name, value);
+        self
     }
 
     /// Adds the status, the headers by their names, and the body.

@@ -1,8 +1,8 @@
 -- The lines of headers: the names in the order of their bytes, each with its values.
-use Rattle.std.specs.Prelude.{ℕ, List, ◌++◌, codes, flat_map}
+use Rattle.std.specs.Prelude.{ℕ, ◌&&◌, Bool, true, List, [], ◌∷◌, ◌++◌, codes, flat_map}
 use Rattle.http_header.specs.FieldValue.{FieldValue}
 use Rattle.http_header.specs.HeaderMap.{Entries, keys, get_all}
-use Rattle.web_describe.specs.SortedNames.{sorted_names}
+use Rattle.web_describe.specs.SortedNames.{before, sorted_names}
 use Rattle.cli_print.specs.TextLines.{line_text}
 
 abbrev pub header_line : List ℕ → FieldValue → List ℕ
@@ -17,3 +17,13 @@ name_lines headers name = flat_map (header_line name) (get_all headers name)
 
 abbrev pub header_lines : Entries FieldValue → List ℕ
 header_lines headers = flat_map (name_lines headers) (sorted_names (keys headers))
+
+-- a name precedes the first of these, and each of these the next
+abbrev pub is_increasing_from : List ℕ → List (List ℕ) → Bool
+is_increasing_from a [] = true
+is_increasing_from a (b ∷ names) = before a b && is_increasing_from b names
+
+-- each name precedes the next
+abbrev pub is_increasing : List (List ℕ) → Bool
+is_increasing [] = true
+is_increasing (a ∷ names) = is_increasing_from a names

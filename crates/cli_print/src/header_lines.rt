@@ -1,7 +1,9 @@
 //! The lines of the headers.
 ghost use Rattle.std.specs.Prelude.{◌≡◌, ◌++◌, OnOk, flat_map, map};
-ghost use Rattle.http_header.specs.HeaderMap.{pairs};
-ghost use Rattle.cli_print.specs.HeaderLines.{header_line, header_lines, name_lines, pair_line};
+ghost use Rattle.http_header.specs.HeaderMap.{keys, pairs};
+ghost use Rattle.web_describe.specs.SortedNames.{before};
+ghost use Rattle.cli_print.specs.HeaderLines.{header_line, header_lines, is_increasing, name_lines};
+ghost use Rattle.cli_print.specs.HeaderLines.{pair_line};
 
 use crate::lines::put;
 use http_header::{HeaderMap, HeaderName, HeaderValue};
@@ -58,8 +60,32 @@ fn put_unsorted(out: &mut Vec<u8>, headers: &HeaderMap<HeaderValue>) -> Result<(
     Ok(())
 }
 
-/// The lines of all headers, sorted by the bytes of their names. A single name is not sorted, which
-/// would allocate.
+/// Whether a name stands before another by its bytes.
+fn is_before(name: &HeaderName, other: &HeaderName) -> bool
+    ensures { result ≡ before name.now other.now }
+{
+    name.as_str().cmp(other.as_str()).is_lt()
+}
+
+/// Whether each name stands before the next one.
+fn has_sorted_names(headers: &HeaderMap<HeaderValue>) -> bool
+    ensures { result ≡ is_increasing (keys headers.now) }
+{
+    let mut names = headers.keys();
+    let Some(mut last) = names.next() else {
+        return true;
+    };
+    for name in names {
+        if !is_before(last, name) {
+            return false;
+        }
+        last = name;
+    }
+    true
+}
+
+/// The lines of all headers, sorted by the bytes of their names. Names that stand sorted are not
+/// sorted again, which would allocate, nor are their values looked up.
 pub(crate) fn put_headers(
     alloc: Global,
     out: &mut Vec<u8>,
@@ -67,7 +93,7 @@ pub(crate) fn put_headers(
 ) -> Result<(), NoMemory>
     ensures { OnOk result (out.new.items ≡ out.old.items ++ header_lines headers.now) }
 {
-    if headers.keys_len() < 2 {
+    if has_sorted_names(headers) {
         return put_unsorted(out, headers);
     }
     let names = sorted_names(alloc, headers)?;

@@ -1,8 +1,8 @@
 -- The second that a text shows, by the relation of dates.
-use Rattle.std.proofs.Common.{◌≡◌, ℕ, Bool, true, false, List, [], ◌∷◌, Option, None, Some, refl, ap, ◌∙◌}
-use Rattle.std.proofs.lemmas.Bool.{cond-true, cond-false, false≢true}
+use Rattle.std.proofs.Common.{◌≡◌, ℕ, Bool, true, false, List, [], ◌∷◌, Option, None, Some, refl, ap, sym, ◌∙◌}
+use Rattle.std.proofs.lemmas.Bool.{cond-true, cond-false}
 use Rattle.std.specs.Prelude.{nat_eq, slice_get}
-use Rattle.std.specs.Option.{option_and_then, option_eq}
+use Rattle.std.specs.Option.{option_and_then, option_eq, option_map}
 use Rattle.http_header.specs.FieldValue.{FieldValue}
 use Rattle.httpdate.specs.declared.parts.Parts.{Parts}
 use Rattle.httpdate.specs.declared.date.HttpDate.{HttpDate}
@@ -11,12 +11,11 @@ use Rattle.httpdate.specs.Reader.{parse}
 use Rattle.httpdate.specs.Valid.{IsValid, is_valid}
 use Rattle.httpdate.proofs.FormatLemmas.{parse_complete, parse_sound}
 use Rattle.httpdate.proofs.ValidLemmas.{is_valid_complete, is_valid_sound}
-use Rattle.web_texts.specs.HeaderTexts.{first_text_of, value_bytes}
+use Rattle.web_texts.specs.HeaderTexts.{header_text, value_bytes}
 use Rattle.web_headers.specs.DateHeaders.{HasNoDate, SaysDate}
-use Rattle.web_entities.specs.EntityTags.{Tag, strong_eq}
-use Rattle.web_entities.specs.IfRanges.{FirstTextSays}
-use Rattle.web_entities.specs.declared.if_range.IfRange.TheVariants as if_range
-use Rattle.web_docs.specs.Conditions.{is_there, names_version, range_condition, text_names_version}
+use Rattle.web_entities.specs.EntityTags.{Tag, equals}
+use Rattle.web_entities.specs.declared.entity.Comparison.TheVariants.{Strong}
+use Rattle.web_docs.specs.Conditions.{names_version, range_condition, text_names_version}
 use Rattle.web_docs.specs.declared.document.Document.{Document}
 
 valid : (d : HttpDate) → IsValid d.parts
@@ -53,28 +52,21 @@ secs_unsaid (Some text) says = no_secs text says
 -- ---- If-Range
 
 module _ (d : Document) where
-  pub range_tag : (t : Option (List ℕ)) (n : Tag) → FirstTextSays t (Some (if_range.EntityTag n)) → text_names_version d t ≡ strong_eq n d.tag
-  range_tag None n says = absurd (cc)
-  range_tag (Some text) n says = ap (names_version d text) says
+  pub range_tag : (text : List ℕ) (said : Option Tag) (is : Bool) → Some is ≡ option_map (λ t. equals Strong t d.tag) said → names_version d text said ≡ is
+  range_tag text None is e = absurd (cc)
+  range_tag text (Some tag) is e = cc
 
-  pub range_date : (t : Option (List ℕ)) (date : HttpDate) → FirstTextSays t (Some (if_range.Date date)) → text_names_version d t ≡ nat_eq (unix_secs date) (unix_secs d.modified)
-  range_date None date says = absurd (cc)
-  range_date (Some text) date says = ap (names_version d text) says.0 ∙ ap (λ s. option_eq nat_eq s (Some (unix_secs d.modified))) (date_secs text date says.1)
+  pub range_date : (text : List ℕ) (said : Option Tag) → None ≡ option_map (λ t. equals Strong t d.tag) said
+      → names_version d text said ≡ option_eq nat_eq (parse_secs text) (Some (unix_secs d.modified))
+  range_date text None e = refl
+  range_date text (Some tag) e = absurd (cc)
 
-  pub range_none : (t : Option (List ℕ)) → FirstTextSays t None → text_names_version d t ≡ false
-  range_none None says = refl
-  range_none (Some text) says = ap (names_version d text) says.0 ∙ ap (λ s. option_eq nat_eq s (Some (unix_secs d.modified))) (no_secs text says.1)
+  pub range_there : (vs : List FieldValue) (first : FieldValue) → Some first ≡ slice_get vs 0 → range_condition d (value_bytes vs) ≡ text_names_version d (header_text first)
+  range_there [] first is = absurd (cc)
+  range_there (v ∷ vs) first is =
+      let same : first ≡ v = cc in
+      ap (λ x. text_names_version d (header_text x)) (sym same)
 
-  pub range_there : (vs : List FieldValue) → is_there vs ≡ true → range_condition d (value_bytes vs) ≡ text_names_version d (first_text_of (value_bytes vs))
-  range_there [] is = absurd (false≢true is)
-  range_there (v ∷ vs) is = refl
-
--- ---- a header that is there
-
-pub there_some : (vs : List FieldValue) (x : FieldValue) → Some x ≡ slice_get vs 0 → is_there vs ≡ true
-there_some [] x is = absurd (cc)
-there_some (v ∷ vs) x is = refl
-
-pub there_none : (vs : List FieldValue) → None ≡ slice_get vs 0 → is_there vs ≡ false
-there_none [] is = refl
-there_none (v ∷ vs) is = absurd (cc)
+  pub range_absent : (vs : List FieldValue) → None ≡ slice_get vs 0 → range_condition d (value_bytes vs) ≡ true
+  range_absent [] is = refl
+  range_absent (v ∷ vs) is = absurd (cc)

@@ -4,9 +4,9 @@ use Rattle.std.specs.Prelude.{◌||◌, codes, not, if◌then◌else◌}
 use Rattle.std.proofs.lemmas.Bool.{cond-false}
 use Rattle.std.proofs.lemmas.Bool.Decides.{nat_tests}
 use Rattle.web_headers.specs.HeaderReaders.{one_value_of}
-use Rattle.web_entities.specs.ByteRanges.{range_of}
+use Rattle.web_entities.specs.ByteRanges.{one_range, range_of}
 use Rattle.web_entities.specs.declared.ranges.ByteRangeSpec.{ByteRangeSpec}
-use Rattle.web_docs.specs.Conditions.{Headers, one_range, values}
+use Rattle.web_docs.specs.Conditions.{Headers, values}
 use Rattle.web_docs.specs.Verdicts.{is_get, is_head, part_or_all, verdict_of, wanted_range}
 use Rattle.web_docs.specs.declared.document.Document.{Document}
 use Rattle.web_docs.specs.declared.verdict.Verdict.TheVariants as verdict

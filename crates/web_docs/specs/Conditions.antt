@@ -3,20 +3,15 @@
 use Rattle.std.specs.Prelude.{ℕ, Bool, true, false, not, List, [], ◌∷◌, nat_eq, nat_le, nat_lt}
 use Rattle.std.specs.Prelude.{codes, Option, None, Some}
 use Rattle.std.specs.Option.{option_and_then, option_eq, option_map, option_or}
-use Rattle.std.specs.List.{list_any}
 use Rattle.http_header.specs.FieldValue.{FieldValue}
 use Rattle.http_header.specs.HeaderMap.{Entries, get_all}
 use Rattle.httpdate.specs.Date.{parse_secs, unix_secs}
 use Rattle.web_texts.specs.HeaderTexts.{first_text_of, header_text_of, value_bytes}
-use Rattle.web_entities.specs.EntityTags.{Tag, strong_eq, tag_of, weak_eq}
+use Rattle.web_entities.specs.EntityTags.{Tag, strong_eq, tag_of}
+use Rattle.web_entities.specs.ListedTags.{if_there, lists_strongly, lists_weakly}
 use Rattle.web_entities.specs.TagLists.{if_match_of, if_none_match_of}
 use Rattle.web_entities.specs.declared.if_match.IfMatch.{IfMatch}
-use Rattle.web_entities.specs.declared.if_match.IfMatch.TheVariants as match_header
 use Rattle.web_entities.specs.declared.if_none_match.IfNoneMatch.{IfNoneMatch}
-use Rattle.web_entities.specs.declared.if_none_match.IfNoneMatch.TheVariants as none_match_header
-use Rattle.web_entities.specs.declared.ranges.ByteRangeSpec.{ByteRangeSpec}
-use Rattle.web_entities.specs.declared.ranges.Range.{Range}
-use Rattle.web_entities.specs.declared.ranges.Range.TheVariants as range
 use Rattle.web_docs.specs.declared.document.Document.{Document}
 
 abbrev pub Headers : Type 0
@@ -25,15 +20,6 @@ Headers = Entries FieldValue
 -- the values of a header
 abbrev pub values : List ℕ → Headers → List (List ℕ)
 values name headers = value_bytes (get_all headers name)
-
-abbrev pub is_there : List FieldValue → Bool
-is_there [] = false
-is_there (first ∷ more) = true
-
--- A header that is absent, or that its reader refuses, asks for nothing.
-abbrev pub if_there : {T : Type 0} → (List (List ℕ) → Option T) → List (List ℕ) → Option T
-if_there read [] = None
-if_there read (first ∷ more) = read (first ∷ more)
 
 abbrev pub asked_if_match : Headers → Option IfMatch
 asked_if_match headers = if_there if_match_of (values (codes "if-match") headers)
@@ -44,16 +30,6 @@ asked_if_none_match headers = if_there if_none_match_of (values (codes "if-none-
 -- a date, in seconds since 1970
 abbrev pub seconds_of : List (List ℕ) → Option ℕ
 seconds_of values = option_and_then parse_secs (first_text_of values)
-
--- `*`, or some tag that is this one, both of them strong
-abbrev pub lists_strongly : Tag → IfMatch → Bool
-lists_strongly tag match_header.Any = true
-lists_strongly tag (match_header.Items tags) = list_any (λ t. strong_eq t tag) tags
-
--- `*`, or some tag of the same text
-abbrev pub lists_weakly : Tag → IfNoneMatch → Bool
-lists_weakly tag none_match_header.Any = true
-lists_weakly tag (none_match_header.Items tags) = list_any (λ t. weak_eq t tag) tags
 
 -- Each condition holds or fails, where the request has it.
 
@@ -99,8 +75,3 @@ text_names_version d (Some text) = names_version d text (tag_of text)
 abbrev pub range_condition : Document → List (List ℕ) → Bool
 range_condition d [] = true
 range_condition d (first ∷ more) = text_names_version d (header_text_of first)
-
--- one range of bytes
-abbrev pub one_range : Option Range → Option ByteRangeSpec
-one_range (Some (range.Bytes (spec ∷ []))) = Some spec
-one_range other = None

@@ -37,6 +37,10 @@ whole_headers d =
 abbrev pub range_value : Option (ℕ × ℕ) → ℕ → FieldValue
 range_value ends size = plain_value (content_range_text (range.Bytes ends (Some size)))
 
+-- the headers of a part, with this value of Content-Range
+abbrev pub part_headers : FieldValue → Document → Headers
+part_headers value d = whole_headers d ++ (codes "content-range", value ∷ []) ∷ []
+
 abbrev pub range_header : Option (ℕ × ℕ) → Document → Headers
 range_header ends d = (codes "content-range", range_value ends (length d.body) ∷ []) ∷ []
 

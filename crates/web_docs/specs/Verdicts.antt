@@ -4,10 +4,10 @@ use Rattle.std.specs.Prelude.{ℕ, ◌&&◌, ◌||◌, not, Bool, true, false, L
 use Rattle.std.specs.Prelude.{Option, None, Some, if◌then◌else◌}
 use Rattle.std.specs.Str.{bytes_eq}
 use Rattle.web_headers.specs.HeaderReaders.{one_value_of}
-use Rattle.web_entities.specs.ByteRanges.{range_of}
+use Rattle.web_entities.specs.ByteRanges.{one_range, range_of}
 use Rattle.web_entities.specs.declared.ranges.ByteRangeSpec.{ByteRangeSpec}
 use Rattle.web_docs.specs.Conditions.{Headers, match_condition, none_match_condition}
-use Rattle.web_docs.specs.Conditions.{one_range, range_condition, values}
+use Rattle.web_docs.specs.Conditions.{range_condition, values}
 use Rattle.web_docs.specs.declared.document.Document.{Document}
 use Rattle.web_docs.specs.declared.verdict.Verdict.{Verdict}
 use Rattle.web_docs.specs.declared.verdict.Verdict.TheVariants as verdict

@@ -56,7 +56,7 @@ fn document_reply(
 ) -> Result<HttpResponse<WholeBody>, NoMemory>
     ensures { IfOk result (λ reply. Answers document.now method.now headers.now reply) }
 {
-    let verdict = read_verdict(alloc, method, headers, document.document())?;
+    let verdict = read_verdict(method, headers, document.document());
     let reply = reply_to(alloc, document, verdict)?;
     Ok(for_method(method, reply))
 }

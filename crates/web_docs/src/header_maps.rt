@@ -4,7 +4,8 @@ ghost use Rattle.http_header.specs.FieldValue.{plain_value};
 ghost use Rattle.http_header.specs.HeaderMap.{insert};
 
 use http_header::{
-    ACCEPT_RANGES, CONTENT_TYPE, ETAG, HeaderMap, HeaderName, HeaderValue, LAST_MODIFIED,
+    ACCEPT_RANGES, CONTENT_RANGE, CONTENT_TYPE, ETAG, HeaderMap, HeaderName, HeaderValue,
+    LAST_MODIFIED,
 };
 use std::alloc::Global;
 use web_texts::NoMemory;
@@ -54,5 +55,26 @@ pub fn whole_map(
     put(&mut map, CONTENT_TYPE, media_type)?;
     put(&mut map, ETAG, tag)?;
     put(&mut map, LAST_MODIFIED, modified)?;
+    Ok(map)
+}
+
+/// A copy of headers, with this value of Content-Range.
+pub fn with_range(
+    headers: &HeaderMap<HeaderValue>,
+    range: HeaderValue,
+) -> Result<HeaderMap<HeaderValue>, NoMemory>
+    ensures { IfOk result (λ map. map ≡ insert headers.now (codes "content-range") range) }
+{
+    let mut map = headers.clone()?;
+    put(&mut map, CONTENT_RANGE, range)?;
+    Ok(map)
+}
+
+/// The headers of a document with an empty Content-Range behind them.
+pub fn part_map(whole: &HeaderMap<HeaderValue>) -> Result<HeaderMap<HeaderValue>, NoMemory>
+    ensures { IfOk result (λ map. map
+        ≡ insert whole.now (codes "content-range") (plain_value [])) }
+{
+    let map = with_range(whole, HeaderValue::from_static(""))?;
     Ok(map)
 }

@@ -91,9 +91,8 @@ fn partial_reply(
 {
     let size = document.body().len() as u64;
     let body = bytes_between(document.body(), ends.0, ends.1)?;
-    let mut map = document.whole()?;
     let range = content_range(alloc, Some(ends), size)?;
-    put(&mut map, CONTENT_RANGE, range)?;
+    let map = document.part(range)?;
     Ok(response(
         alloc,
         StatusCode::PARTIAL_CONTENT,

@@ -1,11 +1,11 @@
 //! Documents with the headers that they are sent with, printed once.
 ghost use Rattle.std.specs.Prelude.{◌≡◌, IfOk, IfSome};
-ghost use Rattle.web_docs.specs.DocumentReplies.{validator_headers, whole_headers};
+ghost use Rattle.web_docs.specs.DocumentReplies.{part_headers, validator_headers, whole_headers};
 ghost use Rattle.web_docs.specs.Documents.{StoresDocument, date_value, field_value_of};
 ghost use Rattle.web_docs.specs.Documents.{text_values as text_values_lem};
 
 use crate::document::{Document, StoreFault};
-use crate::header_maps::{validator_map, whole_map};
+use crate::header_maps::{part_map, validator_map, whole_map, with_range};
 use bytes::Bytes;
 use http_header::{HeaderMap, HeaderValue};
 use httpdate::HttpDate;
@@ -15,12 +15,14 @@ use std::marker::Model;
 use web_headers::printed_value;
 use web_texts::{Fail, NoMemory};
 
-/// A document, with the headers of a 304 and those of the document itself.
+/// A document, with the headers of a 304, those of the document itself, and those of a part.
 #[derive(Drop)]
 pub struct StoredDocument {
     document: Document,
     validators: HeaderMap<HeaderValue>,
     whole: HeaderMap<HeaderValue>,
+    /// With an empty Content-Range, so that a reply sets it in a copy that need not grow.
+    part: HeaderMap<HeaderValue>,
 }
 
 impl Model for StoredDocument {
@@ -90,10 +92,12 @@ impl StoredDocument {
                 let modified = date_field_value(alloc, document.modified)?;
                 let validators = validator_map(alloc, &values.1, &modified)?;
                 let whole = whole_map(alloc, values.0, values.1, modified)?;
+                let part = part_map(&whole)?;
                 Ok(StoredDocument {
                     document,
                     validators,
                     whole,
+                    part,
                 })
             }
             None => Err(Fail::Of(StoreFault::Value(document.path))),
@@ -117,6 +121,14 @@ impl StoredDocument {
         ensures { IfOk result (λ map. map ≡ validator_headers self.now) }
     {
         Ok(self.validators.clone()?)
+    }
+
+    /// The headers of a part, with this value of Content-Range.
+    pub fn part(&self, range: HeaderValue) -> Result<HeaderMap<HeaderValue>, NoMemory>
+        ensures { IfOk result (λ map. map ≡ part_headers range self.now) }
+    {
+        let map = with_range(&self.part, range)?;
+        Ok(map)
     }
 
     /// A copy of the headers of the document.

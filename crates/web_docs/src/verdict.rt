@@ -1,16 +1,14 @@
 //! What becomes of a request for a document.
-ghost use Rattle.std.specs.Prelude.{◌≡◌, ◌||◌, IfOk};
+ghost use Rattle.std.specs.Prelude.{◌≡◌, ◌||◌};
 ghost use Rattle.web_docs.specs.Verdicts.{fails as fails_lem, is_get as is_get_lem};
 ghost use Rattle.web_docs.specs.Verdicts.{is_head as is_head_lem};
 ghost use Rattle.web_docs.specs.Verdicts.{part_or_all, verdict_of, wanted_range};
 
-use crate::conditions::{match_condition, none_match_condition, range_condition, read_range};
+use crate::conditions::{match_condition, none_match_condition, range_condition};
 use crate::document::Document;
 use http::Method;
 use http_header::{HeaderMap, HeaderValue};
-use std::alloc::Global;
-use web_entities::ByteRangeSpec;
-use web_texts::NoMemory;
+use web_entities::{ByteRangeSpec, Range};
 
 /// What becomes of a request for a document.
 #[derive(Clone, Copy, Debug, PartialEq, Eq)]
@@ -59,48 +57,36 @@ fn fails(condition: Option<bool>) -> bool
 
 /// The verdict on a request of this method and these headers for a document.
 pub fn read_verdict(
-    alloc: Global,
     method: &Method,
     headers: &HeaderMap<HeaderValue>,
     document: &Document,
-) -> Result<Verdict, NoMemory>
-    ensures { IfOk result (λ verdict. verdict
-        ≡ verdict_of method.now headers.now document.now) }
+) -> Verdict
+    ensures { result ≡ verdict_of method.now headers.now document.now }
 {
     if !is_get_or_head(method) {
-        return Ok(Verdict::MethodNotAllowed);
+        return Verdict::MethodNotAllowed;
     }
     if headers.is_empty() {
-        return Ok(Verdict::All);
+        return Verdict::All;
     }
-    if fails(match_condition(alloc, document, headers)?) {
-        return Ok(Verdict::PreconditionFailed);
+    if fails(match_condition(document, headers)) {
+        return Verdict::PreconditionFailed;
     }
-    if fails(none_match_condition(alloc, document, headers)?) {
-        return Ok(Verdict::NotModified);
+    if fails(none_match_condition(document, headers)) {
+        return Verdict::NotModified;
     }
-    read_part(alloc, method, headers, document)
+    read_part(method, headers, document)
 }
 
 /// A part, or all.
-fn read_part(
-    alloc: Global,
-    method: &Method,
-    headers: &HeaderMap<HeaderValue>,
-    document: &Document,
-) -> Result<Verdict, NoMemory>
-    ensures { IfOk result (λ verdict. verdict
-        ≡ part_or_all (wanted_range method.now headers.now document.now)) }
+fn read_part(method: &Method, headers: &HeaderMap<HeaderValue>, document: &Document) -> Verdict
+    ensures { result ≡ part_or_all (wanted_range method.now headers.now document.now) }
 {
     if !is_get(method) {
-        return Ok(Verdict::All);
+        return Verdict::All;
     }
-    let Some(spec) = read_range(alloc, headers)? else {
-        return Ok(Verdict::All);
-    };
-    if range_condition(alloc, document, headers)? {
-        Ok(Verdict::Part(spec))
-    } else {
-        Ok(Verdict::All)
+    match Range::only(headers) {
+        Some(spec) if range_condition(document, headers) => Verdict::Part(spec),
+        _ => Verdict::All,
     }
 }

@@ -7,6 +7,6 @@ pub returns : goal.returns
 returns c = record {
   whole = c.in_ok-reply.reply;
   replies = subst (λ v. RepliesTo c.args.document.now v c.in_ok-reply.reply)
-      (c.in_ok-verdict.ensures ∙ ap (λ d. verdict_of c.args.method.now c.args.headers.now d) c.document.ensures) c.in_ok-reply.ensures;
+      (c.read_verdict-verdict.ensures ∙ ap (λ d. verdict_of c.args.method.now c.args.headers.now d) c.document.ensures) c.in_ok-reply.ensures;
   is = c.for_method.ensures;
 }
