@@ -295,9 +295,8 @@ impl PlainText for Header<Accept> {
     ghost text = { accept_text };
 
     fn plain_text(&self, alloc: Global) -> Result<Text, NoMemory> {
-        let ranked = MediaTypes {
-            types: self.0.ranked_references(alloc)?,
-        };
+        let types = self.0.ranked_references(alloc)?;
+        let ranked = MediaTypes { types };
         Ok(Text::from(ranked.to_string(alloc)?))
     }
 }

@@ -9,6 +9,6 @@ use Rattle.demo_content.proofs.texts.HeaderAcceptPlainText.plain_text.Goals as g
 pub returns : goal.returns
 returns c =
     c.from.ensures ∙ c.in_ok-to_string.ensures.ok
-    ∙ joined_values media_type_text c.in_ok-ranked.types.items
+    ∙ joined_values media_type_text c.in_ok-types.types.items
     ∙ ap (comma_joined media_type_text)
-    (ranking_only media_rank c.args.self.now.0.0 _ c.in_ok-ranked.ensures)
+    (ranking_only media_rank c.args.self.now.0.0 _ c.in_ok-types.ensures)
