@@ -1,6 +1,6 @@
 //! The command over the demo's arguments, with any handler of them.
 #![tactic(auto)]
 
-mod run;
+mod command;
 
-pub use run::run;
+pub use command::run;

@@ -7,7 +7,7 @@ use Rattle.web_cli.specs.LoadTexts.{IsSummary, load_script}
 use Rattle.web_cli.specs.ScriptAnswers.{AppendsScriptCalls, AreReplies}
 use Rattle.web_cli.proofs.DemoSettingLemmas.{demo_setting}
 use Rattle.web_cli.proofs.RunLemmas.{alone_as, headline_as, result_as}
-use Rattle.demo_command.proofs.run.run.Goals as goal
+use Rattle.demo_command.proofs.command.run.Goals as goal
 
 pub returns-clause-serves : goal.returns-clause-serves
 returns-clause-serves g c = λ capacity words.
