@@ -195,19 +195,9 @@ fn refused_json<L: Configs>(rt: &impl Abort, alloc: Global, layer: L) -> u16
     )
 }
 
-/// A closure answers the refusal, and another one says that no further media type is read.
-fn answered_by_closure(rt: &impl Abort, alloc: Global) -> u16 {
-    let json = json_config(
-        |_fault: JsonPayloadError, _head: &RequestHead| Ok(Error::from(Cause::MissingPeer)),
-        |_media_type: &Mime| false,
-    );
-    refused_json(rt, alloc, ClosureLayer { json })
-}
-
 #[test]
 fn traits_are_implemented(rt: HostRuntime) {
     let alloc = rt.alloc();
     assert_same(&rt, mapped_headers(&rt, alloc), 2);
     assert_same(&rt, nearest_number(&rt, alloc, 7), Some(7));
-    assert_same(&rt, answered_by_closure(&rt, alloc), 500);
 }
