@@ -195,9 +195,32 @@ fn refused_json<L: Configs>(rt: &impl Abort, alloc: Global, layer: L) -> u16
     )
 }
 
+/// The status under a layer of these closures. It is made here, where they are of any type.
+fn refused_under<
+    F: Fn(JsonPayloadError, &RequestHead) -> Result<Error, NoMemory> + Drop,
+    P: Fn(&Mime) -> bool + Drop,
+>(rt: &impl Abort, alloc: Global, on_json: F, json_type: P) -> u16
+    requires json { F.IsAlwaysCallable on_json }
+    requires json_type { P.IsAlwaysCallable json_type }
+{
+    let json = json_config(on_json, json_type);
+    refused_json(rt, alloc, ClosureLayer { json })
+}
+
+/// A closure answers the refusal, and another one says that no further media type is read.
+fn answered_by_closure(rt: &impl Abort, alloc: Global) -> u16 {
+    refused_under(
+        rt,
+        alloc,
+        |_fault: JsonPayloadError, _head: &RequestHead| Ok(Error::from(Cause::MissingPeer)),
+        |_media_type: &Mime| false,
+    )
+}
+
 #[test]
 fn traits_are_implemented(rt: HostRuntime) {
     let alloc = rt.alloc();
     assert_same(&rt, mapped_headers(&rt, alloc), 2);
     assert_same(&rt, nearest_number(&rt, alloc, 7), Some(7));
+    assert_same(&rt, answered_by_closure(&rt, alloc), 500);
 }
