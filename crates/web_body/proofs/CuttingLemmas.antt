@@ -1,13 +1,13 @@
 -- Reading one body in two cuttings.
 use Rattle.std.proofs.Common.{◌≡◌, ◌⊎◌, inl, inr, ℕ, ◌+◌, ◌<◌, ◌≤◌, Bool, true, false, cond, List, [], ◌∷◌, length, refl, ◌∙◌, ap, arith, nat_lt}
-use Rattle.std.specs.Prelude.{Option, None, Some}
+use Rattle.std.specs.Prelude.{Some}
 use Rattle.std.proofs.lemmas.Bool.{cases_lt}
 use Rattle.std.proofs.lemmas.Bool.Decides.{nat_tests}
 use Rattle.std.proofs.lemmas.List.{length-append}
 use Rattle.web_request.specs.declared.source.Mark.{Mark}
 use Rattle.web_request.specs.declared.source.Mark.TheVariants.{Fault, Piece, Stall}
-use Rattle.web_request.specs.Body.{ends_in_fault, piece_bytes, whole}
-use Rattle.web_request.specs.Reading.{Content, Faulty, Over, Reading, Whole, reading}
+use Rattle.web_request.specs.Body.{ends_in_fault, piece_bytes}
+use Rattle.web_request.specs.Reading.{Faulty, Over, Reading, Whole, reading}
 use Rattle.web_request.proofs.ReadingLemmas.{goes_on, reading_held, reading_small, scan, size_of}
 use Rattle.web_body.specs.Cuttings.{SameBody, SameContent}
 

@@ -1,5 +1,6 @@
 -- The result of one poll of a collector.
-use Rattle.std.specs.Prelude.{◌≡◌, ℕ, ◌+◌, ◌<◌, List, length, Option, Result, Ok, Err, ⊤}
+use Rattle.std.specs.Prelude.{◌≡◌, ℕ, ◌+◌, ◌<◌, ◌≤◌, List, length, Option, Result, Ok, Err, ⊤}
+use Rattle.std.specs.Prelude.{IfOk}
 use Rattle.web_texts.specs.Counts.{Rose}
 use Rattle.web_request.specs.declared.source.Mark.{Mark}
 use Rattle.web_request.specs.Feed.{Feed}
@@ -20,6 +21,11 @@ IfTooLong (Ok b) P = ⊤
 IfTooLong (Err (TooLong size)) P = P
 IfTooLong (Err Failed) P = ⊤
 
+abbrev pub IfSize : {T : Type 0} → Result T Unread → (ℕ → Type 0) → Type 0
+IfSize (Ok b) P = ⊤
+IfSize (Err (TooLong size)) P = P size
+IfSize (Err Failed) P = ⊤
+
 abbrev pub IfFailed : {T : Type 0} → Result T Unread → Type 0 → Type 0
 IfFailed (Ok b) P = ⊤
 IfFailed (Err (TooLong size)) P = ⊤
@@ -29,8 +35,16 @@ IfFailed (Err Failed) P = P
 abbrev pub OnWhole : {T E : Type 0} → Step (Result T E) → Type 0 → Type 0
 OnWhole s P = IfReady s (λ x. IfWhole x P)
 
+-- the result is a whole body, of which this holds
+abbrev pub OnBody : {T E : Type 0} → Step (Result T E) → (T → Type 0) → Type 0
+OnBody s P = IfReady s (λ x. IfOk x P)
+
 abbrev pub OnTooLong : {T : Type 0} → Step (Result T Unread) → Type 0 → Type 0
 OnTooLong s P = IfReady s (λ x. IfTooLong x P)
+
+-- the result is a body over the limit, of whose size this holds
+abbrev pub OnSize : {T : Type 0} → Step (Result T Unread) → (ℕ → Type 0) → Type 0
+OnSize s P = IfReady s (λ x. IfSize x P)
 
 abbrev pub OnFailed : {T : Type 0} → Step (Result T Unread) → Type 0 → Type 0
 OnFailed s P = IfReady s (λ x. IfFailed x P)
@@ -52,4 +66,7 @@ pub record PollCounts {S : Type 0} (feed : S → Feed) (limit : ℕ) (old : Payl
   pub failed : OnFailed s (Rose (payload_feed feed old).faults (payload_feed feed new).faults)
   pub whole_ended : OnWhole s ((payload_feed feed new).answers ≡ 0)
   pub whole_unfailed : OnWhole s ((payload_feed feed new).faults ≡ (payload_feed feed old).faults)
+  pub whole_length : OnBody s (λ b. length b ≡ length held + bytes_between feed old new)
+  pub whole_within : OnBody s (λ b. length b ≤ limit)
   pub too_long : OnTooLong s (limit < length held + bytes_between feed old new)
+  pub size : OnSize s (λ n. n ≡ length held + bytes_between feed old new)

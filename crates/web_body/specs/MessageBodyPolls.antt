@@ -1,7 +1,8 @@
 -- The result of one poll of the collector of the body of a request.
 use Rattle.std.specs.Prelude.{ℕ, List, Result, Ok, Err, ⊤}
 use Rattle.web_body.specs.declared.message_body.PayloadError.{PayloadError}
-use Rattle.web_body.specs.declared.message_body.PayloadError.TheVariants.{Overflow, Io}
+use Rattle.web_body.specs.declared.message_body.PayloadError.TheVariants.{Overflow, UnknownLength}
+use Rattle.web_body.specs.declared.message_body.PayloadError.TheVariants.{Io, UnsupportedEncoding}
 use Rattle.web_body.specs.declared.poll.Step.{Step}
 use Rattle.web_body.specs.declared.poll.Step.TheVariants.{Pending, Ready, NoMemory}
 use Rattle.web_body.specs.PollSteps.{IfReady}
@@ -17,6 +18,14 @@ abbrev pub IfIo : {T : Type 0} → Result T PayloadError → Type 0 → Type 0
 IfIo (Ok b) P = ⊤
 IfIo (Err Io) P = P
 IfIo (Err _) P = ⊤
+
+-- the error is none that the head alone says
+abbrev pub NotByHead : {T : Type 0} → Result T PayloadError → Type 0
+NotByHead (Ok b) = ⊤
+NotByHead (Err Overflow) = ⊤
+NotByHead (Err UnknownLength) = ⊥
+NotByHead (Err Io) = ⊤
+NotByHead (Err UnsupportedEncoding) = ⊥
 
 -- the result is a body over the limit, a fault
 abbrev pub OnOverflow : {T : Type 0} → Step (Result T PayloadError) → Type 0 → Type 0

@@ -106,6 +106,7 @@ impl<S: Source> Poll for Collector<S> {
     ghost use Rattle.web_body.specs.PollSteps.{Ends, IfReady, Shifts, OnPending};
     ghost use Rattle.web_body.specs.PollSteps.{IsPending, NeverNoMemory};
     ghost use Rattle.web_body.specs.CollectorPolls.{OnWhole, OnTooLong, OnFailed};
+    ghost use Rattle.web_body.specs.CollectorPolls.{OnBody, OnSize};
     ghost use Rattle.web_body.specs.Payload.{payload_feed, bytes_between, KeepsPayload};
     ghost use Rattle.web_body.specs.Collector.{collector_gives, collector_some};
     ghost use Rattle.web_body.specs.Collector.{NeedsNoMemory, StallsNext};
@@ -148,8 +149,13 @@ impl<S: Source> Poll for Collector<S> {
         ensures whole_ended { OnWhole result ((payload_feed S.feed self.new.payload).answers ≡ 0) }
         ensures whole_unfailed { OnWhole result ((payload_feed S.feed self.new.payload).faults
             ≡ (payload_feed S.feed self.old.payload).faults) }
+        ensures whole_length { OnBody result (λ b. length b
+            ≡ length self.old.held + bytes_between S.feed self.old.payload self.new.payload) }
+        ensures whole_within { OnBody result (λ b. length b ≤ self.old.limit) }
         ensures too_long { OnTooLong result (self.old.limit
             < length self.old.held + bytes_between S.feed self.old.payload self.new.payload) }
+        ensures size { OnSize result (λ n. n
+            ≡ length self.old.held + bytes_between S.feed self.old.payload self.new.payload) }
         ensures limited { OnTooLong result (self.old.limit < 18446744073709551615) }
     {
         let step = collect(alloc, &mut self.payload, &mut self.held, self.limit);

@@ -169,12 +169,12 @@ impl<S: Source> Poll for HttpMessageBody<S> {
     ghost use Rattle.web_body.specs.declared.poll.Step.TheVariants.{Ready};
     ghost use Rattle.web_body.specs.PollSteps.{Ends, IfReady, Shifts, OnPending};
     ghost use Rattle.web_body.specs.PollSteps.{IsPending, NeverNoMemory};
-    ghost use Rattle.web_body.specs.CollectorPolls.{OnWhole};
+    ghost use Rattle.web_body.specs.CollectorPolls.{OnWhole, OnBody};
     ghost use Rattle.web_body.specs.Payload.{payload_feed, bytes_between, KeepsPayload};
     ghost use Rattle.web_body.specs.Collector.{StallsNext};
     ghost use Rattle.web_body.specs.MessageBody.{BodyNeedsNoMemory, body_gives, body_refusal};
     ghost use Rattle.web_body.specs.MessageBody.{body_some};
-    ghost use Rattle.web_body.specs.MessageBodyPolls.{OnOverflow, OnIo};
+    ghost use Rattle.web_body.specs.MessageBodyPolls.{OnOverflow, OnIo, NotByHead};
 
     type Output = Result<Bytes, PayloadError>;
 
@@ -218,6 +218,10 @@ impl<S: Source> Poll for HttpMessageBody<S> {
         ensures whole_ended { OnWhole result ((payload_feed S.feed self.new.payload).answers ≡ 0) }
         ensures whole_unfailed { OnWhole result ((payload_feed S.feed self.new.payload).faults
             ≡ (payload_feed S.feed self.old.payload).faults) }
+        ensures whole_length { OnBody result (λ b. length b
+            ≡ length self.old.held + bytes_between S.feed self.old.payload self.new.payload) }
+        ensures whole_within { OnBody result (λ b. length b ≤ self.old.limit) }
+        ensures by_head { IfNone (body_refusal self.old) (IfReady result NotByHead) }
         ensures overflow { IfNone (body_refusal self.old) (OnOverflow result (self.old.limit
             < length self.old.held + bytes_between S.feed self.old.payload self.new.payload)) }
     {

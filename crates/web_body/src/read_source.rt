@@ -2,7 +2,7 @@
 ghost use Rattle.std.specs.Prelude.{◌≡◌, ◌+◌, ◌<◌, ◌^◌};
 ghost use Rattle.web_request.specs.Feed.{Next, bytes_given};
 ghost use Rattle.web_request.specs.declared.source.Turn.TheVariants as turn;
-ghost use Rattle.web_body.specs.ReaderBodies.{reader_feed};
+ghost use Rattle.web_body.specs.ReaderBodies.{Reads, reader_body};
 
 use bytes::Bytes;
 use std::alloc::Global;
@@ -21,8 +21,9 @@ const PIECE_LIMIT: usize = 8_192;
 /// piece is copied into memory of its own; `NoMemory` comes where there is none for it. It never
 /// stalls.
 ///
-/// Contracts know nothing of the bytes that a reader will give, so the marks are not stated. The
-/// count of faults stops at the greatest `u64`.
+/// How a reader cuts its bytes is not known before, so the marks are not stated. Of a reader whose
+/// bytes are known, as a slice, contracts say that each piece is the next of them, and that the
+/// end comes where none is left. The count of faults stops at the greatest `u64`.
 #[derive(Drop)]
 pub struct ReadSource<R: Read + Drop> {
     alloc: Global,
@@ -35,17 +36,19 @@ pub struct ReadSource<R: Read + Drop> {
 
 impl<R: Read + Drop> Model for ReadSource<R> {
     ghost use Rattle.std.specs.Prelude.{◌+◌, ◌*◌, ◌<◌, ◌^◌, None};
-    ghost use Rattle.web_request.specs.Feed.{Feed};
-    ghost use Rattle.web_body.specs.ReaderBodies.{answers_left};
+    ghost use Rattle.web_body.specs.ReaderBodies.{ReaderBody, answers_left};
 
-    ghost Value = { Feed };
+    ghost Value = { ReaderBody };
 
     ghost view = { λ s. record {
-      marks = None;
-      faults = s.faults;
-      stalls = 0;
-      given = s.given;
-      answers = answers_left s.is_over s.turns;
+      feed = record {
+        marks = None;
+        faults = s.faults;
+        stalls = 0;
+        given = s.given;
+        answers = answers_left s.is_over s.turns;
+      };
+      left = R.remaining s.reader;
     } };
 
     ghost invariant = { λ s. s.given + s.turns * 8192 < 2 ^ 63 };
@@ -55,7 +58,7 @@ impl<R: Read + Drop> ReadSource<R> {
     /// Makes a body of a reader, with a budget of fewer than 2^50 turns. It reads nothing yet.
     pub fn new(alloc: Global, reader: R, turns: u64) -> ReadSource<R>
         requires { turns < 2 ^ 50 }
-        ensures { result ≡ reader_feed turns }
+        ensures { result ≡ reader_body turns (R.remaining reader) }
     {
         ReadSource {
             alloc,
@@ -68,12 +71,14 @@ impl<R: Read + Drop> ReadSource<R> {
     }
 
     /// The next result of the body, as `Source::next` gives it: one call of the reader, where a
-    /// turn is left and the body is not over. Where no turn is left, it is a fault.
+    /// turn is left and the body is not over. Where no turn is left, it is a fault, and the reader
+    /// is not called.
     pub fn read_next(&mut self) -> Turn
-        ensures next { Next result self.old self.new }
-        ensures given { self.new.given ≡ self.old.given + bytes_given result }
-        ensures bounded { self.new.given < 2 ^ 63 }
-        ensures budget { self.old.answers ≡ 1 → result ≡ turn.Fault }
+        ensures next { Next result self.old.feed self.new.feed }
+        ensures given { self.new.feed.given ≡ self.old.feed.given + bytes_given result }
+        ensures bounded { self.new.feed.given < 2 ^ 63 }
+        ensures budget { self.old.feed.answers ≡ 1 → result ≡ turn.Fault }
+        ensures reads { Reads result self.old self.new }
     {
         if self.is_over {
             return Turn::End;
@@ -110,9 +115,20 @@ impl<R: Read + Drop> ReadSource<R> {
 }
 
 impl<R: Read + Drop> Source for ReadSource<R> {
-    ghost feed = { λ s. s };
+    ghost use Rattle.std.specs.Prelude.{◌≡◌, ◌+◌, ◌<◌, ◌^◌};
+    ghost use Rattle.web_request.specs.Feed.{Next, bytes_given};
+    ghost use Rattle.web_request.specs.declared.source.Turn.TheVariants as turn;
+    ghost use Rattle.web_body.specs.ReaderBodies.{Reads};
 
-    fn next(&mut self) -> Turn {
+    ghost feed = { λ s. s.feed };
+
+    fn next(&mut self) -> Turn
+        ensures next { Next result self.old.feed self.new.feed }
+        ensures given { self.new.feed.given ≡ self.old.feed.given + bytes_given result }
+        ensures bounded { self.new.feed.given < 2 ^ 63 }
+        ensures budget { self.old.feed.answers ≡ 1 → result ≡ turn.Fault }
+        ensures reads { Reads result self.old self.new }
+    {
         self.read_next()
     }
 }

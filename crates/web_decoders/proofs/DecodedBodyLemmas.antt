@@ -37,11 +37,11 @@ form_answer_only read limit (Ok b) x h = h.2 ∙ ap as_parse (form_only read b h
 -- the counts of the payload, by the result
 module _ {S T : Type 0} (feed : S → Feed) (old new : Collector S) where
   json_whole : (y : Result T JsonFault) (b : List ℕ) → CameBy feed old (Ok b) new → JsonCame feed old (as_deserialize y) new
-  json_whole (Ok value) b came = came
-  json_whole (Err e) b came = came
+  json_whole (Ok value) b came = came.0
+  json_whole (Err e) b came = came.0
 
   json_came : (reads : JsonReader T) (limit : ℕ) (y : Read) (x : Result T JsonPayloadError) → JsonAnswer reads limit y x → CameBy feed old y new → JsonCame feed old x new
-  json_came reads limit (Err (TooLong size)) x h came = rw h came
+  json_came reads limit (Err (TooLong size)) x h came = rw h (came.1)
   json_came reads limit (Err Failed) x h came = rw h came
   json_came reads limit (Ok b) x h came = rw h.2 (json_whole h.0 b came)
 
@@ -53,8 +53,8 @@ module _ {S T : Type 0} (feed : S → Feed) (old new : Collector S) where
   json_counts reads limit None (Ready x) h = json_came reads limit h.0 x h.1 h.2
 
   form_whole : (y : Result T ReadFault) (b : List ℕ) → CameBy feed old (Ok b) new → FormCame feed old (as_parse y) new
-  form_whole (Ok value) b came = came
-  form_whole (Err e) b came = came
+  form_whole (Ok value) b came = came.0
+  form_whole (Err e) b came = came.0
 
   form_came : (reads : PairReader T) (limit : ℕ) (y : Read) (x : Result T UrlencodedError) → FormAnswer reads limit y x → CameBy feed old y new → FormCame feed old x new
   form_came reads limit (Err (TooLong size)) x h came = rw h came

@@ -78,13 +78,22 @@ MeansDecoded decodes limit None None gives = ⊤
 MeansDecoded {T} {E} decodes limit None (Some m) gives =
     (n : ℕ) (x : Result T E) → gives n x → DecodedReading decodes limit m n x
 
+-- how many bytes came: those that were held, and what the payload gave
+abbrev pub came_length : {S : Type 0} → (S → Feed) → Collector S → Collector S → ℕ
+came_length feed old new = length old.held + bytes_between feed old.payload new.payload
+
+-- the payload came to its end without a fault
+abbrev pub CameWhole : {S : Type 0} → (S → Feed) → Collector S → Collector S → Type 0
+CameWhole feed old new =
+    ((payload_feed feed new.payload).answers ≡ 0)
+    × ((payload_feed feed new.payload).faults ≡ (payload_feed feed old.payload).faults)
+
 -- what the counts of the payload say of a body that was read in one poll
 abbrev pub CameBy : {S : Type 0} → (S → Feed) → Collector S → Read → Collector S → Type 0
 CameBy feed old (Ok b) new =
-    ((payload_feed feed new.payload).answers ≡ 0)
-    × ((payload_feed feed new.payload).faults ≡ (payload_feed feed old.payload).faults)
+    CameWhole feed old new × (length b ≡ came_length feed old new) × (length b ≤ old.limit)
 CameBy feed old (Err (TooLong size)) new =
-    old.limit < length old.held + bytes_between feed old.payload new.payload
+    (size ≡ came_length feed old new) × (old.limit < came_length feed old new)
 CameBy feed old (Err Failed) new =
     Rose (payload_feed feed old.payload).faults (payload_feed feed new.payload).faults
 

@@ -1,5 +1,5 @@
 -- Collectors of forms, and the results that they may give.
-use Rattle.std.specs.Prelude.{◌≡◌, ℕ, Bool, List, [], Option, Result, Ok, Err, refl}
+use Rattle.std.specs.Prelude.{◌≡◌, ℕ, Bool, List, Option, Result, Ok, Err, refl}
 use Rattle.std.specs.Option.{IfNone}
 use Rattle.web_texts.specs.Pairs.{Pair}
 use Rattle.web_request.specs.declared.source.Mark.{Mark}
@@ -18,7 +18,7 @@ use Rattle.web_body.specs.PollSteps.{GivesSome, IfReady}
 use Rattle.web_body.specs.Collector.{Collector, Read}
 use Rattle.web_decoders.specs.declared.form_head.FormHead.{FormHead}
 use Rattle.web_decoders.specs.Decoding.{Decoding, new_decoding, decoding_gives, DecodesSome}
-use Rattle.web_decoders.specs.Decoding.{CameBy, PollsDecoding, decoding_some}
+use Rattle.web_decoders.specs.Decoding.{CameBy, CameWhole, PollsDecoding, decoding_some}
 use Rattle.web_decoders.specs.FormHeads.{form_refusal}
 use Rattle.web_decoders.specs.JsonBodies.{or_all_some}
 
@@ -87,8 +87,8 @@ form_answer_some reads limit (Ok b) none =
 -- is none of them but for `Overflow`.
 abbrev pub FormCame : {S T : Type 0} → (S → Feed) → Collector S
     → Result T UrlencodedError → Collector S → Type 0
-FormCame feed old (Ok value) new = CameBy feed old (Ok []) new
-FormCame feed old (Err (form.Parse e)) new = CameBy feed old (Ok []) new
+FormCame feed old (Ok value) new = CameWhole feed old new
+FormCame feed old (Err (form.Parse e)) new = CameWhole feed old new
 FormCame feed old (Err (form.Overflow size limit)) new = CameBy feed old (Err (TooLong size)) new
 FormCame feed old (Err (form.Payload Io)) new = CameBy feed old (Err Failed) new
 FormCame feed old (Err _) new = ⊥

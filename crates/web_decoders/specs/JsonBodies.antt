@@ -1,6 +1,6 @@
 -- Collectors of JSON bodies, and the results that they may give.
-use Rattle.std.specs.Prelude.{◌≡◌, ℕ, Bool, true, false, Option, None, Some, Result, Ok, Err}
-use Rattle.std.specs.Prelude.{List, [], refl}
+use Rattle.std.specs.Prelude.{◌≡◌, ◌<◌, ℕ, Bool, true, false, List, Option, None, Some, Result}
+use Rattle.std.specs.Prelude.{Ok, Err, refl}
 use Rattle.std.specs.Option.{IfNone}
 use Rattle.std.proofs.Common.{inl, inr}
 use Rattle.serde_json.specs.Data.{Data}
@@ -25,7 +25,8 @@ use Rattle.web_body.specs.PollSteps.{GivesSome, IfReady}
 use Rattle.web_body.specs.Collector.{Collector, Read}
 use Rattle.web_decoders.specs.declared.json_head.JsonHead.{JsonHead}
 use Rattle.web_decoders.specs.Decoding.{Decoding, new_decoding, decoding_gives, DecodesSome}
-use Rattle.web_decoders.specs.Decoding.{CameBy, PollsDecoding, decoding_some}
+use Rattle.web_decoders.specs.Decoding.{CameBy, CameWhole, PollsDecoding, came_length}
+use Rattle.web_decoders.specs.Decoding.{decoding_some}
 use Rattle.web_decoders.specs.JsonHeads.{json_refusal}
 
 -- the limit where no other is chosen, in bytes
@@ -106,9 +107,9 @@ json_answer_some reads limit (Ok b) none =
 -- is none of them.
 abbrev pub JsonCame : {S T : Type 0} → (S → Feed) → Collector S
     → Result T JsonPayloadError → Collector S → Type 0
-JsonCame feed old (Ok value) new = CameBy feed old (Ok []) new
-JsonCame feed old (Err (json.Deserialize e)) new = CameBy feed old (Ok []) new
-JsonCame feed old (Err (json.Overflow limit)) new = CameBy feed old (Err (TooLong 0)) new
+JsonCame feed old (Ok value) new = CameWhole feed old new
+JsonCame feed old (Err (json.Deserialize e)) new = CameWhole feed old new
+JsonCame feed old (Err (json.Overflow limit)) new = old.limit < came_length feed old new
 JsonCame feed old (Err (json.Payload Io)) new = CameBy feed old (Err Failed) new
 JsonCame feed old (Err _) new = ⊥
 

@@ -1,5 +1,5 @@
 -- The futures of arguments that are the whole body: a refusal by the head, or the collector.
-use Rattle.std.specs.Prelude.{◌≡◌, ◌+◌, ◌<◌, ℕ, Bool, false, List, length, refl, ⊤}
+use Rattle.std.specs.Prelude.{◌≡◌, ◌+◌, ◌<◌, ◌≤◌, ℕ, Bool, false, List, length, refl, ⊤}
 use Rattle.std.specs.Prelude.{Option, None, Some, Result, Ok, Err, String, is_none}
 use Rattle.std.specs.Global.{Global}
 use Rattle.std.specs.Option.{IfNone}
@@ -7,12 +7,12 @@ use Rattle.web_texts.specs.Counts.{Rose}
 use Rattle.web_request.specs.Feed.{Feed}
 use Rattle.web_request.specs.declared.source.Mark.{Mark}
 use Rattle.web_body.specs.Collector.{StallsNext}
-use Rattle.web_body.specs.CollectorPolls.{OnWhole}
+use Rattle.web_body.specs.CollectorPolls.{OnBody, OnWhole}
 use Rattle.web_body.specs.MessageBody.{BodyNeedsNoMemory, MessageBody, body_gives, body_refusal}
 use Rattle.web_body.specs.MessageBody.{body_some}
-use Rattle.web_body.specs.MessageBodyPolls.{OnIo, OnOverflow}
+use Rattle.web_body.specs.MessageBodyPolls.{NotByHead, OnIo, OnOverflow}
 use Rattle.web_body.specs.Payload.{KeepsPayload, bytes_between, payload_feed}
-use Rattle.web_body.specs.PollSteps.{GivesSome, MatchStep, OnPending}
+use Rattle.web_body.specs.PollSteps.{GivesSome, IfReady, MatchStep, OnPending}
 use Rattle.web_body.specs.declared.message_body.PayloadError.{PayloadError}
 use Rattle.web_body.specs.declared.poll.Step.{Step}
 use Rattle.web_body.specs.declared.poll.Step.TheVariants.{Pending, Ready, NoMemory}
@@ -104,6 +104,10 @@ module _ {S : Type 0} (feed : S → Feed) where
     pub whole_ended : OnWhole s ((payload_feed feed new.payload).answers ≡ 0)
     pub whole_unfailed : OnWhole s
         ((payload_feed feed new.payload).faults ≡ (payload_feed feed old.payload).faults)
+    pub whole_length : OnBody s
+        (λ b. length b ≡ length old.held + bytes_between feed old.payload new.payload)
+    pub whole_within : OnBody s (λ b. length b ≤ old.limit)
+    pub by_head : IfNone (body_refusal old) (IfReady s NotByHead)
     pub overflow : IfNone (body_refusal old) (OnOverflow s
         (old.limit < length old.held + bytes_between feed old.payload new.payload))
 
