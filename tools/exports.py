@@ -41,7 +41,8 @@ def every(crate):
         if module["how"]:
             found.add(module["name"])
             path = os.path.join(repository.TOP, "crates", crate, "src", module["name"])
-            for source in [it for it in repository.sources(crate, ["src"], (".rt",)) if it.startswith(path)]:
+            below = (path + ".rt", path + os.sep)
+            for source in [it for it in repository.sources(crate, ["src"], (".rt",)) if it.startswith(below)]:
                 with open(source, encoding="utf-8") as opened:
                     found.update(re.findall(r"\w+", opened.read()))
     return found
