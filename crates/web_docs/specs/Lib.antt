@@ -6,6 +6,7 @@ pub mod PartLaws
 pub mod PrintedDocuments
 pub mod SelectedEnds
 pub mod SentPositions
+pub mod StoreFaultTexts
 pub mod Stores
 pub mod TextMaps
 pub mod Verdicts

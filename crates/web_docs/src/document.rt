@@ -1,6 +1,8 @@
 //! Documents, and what is wrong with them.
 use bytes::Bytes;
 use httpdate::HttpDate;
+use std::error::Error;
+use std::fmt;
 use web_entities::EntityTag;
 use web_texts::{Mime, Text};
 
@@ -30,3 +32,23 @@ pub enum StoreFault {
     /// The media type or the tag may stand in no header value (RFC 9110, section 5.5).
     Value(Text),
 }
+
+impl fmt::Display for StoreFault {
+    ghost use Rattle.std.specs.Prelude.{Some};
+    ghost use Rattle.web_docs.specs.StoreFaultTexts.{store_fault_text};
+
+    ghost output = { λ fault. Some (store_fault_text fault) };
+
+    fn fmt<W: fmt::Write>(&self, f: &mut fmt::Formatter<W>) -> fmt::Result {
+        match self {
+            StoreFault::DuplicatePath(path) => {
+                write!(f, "more than one document has the path {path}")
+            }
+            StoreFault::Value(path) => {
+                write!(f, "no header can have the media type or the tag of {path}")
+            }
+        }
+    }
+}
+
+impl Error for StoreFault {}

@@ -3,4 +3,5 @@ pub mod AcceptedHeaders
 pub mod FirstGreatest
 pub mod PrintedHeaders
 pub mod StoredVariants
+pub mod VariantFaultTexts
 pub mod VariantReplies

@@ -9,6 +9,8 @@ use crate::printed_headers::printed_headers;
 use bytes::Bytes;
 use http_header::{HeaderMap, HeaderValue};
 use std::alloc::Global;
+use std::error::Error;
+use std::fmt;
 use std::marker::Model;
 use web_headers::Encoding;
 use web_texts::{Fail, InvalidHeaderValue, LanguageTag, Mime, NoMemory};
@@ -38,6 +40,28 @@ pub enum VariantFault {
     /// value (RFC 9110, section 5.5).
     Value { place: usize },
 }
+
+impl fmt::Display for VariantFault {
+    ghost use Rattle.std.specs.Prelude.{Some};
+    ghost use Rattle.web_variants.specs.VariantFaultTexts.{variant_fault_text};
+
+    ghost output = { λ fault. Some (variant_fault_text fault) };
+
+    fn fmt<W: fmt::Write>(&self, f: &mut fmt::Formatter<W>) -> fmt::Result {
+        match self {
+            VariantFault::Empty => f.write_str("there are no variants"),
+            VariantFault::Star { place } => write!(f, "the media type at {place} has a star"),
+            VariantFault::Value { place } => {
+                write!(
+                    f,
+                    "no header can have the type, language or coding at {place}"
+                )
+            }
+        }
+    }
+}
+
+impl Error for VariantFault {}
 
 /// The variants of one page, each with the headers that it is sent with. Contracts see the list of
 /// the variants.
