@@ -6,6 +6,7 @@ It stands in for `socat TCP-LISTEN:PORT,bind=127.0.0.1,reuseaddr,fork EXEC:PROGR
 127.0.0.1 alone, until it is interrupted. Where the program has ended, it closes as RFC 7230, section 6.6, has it: the
 sending side, then it reads on for a while, then all; so the client gets the last reply. A connection is ended after five
 minutes, and no more than 64 are open at once: later ones wait."""
+import shutil
 import socket
 import subprocess
 import sys
@@ -83,6 +84,9 @@ class Relay:
 def main():
     if len(sys.argv) < 3 or not sys.argv[1].isdigit():
         print("usage: python3 tools/relay.py PORT PROGRAM [WORD..]", file=sys.stderr)
+        return 64
+    if shutil.which(sys.argv[2]) is None:
+        print(f"relay: there is no program {sys.argv[2]}", file=sys.stderr)
         return 64
     relay = Relay(int(sys.argv[1]), sys.argv[2:])
     print(f"http://127.0.0.1:{relay.port}/", flush=True)

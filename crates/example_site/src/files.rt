@@ -42,7 +42,7 @@ pub fn new_store(alloc: Global) -> Result<Store> {
     match Store::new(alloc, vec![in alloc; guide(alloc)?]?) {
         Ok(store) => Ok(store),
         Err(Fail::NoMemory) => Err(NoMemory.into()),
-        Err(Fail::Of(_)) => bail!("these documents are no store"),
+        Err(Fail::Of(fault)) => Err(fault.into()),
     }
 }
 

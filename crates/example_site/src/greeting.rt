@@ -32,7 +32,7 @@ pub fn new_greetings(alloc: Global) -> Result<Variants> {
     match Variants::new(alloc, variants) {
         Ok(variants) => Ok(variants),
         Err(Fail::NoMemory) => Err(NoMemory.into()),
-        Err(Fail::Of(_)) => bail!("these pages are no variants"),
+        Err(Fail::Of(fault)) => Err(fault.into()),
     }
 }
 
