@@ -12,9 +12,9 @@ pub use demo_arguments::{
 };
 pub use demo_content::{Answer, Answering, DemoOutput};
 pub use demo_picked::{
-    BothFuture, BoxedFuture, DataFuture, DecodedFuture, EitherItemFuture, FormFuture, FutureOf,
-    IntoPicked, ItemFuture, JsonFuture, LinesFuture, OptionalFuture, Picked, PickedFuture,
-    picked_law,
+    BothFuture, BoxedFuture, CappedOrPartsFuture, DataFuture, DecodedFuture, EitherItemFuture,
+    FormFuture, FutureOf, IntoPicked, JsonFuture, LinesFuture, OptionalFuture, Picked,
+    PickedFuture, picked_law,
 };
 pub use handler::DemoHandler;
 pub use law::demo_law;

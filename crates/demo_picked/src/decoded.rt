@@ -126,25 +126,26 @@ impl Poll for FormFuture {
 
 /// The future of a short item of the body as JSON, or of its parts, in memory of its own.
 #[derive(Drop)]
-pub struct ItemFuture {
+pub struct CappedOrPartsFuture {
     future: BoxedFuture<CappedOrParts>,
 }
 
-impl ItemFuture {
-    fn new(alloc: Global, future: CappedOrParts) -> Result<ItemFuture, NoMemory>
+impl CappedOrPartsFuture {
+    fn new(alloc: Global, future: CappedOrParts) -> Result<CappedOrPartsFuture, NoMemory>
         requires unfinished { ⟦<CappedOrParts as Poll>⟧.is_finished future ≡ false }
-        ensures fresh { IfOk result (λ made. ⟦<ItemFuture as Poll>⟧.is_finished made ≡ false) }
+        ensures fresh { IfOk result (λ made.
+            ⟦<CappedOrPartsFuture as Poll>⟧.is_finished made ≡ false) }
         ensures gives { IfOk result (λ made. GivesWithin
-            (λ n x. ⟦<ItemFuture as Poll>⟧.gives made n x)
+            (λ n x. ⟦<CappedOrPartsFuture as Poll>⟧.gives made n x)
             (λ n x. ⟦<CappedOrParts as Poll>⟧.gives future n x)) }
     {
-        Ok(ItemFuture {
+        Ok(CappedOrPartsFuture {
             future: BoxedFuture::new(alloc, future)?,
         })
     }
 }
 
-impl Poll for ItemFuture {
+impl Poll for CappedOrPartsFuture {
     ghost use Rattle.std.specs.Prelude.{Ok};
     ghost use Rattle.demo_picked.specs.BoxedFutures.{gives_or_all_some};
     ghost use Rattle.demo_picked.specs.declared.picked.Picked.TheVariants as picked;
@@ -276,7 +277,7 @@ impl Poll for OptionalFuture {
 /// The future of arguments that decode the body.
 pub type DecodedFuture = EitherFuture<
     EitherFuture<JsonFuture, FormFuture>,
-    EitherFuture<ItemFuture, EitherFuture<EitherItemFuture, OptionalFuture>>,
+    EitherFuture<CappedOrPartsFuture, EitherFuture<EitherItemFuture, OptionalFuture>>,
 >;
 
 /// Begins with an item of the body as JSON.
@@ -303,11 +304,11 @@ fn capped_future(
     alloc: Global,
     req: &HttpRequest<Demo>,
     payload: &mut Payload<Marks>,
-) -> Result<ItemFuture, NoMemory>
-    ensures fresh { IfOk result (λ f. ⟦<ItemFuture as Poll>⟧.is_finished f ≡ false) }
+) -> Result<CappedOrPartsFuture, NoMemory>
+    ensures fresh { IfOk result (λ f. ⟦<CappedOrPartsFuture as Poll>⟧.is_finished f ≡ false) }
     ensures extracts { IfOk result (λ f. Extracts
         (λ m rest n x. MeansDecoded decoded.CappedJson req.now.request m rest n x)
-        (λ n x. ⟦<ItemFuture as Poll>⟧.gives f n x)
+        (λ n x. ⟦<CappedOrPartsFuture as Poll>⟧.gives f n x)
         (payload_feed (λ feed. feed) payload.old).marks
         (payload_feed (λ feed. feed) payload.new).marks) }
     ensures payload { (payload.new ≡ payload.old) ⊎ (payload.new ≡ Payload.None) }
@@ -315,7 +316,7 @@ fn capped_future(
     let begun = from_request_into::<Demo, Capped<Json<Item>, 16>, Picked, Error>(
         alloc, req, payload,
     )?;
-    let future = ItemFuture::new(alloc, Left(begun))?;
+    let future = CappedOrPartsFuture::new(alloc, Left(begun))?;
     Ok(future)
 }
 
@@ -343,17 +344,17 @@ fn parts_future(
     alloc: Global,
     req: &HttpRequest<Demo>,
     payload: &mut Payload<Marks>,
-) -> Result<ItemFuture, NoMemory>
-    ensures fresh { IfOk result (λ f. ⟦<ItemFuture as Poll>⟧.is_finished f ≡ false) }
+) -> Result<CappedOrPartsFuture, NoMemory>
+    ensures fresh { IfOk result (λ f. ⟦<CappedOrPartsFuture as Poll>⟧.is_finished f ≡ false) }
     ensures extracts { IfOk result (λ f. Extracts
         (λ m rest n x. MeansDecoded decoded.Parts req.now.request m rest n x)
-        (λ n x. ⟦<ItemFuture as Poll>⟧.gives f n x)
+        (λ n x. ⟦<CappedOrPartsFuture as Poll>⟧.gives f n x)
         (payload_feed (λ feed. feed) payload.old).marks
         (payload_feed (λ feed. feed) payload.new).marks) }
     ensures payload { (payload.new ≡ payload.old) ⊎ (payload.new ≡ Payload.None) }
 {
     let begun = from_request_into::<Demo, Multipart<65536>, Picked, Error>(alloc, req, payload)?;
-    let future = ItemFuture::new(alloc, Right(begun))?;
+    let future = CappedOrPartsFuture::new(alloc, Right(begun))?;
     Ok(future)
 }
 

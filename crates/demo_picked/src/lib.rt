@@ -11,7 +11,7 @@ mod segments;
 
 pub use boxed_future::BoxedFuture;
 pub use decoded::{
-    DecodedFuture, EitherItemFuture, FormFuture, ItemFuture, JsonFuture, OptionalFuture,
+    CappedOrPartsFuture, DecodedFuture, EitherItemFuture, FormFuture, JsonFuture, OptionalFuture,
 };
 pub use lists::{BothFuture, DataFuture, LinesFuture};
 pub use picked::{Picked, PickedFuture, picked_law};

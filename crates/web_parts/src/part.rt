@@ -18,9 +18,10 @@ pub struct Part {
 /// Why a body is no multipart body, or not one that is taken.
 #[derive(Clone, Copy, Debug, PartialEq, Eq)]
 pub enum PartError {
-    /// A boundary is not followed by a part or the end, or a head does not end.
+    /// A boundary is not followed by a part or the end, or a head has 4,096 bytes and no end.
     Grammar,
-    /// A head is not that of a part.
+    /// The head of a part has a line that is no field, more than 16 lines, no Content-Disposition
+    /// of form data with a name, or a Content-Type that is no media type (RFC 7578, section 4).
     Head,
     /// There are more than 64 parts.
     TooMany,

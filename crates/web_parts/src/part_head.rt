@@ -24,7 +24,9 @@ const LINES: usize = 16;
 /// A line of a head.
 #[derive(Drop)]
 pub struct HeadField {
+    /// The name, in lower case.
     pub name: HeaderName,
+    /// The value, trimmed of spaces and tabs.
     pub value: HeaderValue,
 }
 

@@ -36,7 +36,7 @@ pub enum Place {
 /// What the bytes that came show.
 #[derive(Drop)]
 pub enum PartStep {
-    /// Nothing more.
+    /// No more can be read of the bytes that came: another piece is awaited.
     More,
     /// A part.
     Part(Part),
@@ -55,8 +55,11 @@ pub struct PartMachine {
     pub held: BytesMut,
     /// What is searched for begins at none of so many places.
     pub searched: usize,
+    /// A line end and the boundary, with its two hyphens.
     pub delimiter: Vec<u8>,
+    /// The most bytes of a part's content.
     pub limit: usize,
+    /// What is read next.
     pub place: Place,
     /// How many parts may still begin.
     pub left: u8,

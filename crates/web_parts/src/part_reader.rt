@@ -55,7 +55,8 @@ fn run(machine: &mut PartMachine, alloc: Global) -> PartStep
 }
 
 impl PartReader {
-    /// A reader of a body of this boundary, whose parts have at most so many bytes.
+    /// A reader of a body of this boundary. Its parts have at most `limit` bytes, which is at most
+    /// 2^62. Returns `NoMemory` where an allocation failed.
     pub fn new(alloc: Global, boundary: &[u8], limit: usize) -> Result<PartReader, NoMemory>
         requires { limit ≤ 2 ^ 62 }
         ensures { IfOk result (λ reader. reader ≡ new_reader boundary.now limit) }
@@ -90,7 +91,8 @@ impl PartReader {
         self.machine.held.len()
     }
 
-    /// The next part that stands in the bytes that came.
+    /// The next part that stands in the bytes that came; `More` asks for another piece. After
+    /// `Closed`, `Failed` or `NoMemory` the reader is spent: what a later call gives is not stated.
     pub fn next(&mut self, alloc: Global) -> PartStep
         ensures gives { StepGives self.old result self.new }
         ensures form { self.new.form ≡ self.old.form }

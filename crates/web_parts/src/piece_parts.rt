@@ -40,7 +40,8 @@ fn drain(
     }
 }
 
-/// The parts of a body that comes in these pieces, and how it ends, however it is cut.
+/// The parts of a body that comes in these pieces, and how it ends, however it is cut. A part has
+/// at most `limit` bytes, which is at most 2^62. Returns `NoMemory` where an allocation failed.
 pub fn parts_of_pieces(
     alloc: Global,
     boundary: &[u8],

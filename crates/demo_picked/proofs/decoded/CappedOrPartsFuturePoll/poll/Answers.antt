@@ -1,4 +1,4 @@
-use Rattle.demo_picked.proofs.decoded.ItemFuturePoll.poll.Goals as goal
+use Rattle.demo_picked.proofs.decoded.CappedOrPartsFuturePoll.poll.Goals as goal
 
 pub returns-clause-value : goal.returns-clause-value
 returns-clause-value c = c.poll.ensures.value
