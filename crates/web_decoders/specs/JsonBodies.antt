@@ -1,5 +1,5 @@
 -- Collectors of JSON bodies, and the results that they may give.
-use Rattle.std.specs.Prelude.{◌≡◌, ◌<◌, ℕ, Bool, true, false, List, Option, None, Some, Result}
+use Rattle.std.specs.Prelude.{◌≡◌, ◌<◌, ℕ, Bool, true, false, List, [], Option, None, Some, Result}
 use Rattle.std.specs.Prelude.{Ok, Err, refl}
 use Rattle.std.specs.Option.{IfNone}
 use Rattle.std.proofs.Common.{inl, inr}
