@@ -10,6 +10,7 @@
 //! failed, and 64 where the arguments are no command.
 #![tactic(auto)]
 
+mod law;
 mod program;
 
 use program::run_program;

@@ -4,9 +4,10 @@ use Rattle.demo_handler.specs.DemoReplies.{HandlerAnswers}
 use Rattle.demo_content.specs.AnswerReplies.{output_reply}
 use Rattle.demo_handler.proofs.DemoFunctionsLemmas.{demo_meets}
 use Rattle.web_cli.specs.LoadTexts.{load_script}
-use Rattle.demo_command.specs.PickedScripts.{AppendsPickedCalls, ArePickedReplies, IsPickedSummary}
+use Rattle.demo_command.specs.PickedScripts.{AppendsPickedCalls, ArePickedAnswers, ArePickedReplies, IsPickedSummary}
 use Rattle.web_cli.proofs.RunLemmas.{alone_as, headline_as, result_as}
-use Rattle.rothveng.specs.DemoAnswers.{IsDemoSummary, IsDemoText}
+use Rattle.rothveng.specs.DemoAnswers.{AreDemoAnswers, IsDemoSummary, IsDemoText}
+use Rattle.rothveng.proofs.DemoAnswersLemmas.{answered_as, connection_as, text_answers}
 use Rattle.rothveng.proofs.program.run_program.Goals as goal
 
 pub returns-clause-serves : goal.returns-clause-serves
@@ -36,3 +37,20 @@ returns-clause-replays g c = λ load words.
     c.run.result (g.I.Input.state c.args.input.now) (g.I.Input.state c.run.new.input)
     (g.O.Output.state c.args.output.now) (g.O.Output.state c.run.new.output)
     (c.run.ensures.replays load words)
+
+pub returns-clause-connects : goal.returns-clause-connects
+returns-clause-connects g c = λ capacity words.
+    let h = c.run.ensures.connects capacity words in (
+      h.0,
+      connection_as (ArePickedAnswers (λ p n y. HandlerAnswers p n y) (λ y q r. r ≡ output_reply y) capacity)
+          (AreDemoAnswers capacity) (text_answers capacity)
+          _ ⊤ (λ same. tt) c.run.result h.0 _ _ _ _ h.1,
+    )
+
+pub returns-clause-answered : goal.returns-clause-answered
+returns-clause-answered g c = λ capacity words.
+    answered_as (ArePickedAnswers (λ p n y. HandlerAnswers p n y) (λ y q r. r ≡ output_reply y) capacity)
+    (AreDemoAnswers capacity) (text_answers capacity)
+    c.run.result (g.I.Input.state c.args.input.now) (g.I.Input.state c.run.new.input)
+    (g.O.Output.state c.args.output.now) (g.O.Output.state c.run.new.output)
+    (c.run.ensures.answered capacity words)

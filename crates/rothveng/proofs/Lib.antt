@@ -1,0 +1,4 @@
+pub mod WholeBodiesLemmas
+pub mod PickedWholeLemmas
+pub mod MessageRepliesLemmas
+pub mod DemoAnswersLemmas
