@@ -6,7 +6,7 @@ ghost use Rattle.rothveng.specs.DemoAnswers.{demo_setting};
 
 /// Each message of a connection has one reply of the program's, so all bytes have answers: it
 /// cannot be that they have none.
-pub fn connection_law()
+pub fn demo_answers_law()
     ensures replied { (capacity : ℕ)
         → AllReplied (demo_setting capacity) connection_limits }
     ensures answered { (capacity : ℕ) (bytes : List ℕ)
