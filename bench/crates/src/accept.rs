@@ -1,10 +1,12 @@
 //! Accept, and the order of what it names.
+use crate::text::ROOM;
 use http::header::{ACCEPT, HeaderMap};
 use mime::Mime;
 use std::cmp::Reverse;
+use std::fmt::{self, Write};
 
 /// Media types, the preferred ones first.
-pub struct Accept(Vec<Item>);
+pub struct Accept(Vec<Mime>);
 
 struct Item {
     media_type: Mime,
@@ -21,23 +23,23 @@ impl Accept {
             items.extend(texts.filter_map(Item::read));
         }
         items.sort_by_key(|item| Reverse(item.rank));
-        Some(Accept(items))
+        Some(Accept(items.into_iter().map(|item| item.media_type).collect()))
     }
 
     pub fn text(&self) -> String {
-        let mut out = String::with_capacity(64 * self.0.len());
-        for (at, item) in self.0.iter().enumerate() {
+        let mut out = String::new();
+        for (at, media_type) in self.0.iter().enumerate() {
             if at > 0 {
                 out.push_str(", ");
             }
-            put(&item.media_type, &mut out);
+            put(media_type, &mut out).expect(ROOM);
         }
         out
     }
 }
 
 impl Item {
-    /// A media type and, behind the last semicolon, perhaps a quality.
+    /// A media type and, after the last semicolon, perhaps a quality.
     fn read(text: &str) -> Option<Item> {
         let (mut text, mut quality) = (text, 1_000);
         if let Some((front, last)) = text.rsplit_once(';') {
@@ -88,21 +90,20 @@ fn exactness(media_type: &Mime) -> u8 {
 }
 
 /// Adds the text of a media type, with `; ` before each parameter.
-fn put(media_type: &Mime, out: &mut String) {
-    out.push_str(media_type.essence_str());
+fn put(media_type: &Mime, out: &mut String) -> fmt::Result {
+    write!(out, "{}/{}", media_type.type_(), media_type.subtype())?;
+    if let Some(suffix) = media_type.suffix() {
+        write!(out, "+{suffix}")?;
+    }
     for (name, value) in media_type.params() {
-        for part in ["; ", name.as_str(), "="] {
-            out.push_str(part);
-        }
         if is_token(value.as_str()) {
-            out.push_str(value.as_str());
+            write!(out, "; {name}={value}")?;
         } else {
             let escaped = value.as_str().replace('\\', "\\\\").replace('"', "\\\"");
-            for part in ["\"", &escaped, "\""] {
-                out.push_str(part);
-            }
+            write!(out, "; {name}=\"{escaped}\"")?;
         }
     }
+    Ok(())
 }
 
 fn is_token(text: &str) -> bool {

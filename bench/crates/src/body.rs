@@ -6,15 +6,8 @@ use std::task::Poll;
 /// A body that is being collected.
 pub struct Collect {
     marks: std::vec::IntoIter<Mark>,
-    came: Pieces,
+    came: BytesMut,
     limit: u64,
-}
-
-/// What came so far.
-enum Pieces {
-    /// At most one piece, which is not copied.
-    One(Bytes),
-    Joined(BytesMut),
 }
 
 /// Why there is no body.
@@ -28,7 +21,7 @@ impl Collect {
     pub fn new(marks: Vec<Mark>, limit: u64) -> Collect {
         Collect {
             marks: marks.into_iter(),
-            came: Pieces::One(Bytes::new()),
+            came: BytesMut::new(),
             limit,
         }
     }
@@ -46,41 +39,12 @@ impl Collect {
                     if length > self.limit {
                         return Poll::Ready(Err(Unread::TooLong(length)));
                     }
-                    self.came.add(piece);
+                    self.came.extend_from_slice(&piece);
                 }
                 Some(Mark::Stall) => return Poll::Pending,
                 Some(Mark::Fault) => return Poll::Ready(Err(Unread::Failed)),
-                None => return Poll::Ready(Ok(self.came.take())),
+                None => return Poll::Ready(Ok(self.came.split().freeze())),
             }
-        }
-    }
-}
-
-impl Pieces {
-    fn len(&self) -> usize {
-        match self {
-            Pieces::One(piece) => piece.len(),
-            Pieces::Joined(joined) => joined.len(),
-        }
-    }
-
-    fn add(&mut self, piece: Bytes) {
-        match self {
-            Pieces::One(first) if first.is_empty() => *first = piece,
-            Pieces::One(first) => {
-                let mut joined = BytesMut::with_capacity(first.len() + piece.len());
-                joined.extend_from_slice(first);
-                joined.extend_from_slice(&piece);
-                *self = Pieces::Joined(joined);
-            }
-            Pieces::Joined(joined) => joined.extend_from_slice(&piece),
-        }
-    }
-
-    fn take(&mut self) -> Bytes {
-        match std::mem::replace(self, Pieces::One(Bytes::new())) {
-            Pieces::One(piece) => piece,
-            Pieces::Joined(joined) => joined.freeze(),
         }
     }
 }

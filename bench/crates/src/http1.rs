@@ -10,7 +10,7 @@ use http::{Method, StatusCode};
 /// The answers to the messages, up to one that closes the connection. `None` where one asks for a
 /// segment that is not written here.
 pub fn answers(mut rest: Bytes, pool: &mut Pool) -> Option<Vec<u8>> {
-    let mut out = Vec::with_capacity(rest.len());
+    let mut out = Vec::new();
     loop {
         match messages::next(&rest) {
             Ok(Some(message)) => {
@@ -27,7 +27,7 @@ pub fn answers(mut rest: Bytes, pool: &mut Pool) -> Option<Vec<u8>> {
     }
 }
 
-/// Adds the answer to a message. Returns whether the connection closes behind it.
+/// Adds the answer to a message. Returns whether the connection closes after it.
 fn answer(out: &mut Vec<u8>, message: Message, pool: &mut Pool) -> bool {
     let closes = asks_close(&message);
     let is_head = message.request.method == Method::HEAD;

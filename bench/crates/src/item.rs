@@ -1,11 +1,8 @@
 //! The demo's target: a name and a number.
 use crate::text;
-use serde::Serialize;
-use serde_json::Value;
+use serde_json::{Map, Value};
 use std::borrow::Cow;
 
-/// Its members are written in the order of their names.
-#[derive(Serialize)]
 pub struct Item {
     n: u64,
     name: String,
@@ -52,12 +49,16 @@ impl Item {
         Item::read_pairs(form_urlencoded::parse(body))
     }
 
-    pub fn json(&self) -> Vec<u8> {
-        serde_json::to_vec(self).expect("a text and a number can be written")
+    /// An object of both, whose members are written in the order of their names.
+    pub fn json(self) -> Vec<u8> {
+        let mut members = Map::new();
+        members.insert("name".into(), self.name.into());
+        members.insert("n".into(), self.n.into());
+        serde_json::to_vec(&Value::Object(members)).expect("a text and a number can be written")
     }
 
     pub fn form(&self) -> String {
-        form_urlencoded::Serializer::new(String::with_capacity(self.name.len() + 32))
+        form_urlencoded::Serializer::new(String::new())
             .append_pair("name", &self.name)
             .append_pair("n", itoa::Buffer::new().format(self.n))
             .finish()
@@ -65,7 +66,7 @@ impl Item {
 
     /// A word, the name and the number.
     pub fn line(&self, word: &str) -> String {
-        [word, &self.name, " ", itoa::Buffer::new().format(self.n)].concat()
+        format!("{word}{} {}", self.name, self.n)
     }
 }
 

@@ -9,7 +9,7 @@ use std::task::Poll;
 /// Lines that are being read.
 pub struct Lines {
     marks: std::vec::IntoIter<Mark>,
-    /// What came behind the last newline.
+    /// What came after the last newline.
     rest: Vec<u8>,
     /// The lines so far, with bars between.
     text: String,
@@ -60,7 +60,7 @@ impl Lines {
         }
     }
 
-    /// Takes the lines that end in this piece, and keeps what stands behind them.
+    /// Takes the lines that end in this piece, and keeps what stands after them.
     fn take(&mut self, mut piece: &[u8]) -> Result<(), Refusal> {
         while let Some(end) = memchr::memchr(b'\n', piece) {
             let (line, behind) = piece.split_at(end + 1);

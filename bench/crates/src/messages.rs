@@ -1,11 +1,10 @@
-//! Messages of HTTP/1.1, whose heads and sizes of chunks `httparse` reads.
+//! Messages of HTTP/1.1, whose heads `httparse` reads.
 use crate::request::{NoRequest, Request};
 use crate::text::number;
 use bytes::{Bytes, BytesMut};
 use http::header::{CONTENT_LENGTH, HeaderMap, HeaderName, HeaderValue, TRANSFER_ENCODING};
 use http::{Method, Uri};
 use httparse::Status;
-use std::mem::MaybeUninit;
 
 /// The most bytes of a head, with the empty lines before it.
 const MOST_HEAD: usize = 16_384;
@@ -80,19 +79,19 @@ pub fn next(bytes: &Bytes) -> Result<Option<Message>, Wrong> {
     }))
 }
 
-/// The request of a head, whether it is of HTTP/1.0, and how many bytes the head has. Values of
-/// headers share the bytes.
-fn read_head(bytes: &Bytes) -> Result<(Request, bool, usize), Wrong> {
+/// The request of a head, whether it is of HTTP/1.0, and how many bytes the head has.
+fn read_head(bytes: &[u8]) -> Result<(Request, bool, usize), Wrong> {
     let front = &bytes[..bytes.len().min(MOST_HEAD)];
-    let mut fields = [const { MaybeUninit::uninit() }; MOST_FIELDS];
-    let mut head = httparse::Request::new(&mut []);
-    let Ok(Status::Complete(length)) = head.parse_with_uninit_headers(front, &mut fields) else {
+    let mut fields = [httparse::EMPTY_HEADER; MOST_FIELDS];
+    let mut head = httparse::Request::new(&mut fields);
+    let Ok(Status::Complete(length)) = head.parse(front) else {
         return Err(Wrong::Malformed);
     };
     let (method, target) = read_start(&head).ok_or(Wrong::Malformed)?;
     let mut request = Request::of(method, target)?;
+    request.headers.reserve(head.headers.len());
     for field in head.headers.iter() {
-        add_field(&mut request.headers, field, bytes).ok_or(Wrong::Malformed)?;
+        add_field(&mut request.headers, field).ok_or(Wrong::Malformed)?;
     }
     Ok((request, head.version == Some(0), length))
 }
@@ -102,14 +101,9 @@ fn read_start(head: &httparse::Request<'_, '_>) -> Option<(Method, Uri)> {
     Some((method, Uri::try_from(head.path?).ok()?))
 }
 
-fn add_field(headers: &mut HeaderMap, field: &httparse::Header<'_>, bytes: &Bytes) -> Option<()> {
+fn add_field(headers: &mut HeaderMap, field: &httparse::Header<'_>) -> Option<()> {
     let name = HeaderName::from_bytes(field.name.as_bytes()).ok()?;
-    // An empty value need not stand in the bytes.
-    let value = match field.value {
-        [] => HeaderValue::from_static(""),
-        value => HeaderValue::from_maybe_shared(bytes.slice_ref(value)).ok()?,
-    };
-    headers.append(name, value);
+    headers.append(name, HeaderValue::from_bytes(field.value).ok()?);
     Some(())
 }
 
@@ -131,7 +125,7 @@ fn framing(headers: &HeaderMap) -> Option<Framing> {
     }
 }
 
-/// Reads chunks and the trailers behind them: the bytes of the chunks, and how many bytes follow.
+/// Reads chunks and the trailers after them: the bytes of the chunks, and how many bytes follow.
 fn read_chunks(bytes: &[u8]) -> Result<(Bytes, usize), Wrong> {
     let mut body = BytesMut::new();
     let mut rest = bytes;
@@ -151,15 +145,22 @@ fn read_chunks(bytes: &[u8]) -> Result<(Bytes, usize), Wrong> {
 
 /// Takes a size line: hexadecimal digits, and an extension that is dropped.
 fn read_size(rest: &mut &[u8]) -> Option<u64> {
-    let Ok(Status::Complete((length, size))) = httparse::parse_chunk_size(rest) else {
-        return None;
-    };
-    let digits = rest.iter().take_while(|byte| byte.is_ascii_hexdigit());
-    if digits.count() > MOST_DIGITS || length > MOST_SIZE_LINE {
+    let line = take_line(rest, MOST_SIZE_LINE)?;
+    let digits = line.iter().take_while(|byte| byte.is_ascii_hexdigit());
+    let (digits, behind) = line.split_at(digits.count());
+    if digits.len() > MOST_DIGITS || !matches!(behind, [] | [b';', ..]) {
         return None;
     }
-    *rest = &rest[length..];
-    Some(size)
+    u64::from_str_radix(std::str::from_utf8(digits).ok()?, 16).ok()
+}
+
+/// Takes a line of text that has at most so many bytes with its end, CRLF. Returns it without.
+fn take_line<'a>(rest: &mut &'a [u8], most: usize) -> Option<&'a [u8]> {
+    let is_text = |byte: &u8| *byte == b'\t' || matches!(byte, 0x20..=0x7E);
+    let end = rest.iter().position(|byte| !is_text(byte))?;
+    let (line, behind) = rest.split_at(end);
+    *rest = behind.strip_prefix(b"\r\n")?;
+    (end + 2 <= most).then_some(line)
 }
 
 /// Takes so many bytes and CRLF. Returns the bytes.
@@ -169,16 +170,14 @@ fn read_chunk<'a>(rest: &mut &'a [u8], size: usize) -> Option<&'a [u8]> {
     Some(chunk)
 }
 
-/// Skips trailer lines and the empty line behind them.
+/// Skips trailer lines and the empty line after them.
 fn skip_trailers(bytes: &[u8]) -> Option<&[u8]> {
     let mut rest = bytes;
-    while !rest.starts_with(b"\r\n") {
-        let end = memchr::memchr(b'\n', rest)?;
-        rest[..end].strip_suffix(b"\r")?;
-        rest = &rest[end + 1..];
-        if bytes.len() - rest.len() > MOST_TRAILERS {
-            return None;
+    let mut left = MOST_TRAILERS;
+    loop {
+        if let Some(behind) = rest.strip_prefix(b"\r\n") {
+            return Some(behind);
         }
+        left -= take_line(&mut rest, left)?.len() + 2;
     }
-    Some(&rest[2..])
 }

@@ -1,10 +1,10 @@
 //! Requests, as a script asks for them.
 use crate::layer::{FormConfig, JsonConfig, Layer, PayloadConfig};
 use crate::text;
-use bytes::Bytes;
 use http::header::{AsHeaderName, HeaderMap, HeaderName, HeaderValue};
 use http::{Method, Uri};
 use std::net::{Ipv4Addr, SocketAddrV4};
+use std::rc::Rc;
 
 /// A request without its body.
 pub struct Request {
@@ -15,7 +15,7 @@ pub struct Request {
     /// As a router would match them, in their order.
     pub params: Vec<(String, String)>,
     /// The nearest one stands last.
-    pub layers: Vec<Layer>,
+    pub layers: Vec<Rc<Layer>>,
     pub origin: Origin,
 }
 
@@ -74,12 +74,11 @@ impl Request {
         })
     }
 
-    /// Adds the header of a line: a name, and after one space a value, empty without a space. The
-    /// value shares the input that it stands in.
-    pub fn add_header(&mut self, argument: &[u8], input: &Bytes) -> Option<()> {
+    /// Adds the header of a line: a name, and after one space a value, empty without a space.
+    pub fn add_header(&mut self, argument: &[u8]) -> Option<()> {
         let (name, value) = text::split_word(argument);
         let name = HeaderName::from_bytes(name).ok()?;
-        let value = HeaderValue::from_maybe_shared(input.slice_ref(value)).ok()?;
+        let value = HeaderValue::from_bytes(value).ok()?;
         self.headers.append(name, value);
         Some(())
     }
@@ -105,7 +104,7 @@ impl Request {
 
     /// What the nearest layer has that has it.
     fn nearest<'a, T>(&'a self, own: impl FnMut(&'a Layer) -> Option<T>) -> Option<T> {
-        self.layers.iter().rev().find_map(own)
+        self.layers.iter().rev().map(Rc::as_ref).find_map(own)
     }
 
     /// The nearest layer's own configuration, else the nearest one's shared, else the default.

@@ -1,10 +1,11 @@
 //! Responses.
 use crate::refusal::Refusal;
-use crate::text::{put_line, put_number};
+use crate::text::{ROOM, put_line};
 use bytes::Bytes;
 use http::StatusCode;
 use http::header::{CONTENT_TYPE, HeaderMap, HeaderName, HeaderValue};
 use std::borrow::Cow;
+use std::io::Write;
 
 pub struct Response {
     pub status: StatusCode,
@@ -68,15 +69,11 @@ impl Response {
     /// field that says the length or the end of the connection.
     pub fn put_message(&self, out: &mut Vec<u8>, is_head: bool, closes: bool) {
         let phrase = self.status.canonical_reason().unwrap_or("");
-        for part in ["HTTP/1.1 ", self.status.as_str(), " ", phrase, "\r\n"] {
-            out.extend_from_slice(part.as_bytes());
-        }
+        write!(out, "HTTP/1.1 {} {phrase}\r\n", self.status.as_u16()).expect(ROOM);
         self.put_headers(out, b"\r\n");
         let has_body = !is_head && !matches!(self.status.as_u16(), ..200 | 204 | 304);
         if has_body {
-            out.extend_from_slice(b"content-length: ");
-            put_number(out, self.body.len() as u64);
-            out.extend_from_slice(b"\r\n");
+            write!(out, "content-length: {}\r\n", self.body.len()).expect(ROOM);
         }
         if closes {
             out.extend_from_slice(b"connection: close\r\n");
@@ -111,12 +108,9 @@ impl From<Refusal> for Response {
     }
 }
 
-/// Whether all bytes are printable ASCII, by blocks without a branch inside.
+/// Whether all bytes are printable ASCII.
 fn is_printable(body: &[u8]) -> bool {
-    body.chunks(256).all(|block| {
-        let printable = block.iter().map(|byte| matches!(byte, 0x20..=0x7E));
-        printable.fold(true, |so_far, is_printable| so_far & is_printable)
-    })
+    body.iter().all(|byte| matches!(byte, 0x20..=0x7E))
 }
 
 /// Adds two lower-case hexadecimal digits a byte.

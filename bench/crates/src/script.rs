@@ -3,6 +3,7 @@ use crate::layer::Layer;
 use crate::request::{self, NoRequest, Request};
 use crate::text::{number, split_word};
 use bytes::Bytes;
+use std::rc::Rc;
 
 /// One mark of a body.
 pub enum Mark {
@@ -49,7 +50,7 @@ const MOST_HEADERS: usize = 1_024;
 
 /// What was read so far.
 struct Reader<'a> {
-    /// Pieces and values of headers share it.
+    /// Pieces share it.
     input: &'a Bytes,
     script: Script,
     /// A `plan` line came.
@@ -119,12 +120,12 @@ impl Reader<'_> {
     }
 
     fn add_header(&mut self, argument: &[u8]) -> Result<(), Refused> {
-        let (input, count) = (self.input, self.headers);
+        let count = self.headers;
         let request = &mut self.open()?.request;
         if count == MOST_HEADERS {
             return Err("too many headers".into());
         }
-        request.add_header(argument, input).ok_or("bad header")?;
+        request.add_header(argument).ok_or("bad header")?;
         self.headers += 1;
         Ok(())
     }
@@ -136,7 +137,7 @@ impl Reader<'_> {
             b"param" => request.add_param(argument).ok_or("bad param")?,
             b"layer" => {
                 let layer = Layer::read(argument).ok_or("bad layer")?;
-                request.layers.push(layer);
+                request.layers.push(Rc::new(layer));
             }
             b"peer" => origin.peer = Some(request::read_peer(argument).ok_or("bad peer")?),
             b"local" => origin.local = Some(number(argument, u64::MAX).ok_or("bad number")?),
@@ -173,7 +174,7 @@ impl Reader<'_> {
 
 /// Takes the next line, without its end.
 fn next_line<'a>(rest: &mut &'a [u8]) -> &'a [u8] {
-    let line = match memchr::memchr(b'\n', rest) {
+    let line = match rest.iter().position(|byte| *byte == b'\n') {
         Some(end) => {
             let (line, behind) = rest.split_at(end);
             *rest = &behind[1..];

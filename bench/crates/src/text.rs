@@ -1,4 +1,5 @@
 //! Numbers and cuts of bytes.
+use std::io::Write;
 
 /// The number that these bytes write in digits alone, where it is at most `most`.
 pub fn number(digits: &[u8], most: u64) -> Option<u64> {
@@ -11,7 +12,7 @@ pub fn number(digits: &[u8], most: u64) -> Option<u64> {
         .filter(|value| *value <= most)
 }
 
-/// The word before the first space, and what stands behind it, which is empty where there is none.
+/// The word before the first space, and what stands after it, which is empty where there is none.
 pub fn split_word(line: &[u8]) -> (&[u8], &[u8]) {
     match line.iter().position(|byte| *byte == b' ') {
         Some(at) => (&line[..at], &line[at + 1..]),
@@ -19,14 +20,16 @@ pub fn split_word(line: &[u8]) -> (&[u8], &[u8]) {
     }
 }
 
+/// Why adding to a text does not fail.
+pub const ROOM: &str = "a text grows as it is written";
+
 /// Adds a number in decimal.
 pub fn put_number(out: &mut Vec<u8>, number: u64) {
-    out.extend_from_slice(itoa::Buffer::new().format(number).as_bytes());
+    write!(out, "{number}").expect(ROOM);
 }
 
-/// Adds a word, a number behind it, and the end of the line.
+/// Adds a word, a number after it, and the end of the line.
 pub fn put_line(out: &mut Vec<u8>, word: &[u8], number: u64) {
     out.extend_from_slice(word);
-    put_number(out, number);
-    out.push(b'\n');
+    writeln!(out, "{number}").expect(ROOM);
 }

@@ -42,7 +42,7 @@ impl<'a> Accept<'a> {
 }
 
 impl<'a> Item<'a> {
-    /// A media type and, behind the last semicolon, perhaps a quality.
+    /// A media type and, after the last semicolon, perhaps a quality.
     fn read(text: &'a [u8]) -> Option<Item<'a>> {
         let (text, quality) = quality::split(text)?;
         let media_type = media_type::read(text)?;

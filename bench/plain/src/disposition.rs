@@ -46,7 +46,7 @@ pub fn read(value: &[u8]) -> Option<FormData<'_>> {
     })
 }
 
-/// A value, and what stands behind the next semicolon, if any.
+/// A value, and what stands after the next semicolon, if any.
 fn read_value(text: &str) -> Option<(Cow<'_, str>, Option<&str>)> {
     if let Some(inside) = text.strip_prefix('"') {
         let (value, rest) = read_quoted(inside)?;
@@ -56,7 +56,7 @@ fn read_value(text: &str) -> Option<(Cow<'_, str>, Option<&str>)> {
     (!value.is_empty()).then_some((value.into(), behind))
 }
 
-/// Quoted text behind its opening quote, and what stands behind the closing one. A backslash keeps what follows.
+/// Quoted text after its opening quote, and what stands after the closing one. A backslash keeps what follows.
 fn read_quoted(text: &str) -> Option<(Cow<'_, str>, &str)> {
     let mut value = Cow::Borrowed("");
     let mut rest = text;
@@ -73,7 +73,7 @@ fn read_quoted(text: &str) -> Option<(Cow<'_, str>, &str)> {
     }
 }
 
-/// Tests a value with its charset and its language. Returns what stands behind the next semicolon, if any.
+/// Tests a value with its charset and its language. Returns what stands after the next semicolon, if any.
 fn skip_extended<'a>(param: &str, text: &'a str) -> Option<Option<&'a str>> {
     let (value, behind) = cut(text);
     let (_charset, rest) = value.split_once('\'')?;
@@ -82,7 +82,7 @@ fn skip_extended<'a>(param: &str, text: &'a str) -> Option<Option<&'a str>> {
     (is_extended && !param.is_empty()).then_some(behind)
 }
 
-/// What stands before the next semicolon, without blanks at its end, and what stands behind it, if any.
+/// What stands before the next semicolon, without blanks at its end, and what stands after it, if any.
 fn cut(text: &str) -> (&str, Option<&str>) {
     match text.split_once(';') {
         Some((before, behind)) => (before.trim_end_matches(BLANKS), Some(behind)),

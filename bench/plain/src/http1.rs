@@ -26,7 +26,7 @@ pub fn answers(bytes: &[u8], pool: &mut Pool) -> Vec<u8> {
     }
 }
 
-/// Adds the answer to a message. Returns whether the connection closes behind it.
+/// Adds the answer to a message. Returns whether the connection closes after it.
 fn answer(out: &mut Vec<u8>, message: Message<'_>, pool: &mut Pool) -> bool {
     let closes = asks_close(&message);
     let is_head = message.request.method == "HEAD";

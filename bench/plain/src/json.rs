@@ -41,7 +41,7 @@ impl<'a> Text<'a> {
     }
 }
 
-/// The character that an escape means by what stands behind its backslash, and how many bytes that is.
+/// The character that an escape means by what stands after its backslash, and how many bytes that is.
 fn escaped(bytes: &[u8]) -> Option<(char, usize)> {
     let char = match bytes.first()? {
         byte @ (b'"' | b'\\' | b'/') => char::from(*byte),
@@ -152,7 +152,7 @@ impl<'a> Reader<'a> {
         Some(is_empty)
     }
 
-    /// Whether more follows, which it does behind a comma, or what is open ends by this byte.
+    /// Whether more follows, which it does after a comma, or what is open ends by this byte.
     fn goes_on(&mut self, end: u8) -> Option<bool> {
         self.skip_blanks();
         if self.eat(b',') {
@@ -163,7 +163,7 @@ impl<'a> Reader<'a> {
         self.eat(end).then_some(false)
     }
 
-    /// Reads what stands behind the bracket of an array.
+    /// Reads what stands after the bracket of an array.
     fn items(&mut self) -> Option<Value<'a>> {
         let mut value = Value::Other;
         let mut goes_on = !self.open(b']')?;
@@ -176,7 +176,7 @@ impl<'a> Reader<'a> {
         Some(value)
     }
 
-    /// Reads what stands behind the brace of an object, and calls this for each member. Of members of one name the last
+    /// Reads what stands after the brace of an object, and calls this for each member. Of members of one name the last
     /// alone counts.
     fn members(&mut self, mut each: impl FnMut(Text<'a>, Value<'a>)) -> Option<Value<'a>> {
         let mut floating: Vec<Cow<str>> = Vec::new();
@@ -202,7 +202,7 @@ impl<'a> Reader<'a> {
         })
     }
 
-    /// Reads a text behind its first quote.
+    /// Reads a text after its first quote.
     fn string(&mut self) -> Option<Text<'a>> {
         let start = self.rest;
         let mut rest = start;

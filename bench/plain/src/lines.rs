@@ -7,7 +7,7 @@ use crate::script::{self, Mark};
 /// Lines that are being read.
 pub struct Lines<'a> {
     marks: std::vec::IntoIter<Mark<'a>>,
-    /// What came behind the last newline.
+    /// What came after the last newline.
     rest: Vec<u8>,
     /// The lines so far, with bars between.
     text: Vec<u8>,

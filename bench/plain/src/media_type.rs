@@ -171,7 +171,7 @@ fn put_quoted(out: &mut Vec<u8>, text: &[u8]) {
     out.push(b'"');
 }
 
-/// What stands before the first semicolon outside of quotes, and what stands behind it, if any.
+/// What stands before the first semicolon outside of quotes, and what stands after it, if any.
 fn cut(text: &[u8]) -> (&[u8], Option<&[u8]>) {
     let (mut quoted, mut kept) = (false, false);
     for (at, byte) in text.iter().enumerate() {

@@ -72,7 +72,7 @@ pub fn next(bytes: &[u8]) -> Result<Option<Message<'_>>, Wrong> {
     }))
 }
 
-/// Reads a head behind empty lines.
+/// Reads a head after empty lines.
 fn read_head(bytes: &[u8]) -> Option<Head<'_>> {
     let mut rest = bytes;
     let mut line = next_line(&mut rest)?;
@@ -134,7 +134,7 @@ fn framing(request: &Request<'_>) -> Option<Framing> {
     }
 }
 
-/// Reads chunks and the trailers behind them: the bytes of the chunks, and what follows the trailers.
+/// Reads chunks and the trailers after them: the bytes of the chunks, and what follows the trailers.
 fn read_chunks(bytes: &[u8]) -> Result<(Cow<'_, [u8]>, &[u8]), Wrong> {
     let mut body = Cow::Borrowed([].as_slice());
     let mut rest = bytes;
@@ -185,7 +185,7 @@ fn read_chunk<'a>(rest: &mut &'a [u8], size: usize) -> Option<&'a [u8]> {
     Some(chunk)
 }
 
-/// Skips trailer lines and the empty line behind them.
+/// Skips trailer lines and the empty line after them.
 fn skip_trailers(bytes: &[u8]) -> Option<&[u8]> {
     let mut rest = bytes;
     loop {

@@ -49,7 +49,7 @@ fn is_coded(raw: &[u8]) -> bool {
     raw.iter().any(|byte| matches!(byte, b'%' | b'+'))
 }
 
-/// What stands before the first of these bytes, and what stands behind it.
+/// What stands before the first of these bytes, and what stands after it.
 fn cut(bytes: &[u8], at: u8) -> (&[u8], &[u8]) {
     match bytes.iter().position(|byte| *byte == at) {
         Some(end) => (&bytes[..end], &bytes[end + 1..]),

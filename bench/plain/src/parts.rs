@@ -102,11 +102,11 @@ struct Reader<'a> {
 enum Place {
     /// In the first boundary, of which so many bytes came.
     Start(usize),
-    /// Behind a boundary.
+    /// After a boundary.
     Boundary,
-    /// Behind a boundary and the first byte of a line's end.
+    /// After a boundary and the first byte of a line's end.
     LineEnd,
-    /// Behind a boundary and the first hyphen of the end.
+    /// After a boundary and the first hyphen of the end.
     Hyphen,
     Head,
     /// In a content that ends with so many bytes of a delimiter.
@@ -223,7 +223,7 @@ impl<'a> Reader<'a> {
 
 const HAS_HEAD: &str = "a content follows a head";
 
-/// The place behind so many bytes of a delimiter that begins at this place of a content.
+/// The place after so many bytes of a delimiter that begins at this place of a content.
 fn behind(start: usize, came: usize, whole: usize) -> Result<Place, Refusal> {
     let is_whole = came == whole;
     let is_too_long = if is_whole {

@@ -14,7 +14,7 @@ const PIECE: usize = 4_096;
 /// Serves standard input piece by piece, up to a message that closes.
 pub fn serve() -> io::Result<()> {
     let mut input = io::stdin().lock();
-    // Standard output would write a reply in two parts, up to its last line and behind it.
+    // Standard output would write a reply in two parts, up to its last line and after it.
     let mut output = File::from(io::stdout().as_fd().try_clone_to_owned()?);
     let (mut buffer, mut out) = (Vec::new(), Vec::new());
     let mut piece = [0; PIECE];
@@ -50,7 +50,7 @@ fn answer_whole(bytes: &[u8], out: &mut Vec<u8>) -> (usize, bool) {
     (bytes.len() - rest.len(), false)
 }
 
-/// The item of the number that stands behind `/items/`.
+/// The item of the number that stands after `/items/`.
 fn reply_to(message: &Message<'_>) -> Reply<'static> {
     let path = message.request.target.path();
     let id = path.strip_prefix("/items/").map(str::as_bytes);

@@ -78,7 +78,7 @@ fn path_and_query(text: &str) -> Option<&str> {
     (path.bytes().all(is_path_byte) && query.bytes().all(is_query_byte)).then_some(text)
 }
 
-/// Whether the text is a host, perhaps with user information before it and a port behind it.
+/// Whether the text is a host, perhaps with user information before it and a port after it.
 fn is_authority(text: &str) -> bool {
     let (mut colons, mut opened, mut closed, mut percent) = (0, 0, 0, 0);
     for byte in text.bytes() {

@@ -44,7 +44,7 @@ pub fn find(bytes: &[u8], wanted: u8) -> Option<usize> {
     bytes[..taken].ends_with(&[wanted]).then(|| taken - 1)
 }
 
-/// The word before the first space, and what stands behind it, which is empty where there is none.
+/// The word before the first space, and what stands after it, which is empty where there is none.
 pub fn split_word(line: &[u8]) -> (&[u8], &[u8]) {
     match line.iter().position(|byte| *byte == b' ') {
         Some(at) => (&line[..at], &line[at + 1..]),
@@ -106,7 +106,7 @@ pub fn put_number(out: &mut Vec<u8>, number: u64) {
     out.extend_from_slice(&digits[start..]);
 }
 
-/// Adds a word, a number behind it, and the end of the line.
+/// Adds a word, a number after it, and the end of the line.
 pub fn put_line(out: &mut Vec<u8>, word: &[u8], number: u64) {
     out.extend_from_slice(word);
     put_number(out, number);

@@ -3,7 +3,7 @@
 /// The quality of an item that has none.
 pub const GREATEST: u16 = 1000;
 
-/// Reads `0` to `1`, with up to three digits behind the point.
+/// Reads `0` to `1`, with up to three digits after the point.
 pub fn read(text: &[u8]) -> Option<u16> {
     let (whole, fraction) = match text {
         [whole] => (whole, &[][..]),

@@ -130,7 +130,7 @@ fn is_attr_char(byte: u8) -> bool {
         )
 }
 
-/// What stands before the next semicolon, and what stands behind it, if any.
+/// What stands before the next semicolon, and what stands after it, if any.
 fn cut(text: &str) -> (&str, Option<&str>) {
     match text.split_once(';') {
         Some((before, behind)) => (before, Some(behind)),
@@ -138,7 +138,7 @@ fn cut(text: &str) -> (&str, Option<&str>) {
     }
 }
 
-/// Reads quoted text behind its opening quote. Returns it and what stands behind the closing one.
+/// Reads quoted text after its opening quote. Returns it and what stands after the closing one.
 fn read_quoted(text: &str) -> Option<(String, &str)> {
     let mut value = String::new();
     let mut rest = text;

@@ -69,7 +69,7 @@ fn push_quoted(out: &mut String, value: &str) {
     out.push('"');
 }
 
-/// What stands before the first semicolon outside of quotes, and what stands behind it, if any.
+/// What stands before the first semicolon outside of quotes, and what stands after it, if any.
 fn cut(text: &str) -> (&str, Option<&str>) {
     let (mut quoted, mut kept) = (false, false);
     for (at, byte) in text.bytes().enumerate() {

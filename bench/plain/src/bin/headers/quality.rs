@@ -1,7 +1,7 @@
 //! Qualities of items.
 use crate::thousandths::{GREATEST, read};
 
-/// An item without its quality, which may stand behind its last semicolon, and the quality in thousandths.
+/// An item without its quality, which may stand after its last semicolon, and the quality in thousandths.
 pub fn split(text: &str) -> Option<(&str, u16)> {
     let Some((front, last)) = text.rsplit_once(';') else {
         return Some((text, GREATEST));
