@@ -5,8 +5,8 @@ use crate::outcomes::{assert_first, first_of, outcome};
 use crate::requests::{FORM, JSON, body_request};
 use std::alloc::Global;
 use std::process::Abort;
+use web_extract_body::{Form, Json};
 use web_reply::Error;
-use web_types::{Form, Json};
 
 /// A Content-Type, a Content-Length, a body, and the status and the text that come of it, and
 /// whether the payload is left.

@@ -9,10 +9,10 @@ use std::process::Abort;
 use web_body::{JsonPayloadError, UrlencodedError};
 use web_decoders::{ByFn, FormConfig, JsonConfig};
 use web_extract::Configs;
+use web_extract_body::{Form, Json};
 use web_reply::{Cause, Error};
 use web_request::{NoMemory, RequestHead};
 use web_texts::{Mime, Text};
-use web_types::{Form, Json};
 
 /// A layer and a request under it: whether handlers are set, the limit of both kinds of bodies,
 /// whether JSON needs a media type, the Content-Type, the Content-Length, and the body. Then the

@@ -5,7 +5,7 @@ use crate::requests::{add, head, new_request};
 use std::alloc::Global;
 use std::fmt::Display;
 use std::process::Abort;
-use web_arguments::Header;
+use web_extract_head::Header;
 use web_headers::{Accept, ContentLength, Date};
 use web_request::RequestHead;
 

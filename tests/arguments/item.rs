@@ -3,8 +3,8 @@
 use serde_json::{Value, json};
 use std::alloc::Global;
 use std::fmt;
+use web_codec::{ReadFault, ReadJson, ReadPairs, WriteFault, WriteJson, WritePairs};
 use web_texts::{Fail, Pair, Text, read_digits};
-use web_values::{ReadFault, ReadJson, ReadPairs, WriteFault, WriteJson, WritePairs};
 
 /// A named number.
 #[derive(Debug, Drop)]

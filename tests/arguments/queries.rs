@@ -3,7 +3,7 @@ use crate::compare::assert_same;
 use crate::item::Item;
 use std::alloc::Global;
 use std::process::Abort;
-use web_arguments::Query;
+use web_extract_head::Query;
 use web_texts::Fail;
 
 /// The text of a query, and the item or why its reader refuses it.
@@ -15,7 +15,7 @@ const QUERIES: &[QueryRow] = &[
     ("n=5 &name=a+b", Err("n is no number")),
 ];
 
-/// Reads a query, and compares the item, or what the refusal says behind its first words.
+/// Reads a query, and compares the item, or what the refusal says after its first words.
 fn assert_query(rt: &impl Abort, alloc: Global, row: &QueryRow) {
     match (Query::<Item>::from_query(alloc, row.0), row.1) {
         (Ok(query), Ok(expected)) => assert_same(rt, (query.name.as_str(), query.n), expected),

@@ -6,9 +6,9 @@ use http::StatusCode;
 use http_header::{CONTENT_TYPE, HeaderMap, HeaderValue};
 use std::alloc::Global;
 use std::process::Abort;
+use web_extract_body::{Either, Form, Json};
 use web_reply::{EitherBody, HttpResponse, Responder, WholeBody};
 use web_texts::Text;
-use web_types::{Either, Form, Json};
 
 /// A status, a content type and a body.
 type Expected = (u16, &'static str, &'static str);

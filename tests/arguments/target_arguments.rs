@@ -7,9 +7,9 @@ use crate::teapot::Teapot;
 use std::alloc::Global;
 use std::fmt::Display;
 use std::process::Abort;
-use web_arguments::{Path, Query};
 use web_decoders::{PathConfig, QueryConfig};
 use web_extract::FromRequest;
+use web_extract_head::{Path, Query};
 use web_texts::{Duplicate, Text};
 
 /// A status, and the text of an item or of a refusal.

@@ -1,8 +1,8 @@
 //! An item that is written as JSON. It promises nothing: the tests compare what it does.
 use serde_json::{Value, json};
 use std::alloc::Global;
+use web_codec::{WriteFault, WriteJson};
 use web_texts::Fail;
-use web_values::{WriteFault, WriteJson};
 
 /// A named number.
 #[derive(Clone, Copy, Debug)]

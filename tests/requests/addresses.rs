@@ -2,6 +2,7 @@
 use crate::compare::assert_same;
 use std::alloc::Global;
 use std::fmt::Display;
+use std::net;
 use std::process::Abort;
 use web_request::{IpAddr, MissingPeerAddr, PeerAddr, SocketAddr};
 
@@ -44,6 +45,17 @@ fn addresses_have_their_shortest_texts(rt: HostRuntime) {
     for (octets, text) in VERSION_FOUR {
         assert_text(&rt, rt.alloc(), &IpAddr::V4(*octets), text);
     }
+}
+
+#[test]
+fn addresses_of_std_keep_address_and_port(rt: HostRuntime) {
+    let alloc = rt.alloc();
+    let four = net::SocketAddrV4::new(net::Ipv4Addr::new(192, 0, 2, 7), 8080);
+    let four = SocketAddr::from(net::SocketAddr::V4(four));
+    assert_text(&rt, alloc, &four, "192.0.2.7:8080");
+    let six = net::Ipv6Addr::new(0x2001, 0xdb8, 0, 0, 0, 0, 0, 1);
+    let six = SocketAddr::from(net::SocketAddr::V6(net::SocketAddrV6::new(six, 443, 5, 6)));
+    assert_text(&rt, alloc, &six, "[2001:db8::1]:443");
 }
 
 #[test]

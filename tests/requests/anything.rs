@@ -4,8 +4,8 @@ use std::alloc::Global;
 use std::fmt::Display;
 use std::process::Abort;
 use web_body::{Marks, Payload, Poll, Step};
+use web_codec::{ReadFault, ReadJson, ReadPairs};
 use web_texts::{Fail, Pair};
-use web_values::{ReadFault, ReadJson, ReadPairs};
 
 /// A value of every body.
 #[derive(Clone, Copy, Debug)]

@@ -1,4 +1,4 @@
-//! A body has the same bytes and the same lines in every cutting; what is behind a line is held.
+//! A body has the same bytes and the same lines in every cutting; what is after a line is held.
 use crate::compare::assert_same;
 use crate::given_marks::Given::{self, Piece};
 use crate::given_marks::GivenMarks;

@@ -12,7 +12,7 @@ pub(crate) enum Given {
     Fault,
 }
 
-/// Gives marks in their order, and states none of them. It ends at an empty piece, behind a fault,
+/// Gives marks in their order, and states none of them. It ends at an empty piece, after a fault,
 /// and where the pieces total more than 4 GB.
 #[derive(Drop)]
 pub(crate) struct GivenMarks {
@@ -74,7 +74,7 @@ impl Source for GivenMarks {
     }
 }
 
-/// How many bytes were given with this piece. There is no number behind an empty one, or where they
+/// How many bytes were given with this piece. There is no number after an empty one, or where they
 /// are too many.
 fn total(given: u32, piece: &[u8]) -> Option<u32> {
     if piece.is_empty() {

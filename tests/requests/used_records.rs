@@ -1,7 +1,9 @@
 //! Records that are used again: what is read of them, and which ones a pool keeps.
-use crate::compare::assert_same;
+use crate::compare::{assert_holds, assert_same};
 use crate::requests::{Field, config, head_of};
+use bytes::Bytes;
 use http::Version;
+use http_header::{AUTHORIZATION, HeaderValue};
 use std::alloc::Global;
 use std::process::Abort;
 use std::rc::Rc;
@@ -108,6 +110,33 @@ fn later_request(
     pool.start(alloc, parts).ok().expect(rt, "memory")
 }
 
+/// A request of the pool whose Authorization has these bytes.
+fn authorized_request(
+    rt: &impl Abort,
+    alloc: Global,
+    pool: &mut HttpRequestPool<Visited>,
+    secret: &Bytes,
+) -> HttpRequest<Visited> {
+    let secret = secret.clone().expect(rt, "memory");
+    let value = HeaderValue::from_shared(secret).ok().expect(rt, "a value");
+    let mut head = head_of(rt, alloc, "/later", LATER);
+    head.headers.append(AUTHORIZATION, value).expect(rt, "room");
+    let parts = RequestParts {
+        head,
+        params: Vec::new(alloc),
+        layers: Vec::new(alloc),
+        conn: None,
+        local: None,
+    };
+    assert!(rt; pool.made() < 9);
+    pool.start(alloc, parts).ok().expect(rt, "memory")
+}
+
+/// Bytes that one pointer holds.
+fn secret_bytes(rt: &impl Abort, alloc: Global) -> Bytes {
+    Bytes::copy_from_slice(alloc, b"Basic YTpi").expect(rt, "memory")
+}
+
 /// Compares what is read of the parts of two requests.
 fn assert_same_parts(
     rt: &impl Abort,
@@ -168,6 +197,34 @@ fn a_used_record_reads_as_a_new_one(rt: HostRuntime) {
     assert_same_parts(&rt, &later, &new);
     assert_same_computed(&rt, alloc, &mut later, &mut new);
     assert_same(&rt, later.app_data::<u64>(), Some(&1));
+}
+
+#[test]
+fn a_record_that_is_kept_has_no_header(rt: HostRuntime) {
+    let alloc = rt.alloc();
+    let mut pool = pool_of(&rt, alloc, 1);
+    let secret = secret_bytes(&rt, alloc);
+    let request = authorized_request(&rt, alloc, &mut pool, &secret);
+    assert_holds(&rt, "a header shares the bytes", !secret.is_unique());
+    pool.give_back(request);
+    assert_same(&rt, pool.serials(), &[0]);
+    assert_holds(&rt, "nothing shares the bytes", secret.is_unique());
+}
+
+#[test]
+fn a_head_that_a_duplicate_shares_goes_with_the_duplicate(rt: HostRuntime) {
+    let alloc = rt.alloc();
+    let mut pool = pool_of(&rt, alloc, 1);
+    let secret = secret_bytes(&rt, alloc);
+    let request = authorized_request(&rt, alloc, &mut pool, &secret);
+    let copy = request.duplicate(alloc).expect(&rt, "memory");
+    pool.give_back(request);
+    assert_same(&rt, pool.serials(), &[0]);
+    assert_same(&rt, copy.headers().len(), 2);
+    drop(copy);
+    assert_holds(&rt, "nothing shares the bytes", secret.is_unique());
+    let later = later_request(&rt, alloc, &mut pool);
+    assert_same(&rt, (later.serial(), pool.made()), (0, 1));
 }
 
 #[test]

@@ -1,8 +1,8 @@
 //! Values that JSON bodies and forms are read as, and the texts that they are written as.
 use std::alloc::Global;
 use std::process::Abort;
+use web_codec::{JsonFault, form_pairs, holds_float, pairs_text, read_value};
 use web_texts::{Fail, Pair, Text};
-use web_values::{JsonFault, form_pairs, holds_float, pairs_text, read_value};
 
 /// A body, and the text of its value or the fault that is expected.
 const BODIES: [(&[u8], &str); 26] = [
@@ -34,7 +34,7 @@ const BODIES: [(&[u8], &str); 26] = [
     (b"[{\"a\":1.0}]", "float"),
 ];
 
-/// A form, its names and values behind each other, and the form that is written of them.
+/// A form, its names and values after each other, and the form that is written of them.
 const FORMS: [(&[u8], &str, &str); 14] = [
     (b"n=7&name=ab", "n 7 name ab ", "n=7&name=ab"),
     (b"name=a+b", "name a b ", "name=a+b"),
@@ -74,7 +74,7 @@ fn assert_body(rt: &impl Abort, alloc: Global, body: &[u8], expected: &str) {
     }
 }
 
-/// The names and values, each with a space behind it.
+/// The names and values, each with a space after it.
 fn listed(rt: &impl Abort, alloc: Global, pairs: &[Pair]) -> String {
     let mut text = String::new(alloc);
     for pair in pairs {

@@ -43,7 +43,7 @@ pub(crate) fn or_none<T: Display>(alloc: Global, found: Option<&T>) -> Answer {
     }
 }
 
-/// The text with the text of each value in brackets behind it.
+/// The text with the text of each value in brackets after it.
 pub(crate) fn with_each<T: Display>(shown: String, values: &[T]) -> Answer {
     let mut shown = shown;
     for value in values {

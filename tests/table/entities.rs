@@ -54,7 +54,7 @@ fn positions(alloc: Global, range: &str, length: &str) -> Answer {
     }
 }
 
-/// The range that a row names, whose first position may lie behind its last one.
+/// The range that a row names, whose first position may lie after its last one.
 fn range_of(text: &str) -> Option<ByteRangeSpec> {
     match text.split_once('-')? {
         ("", last) => Some(ByteRangeSpec::Last(last.parse().ok()?)),

@@ -1,5 +1,5 @@
 //! Rows of texts: what calls of `web_texts`, `web_headers`, `web_entities`, `web_negotiate`,
-//! `web_cookies`, `web_connection`, `web_docs`, `web_variants`, `web_multipart_stream` and
+//! `web_cookies`, `web_forwarded`, `web_docs`, `web_variants`, `web_multipart_stream` and
 //! `web_messages` give for texts.
 //!
 //! Standard input has a row a line, `CALL | FIELD | .. | WANTED`, which is written by hand; a line

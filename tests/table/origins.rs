@@ -3,7 +3,7 @@ use crate::answers::{Answer, no_such_call, shown, text};
 use crate::maps::headers_of;
 use http_header::{HeaderMap, HeaderValue};
 use std::alloc::Global;
-use web_connection::read_origin;
+use web_forwarded::read_origin;
 
 /// The fields of a row are those of a head, `NAME: VALUE`.
 pub(crate) fn answer(alloc: Global, name: &str, fields: &[&str]) -> Answer {

@@ -37,7 +37,7 @@ fn read(alloc: Global, request: &HttpRequest<PlainApp<RowBody>>, limit: u32, bod
     read_to_end(alloc, &mut stream, body.len().saturating_add(66))
 }
 
-/// What each answer of a stream is, behind the number of polls that waited before it.
+/// What each answer of a stream is, after the number of polls that waited before it.
 fn read_to_end(alloc: Global, stream: &mut MultipartStream<RowBody>, polls: usize) -> Answer {
     let mut shown = String::new(alloc);
     let mut waited = 0u32;

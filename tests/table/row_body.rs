@@ -16,7 +16,7 @@ const STALL: char = '…';
 /// Ends a piece, and stands for a fault.
 const FAULT: char = '✗';
 
-/// Gives marks in their order, and states none of them. It ends behind a fault, and where the
+/// Gives marks in their order, and states none of them. It ends after a fault, and where the
 /// pieces total more than 4 GB.
 #[derive(Drop)]
 pub(crate) struct RowBody {
@@ -64,7 +64,7 @@ impl Source for RowBody {
     }
 }
 
-/// How many bytes were given with a piece of this size. There is no number behind an empty one, or
+/// How many bytes were given with a piece of this size. There is no number after an empty one, or
 /// where they are too many.
 fn total(given: u32, size: usize) -> Option<u32> {
     if size == 0 {

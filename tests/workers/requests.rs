@@ -36,10 +36,15 @@ pub(crate) fn head(rt: &impl Abort, alloc: Global, target: &'static str) -> Requ
     }
 }
 
-/// A request for `/bytes` under this root layer, of a pool of its own.
-pub(crate) fn request<A: App>(rt: &impl Abort, alloc: Global, root: A::Layer) -> HttpRequest<A> {
+/// A request of this head under this root layer, of a pool of its own.
+pub(crate) fn request_of<A: App>(
+    rt: &impl Abort,
+    alloc: Global,
+    root: A::Layer,
+    head: RequestHead,
+) -> HttpRequest<A> {
     let parts = RequestParts {
-        head: head(rt, alloc, "/bytes"),
+        head,
         params: Vec::new(alloc),
         layers: Vec::new(alloc),
         conn: None,
@@ -51,6 +56,11 @@ pub(crate) fn request<A: App>(rt: &impl Abort, alloc: Global, root: A::Layer) ->
     );
     assert!(rt; pool.made() < 9);
     pool.start(alloc, parts).ok().expect(rt, "memory")
+}
+
+/// A request for `/bytes` under this root layer, of a pool of its own.
+pub(crate) fn request<A: App>(rt: &impl Abort, alloc: Global, root: A::Layer) -> HttpRequest<A> {
+    request_of(rt, alloc, root, head(rt, alloc, "/bytes"))
 }
 
 /// An exchange without layers and data of its own.

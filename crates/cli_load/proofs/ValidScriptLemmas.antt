@@ -98,7 +98,7 @@ module _ (front : List Line) (unplanned : has_line word.Plan front ≡ false) (t
       (rw (append_assoc front (first ∷ rest) (x ∷ []))
       (rest_same (rest ++ x ∷ []) left (rw (append_assoc rest (x ∷ []) left) none) parts.1))
 
-  -- an exchange that is valid by itself is valid behind lines that are no plan
+  -- an exchange that is valid by itself is valid after lines that are no plan
   own_lines : (rest : List Line) → has_line word.Exchange rest ≡ false
       → Clear [] (first ∷ rest) → Clear front (first ∷ rest)
   own_lines rest none clear =
@@ -139,7 +139,7 @@ one_more_line text rest is =
 pieces : (a b c d e : List ℕ) → a ++ (b ++ (c ++ (d ++ e))) ≡ ((a ++ b ++ c) ++ d) ++ e
 pieces a b c d e = sym (simp append_assoc)
 
--- digits with a text before and behind them
+-- digits with a text before and after them
 digits_between : (front back : List ℕ) (n : ℕ) → IsOneLine front → IsOneLine back → n < 2 ^ 64
     → IsOneLine (front ++ decimal n ++ back)
 digits_between front back n before behind small =
@@ -178,7 +178,7 @@ head_argument route.Bytes = codes "POST /bytes"
 head_argument route.Json = codes "POST /json"
 head_argument route.Form = codes "POST /form"
 
--- the lines behind the first, up to the first piece
+-- the lines after the first, up to the first piece
 abbrev head_rest : Route → List Line
 head_rest route.Bytes = with_word word.Text (codes "v") ∷ []
 head_rest route.Json =
@@ -290,7 +290,7 @@ own_exchange route.Form (suc (suc zero)) last few =
     record { clear = refl; single = refl; unplanned = refl }
 own_exchange route.Form (suc (suc (suc n))) last few = absurd (omega (arith, few))
 
--- what is left is valid behind any lines that are no plan, or behind any lines
+-- what is left is valid after any lines that are no plan, or after any lines
 abbrev Continues : List ℕ → Type 0
 Continues rest =
     (before : List Line) → has_line word.Plan before ≡ false → Clear before (script_lines rest)
@@ -383,7 +383,7 @@ draws state = record {
   number = grind arith;
 }
 
--- the last newline ends the script: the line behind it is empty
+-- the last newline ends the script: the line after it is empty
 nothing_left : Ends []
 nothing_left before = refl
 

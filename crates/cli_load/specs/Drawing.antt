@@ -4,7 +4,7 @@ use Rattle.cli_load.specs.declared.drawn.Drawn.{Drawn}
 use Rattle.cli_load.specs.declared.drawn.Route.{Route}
 use Rattle.cli_load.specs.declared.drawn.Route.TheVariants.{Bytes, Json, Form}
 
--- the state behind this one, by the linear congruential generator of MMIX
+-- the state after this one, by the linear congruential generator of MMIX
 abbrev pub next_state : ℕ → ℕ
 next_state x = (x * 6364136223846793005 + 1442695040888963407) % (2 ^ 64)
 

@@ -25,11 +25,11 @@ head_text Form =
     ++ type_line (codes "application/x-www-form-urlencoded")
     ++ line (codes "text name=x&n=")
 
--- the stalls, and the word of the line behind them
+-- the stalls, and the word of the line after them
 abbrev pub stalled_text : ℕ → List ℕ
 stalled_text stalls = flat_map line (replicate stalls (codes "stall")) ++ codes "text "
 
--- what stands behind the number
+-- what stands after the number
 abbrev pub end_text : Route → List ℕ
 end_text Bytes = line []
 end_text Json = line (codes "}")

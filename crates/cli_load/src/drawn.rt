@@ -29,7 +29,7 @@ pub struct Drawn {
     pub number: u64,
 }
 
-/// The state behind this one.
+/// The state after this one.
 pub(crate) fn next_state(state: u64) -> u64
     ensures { result ≡ next_state state }
 {

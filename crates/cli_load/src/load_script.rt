@@ -45,7 +45,7 @@ fn head_text(route: Route) -> &'static [u8]
     }
 }
 
-/// The stalls, and the word of the line behind them.
+/// The stalls, and the word of the line after them.
 fn stalled_text(stalls: u64) -> &'static [u8]
     requires { stalls < 3 }
     ensures { result.now ≡ stalled_text stalls }
@@ -57,7 +57,7 @@ fn stalled_text(stalls: u64) -> &'static [u8]
     }
 }
 
-/// What stands behind the number.
+/// What stands after the number.
 fn end_text(route: Route) -> &'static [u8]
     ensures { result.now ≡ end_text route }
 {

@@ -9,7 +9,7 @@ use Rattle.std.proofs.lemmas.List.Sorted.{ranks_by}
 use Rattle.std.proofs.lemmas.Slice.Eq.{bytes_eq-Decides}
 use Rattle.http_header.specs.FieldValue.{FieldValue}
 use Rattle.http_header.specs.HeaderMap.{Entries, keys, pairs}
-use Rattle.web_describe.specs.SortedNames.{before, sorted_names, with_name}
+use Rattle.web_request_log.specs.SortedNames.{before, sorted_names, with_name}
 use Rattle.cli_print.specs.HeaderLines.{header_line, header_lines, is_increasing, is_increasing_from, name_lines, pair_line}
 
 order : IsStrictWeakOrder before

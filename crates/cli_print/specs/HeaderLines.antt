@@ -2,7 +2,7 @@
 use Rattle.std.specs.Prelude.{ℕ, ◌&&◌, Bool, true, List, [], ◌∷◌, ◌++◌, codes, flat_map}
 use Rattle.http_header.specs.FieldValue.{FieldValue}
 use Rattle.http_header.specs.HeaderMap.{Entries, keys, get_all}
-use Rattle.web_describe.specs.SortedNames.{before, sorted_names}
+use Rattle.web_request_log.specs.SortedNames.{before, sorted_names}
 use Rattle.cli_print.specs.TextLines.{line_text}
 
 abbrev pub header_line : List ℕ → FieldValue → List ℕ

@@ -7,7 +7,7 @@ use Rattle.web_reply.specs.declared.head.ConnectionType.{ConnectionType}
 use Rattle.web_reply.specs.declared.head.ConnectionType.TheVariants.{KeepAlive, Close, Upgrade}
 use Rattle.web_reply.specs.declared.head.ResponseHead.{ResponseHead}
 use Rattle.web_worker.specs.Outcomes.{OutcomeView}
-use Rattle.web_describe.specs.HeaderDescriptions.{newline}
+use Rattle.web_request_log.specs.HeaderDescriptions.{newline}
 use Rattle.cli_print.specs.BodyLines.{body_text}
 use Rattle.cli_print.specs.HeaderLines.{header_lines}
 use Rattle.cli_print.specs.TextLines.{line_text, numbered_text}

@@ -1,6 +1,6 @@
 -- Lines of a word with a text or a number.
 use Rattle.std.specs.Prelude.{ℕ, List, ◌++◌, decimal}
-use Rattle.web_describe.specs.HeaderDescriptions.{newline}
+use Rattle.web_request_log.specs.HeaderDescriptions.{newline}
 
 -- a line of a word and a number, and one of a word and a text
 abbrev pub numbered_text : List ℕ → ℕ → List ℕ

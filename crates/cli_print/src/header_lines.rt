@@ -1,14 +1,14 @@
 //! The lines of the headers.
 ghost use Rattle.std.specs.Prelude.{◌≡◌, ◌++◌, OnOk, flat_map, map};
 ghost use Rattle.http_header.specs.HeaderMap.{keys, pairs};
-ghost use Rattle.web_describe.specs.SortedNames.{before};
+ghost use Rattle.web_request_log.specs.SortedNames.{before};
 ghost use Rattle.cli_print.specs.HeaderLines.{header_line, header_lines, is_increasing, name_lines};
 ghost use Rattle.cli_print.specs.HeaderLines.{pair_line};
 
 use crate::lines::put;
 use http_header::{HeaderMap, HeaderName, HeaderValue};
 use std::alloc::Global;
-use web_describe::sorted_names;
+use web_request_log::sorted_names;
 use web_texts::NoMemory;
 
 fn put_value(out: &mut Vec<u8>, name: &HeaderName, value: &HeaderValue) -> Result<(), NoMemory>

@@ -11,7 +11,7 @@ none_next : (r : Option Reason) (n : ℕ) (next : Option InvalidScript) → faul
 none_next None n next e = (refl, e)
 none_next (Some r) n next e = absurd (cc)
 
--- the same, behind some lines
+-- the same, after some lines
 
 abbrev NoneAfter : List Line → List Line → Type 0
 NoneAfter before left = (b : List Line) (l : Line) (a : List Line) → left ≡ b ++ l ∷ a → fault_of (before ++ b) l ≡ None

@@ -9,7 +9,7 @@ use Rattle.std.proofs.lemmas.List.{append-nil}
 use Rattle.std.proofs.lemmas.List.Elements.{All-push}
 use Rattle.http_header.specs.FieldValue.{FieldValue}
 use Rattle.hex.specs.Hex.{decode_of}
-use Rattle.web_request.specs.declared.address.SocketAddr.{SocketAddr}
+use Rattle.web_request.specs.declared.peers.address.SocketAddr.{SocketAddr}
 use Rattle.web_request.specs.declared.source.Mark.{Mark}
 use Rattle.web_request.specs.declared.source.Mark.TheVariants as mark
 use Rattle.web_request.specs.Body.{is_body, ends_in_fault, whole}
@@ -28,7 +28,7 @@ use Rattle.cli_script.specs.declared.line.Word.TheVariants as word
 use Rattle.cli_script.proofs.ReaderLemmas.{line}
 use Rattle.web_texts.proofs.TestLemmas.{both}
 
--- more marks behind a body that has no fault
+-- more marks after a body that has no fault
 
 pub is_body_more : (m n : List Mark) → is_body m ≡ true → ends_in_fault m ≡ false → is_body n ≡ true → is_body (m ++ n) ≡ true
 is_body_more [] n body unfailed more = more

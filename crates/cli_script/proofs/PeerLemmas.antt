@@ -1,4 +1,4 @@
--- Four numbers with dots between, number by number, and a port behind a colon.
+-- Four numbers with dots between, number by number, and a port after a colon.
 use Rattle.std.proofs.Common.{◌≡◌, ◌==◌, ℕ, suc, Bool, true, false, ◌&&◌, List, [], ◌∷◌, map, length, cond, Option, Some, None, refl, ap, sym, ◌∙◌, arith}
 use Rattle.std.specs.Prelude.{is_some, unwrap_or}
 use Rattle.std.specs.Char.{is_ascii_digit}
@@ -10,7 +10,7 @@ use Rattle.web_texts.specs.Cut.{IsCut}
 use Rattle.web_texts.specs.Digits.{digits_up_to}
 use Rattle.web_texts.proofs.CutLemmas.{cut_is}
 use Rattle.web_texts.proofs.SplitLemmas.{split_cut, split_whole}
-use Rattle.web_request.specs.declared.address.IpAddr.TheVariants.{V4}
+use Rattle.web_request.specs.declared.peers.address.IpAddr.TheVariants.{V4}
 use Rattle.cli_script.specs.Peers.{octet_of, octets_of, peer_of}
 use Rattle.web_texts.proofs.TestLemmas.{both}
 
@@ -25,7 +25,7 @@ two_parts text a rest cut whole = rw (split_cut 46 text a rest cut, split_whole 
 pub three_parts : (text a rest b rest2 : List ℕ) → IsCut 46 text a rest → IsCut 46 rest b rest2 → position_or_len (λ b. b == 46) rest2 ≡ length rest2 → octets_of (slice_split is_dot text) ≡ None
 three_parts text a rest b rest2 cut cut2 whole = rw (split_cut 46 text a rest cut, split_cut 46 rest b rest2 cut2, split_whole (λ (b : ℕ). b == 46) rest2 whole) refl
 
--- the rest behind the third dot is one number, or there are no four numbers
+-- the rest after the third dot is one number, or there are no four numbers
 
 no_dot : (b : ℕ) → is_ascii_digit b ≡ true → (b == 46) ≡ false
 no_dot b digit = grind (arith, nat_tests, digit)

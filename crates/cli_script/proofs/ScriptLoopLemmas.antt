@@ -163,7 +163,7 @@ module _ {S : Type 0} (holds : S → List ScriptedExchangeView → Type 0) where
     faulty_line : (r : Reason) → refusal s (line_at first) ≡ Some r → first_fault (script_lines bytes) ≡ Some (record { line = number; reason = r })
     faulty_line r bad = rw h.number_is (at_fault (script_lines bytes) h.before (line_at first) more h.whole s r now bad)
 
-  -- a line behind which others come
+  -- a line after which others come
 
   pub refused_line : (bytes left first rest : List ℕ) (start old : S) (number : ℕ) (s t : ReaderView) (r : Result Unit (Fail Reason)) (e : Fail InvalidScript)
       → slice_split is_newline left ≡ first ∷ slice_split is_newline rest → Reads s t (line_at first) r → Err e ≡ with_line number r → IsAtLine bytes left start old number s

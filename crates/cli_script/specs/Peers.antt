@@ -3,8 +3,8 @@ use Rattle.std.specs.Prelude.{ℕ, ◌==◌, ◌&&◌, List, [], ◌∷◌, leng
 use Rattle.std.specs.Prelude.{is_some, unwrap_or, if◌then◌else◌}
 use Rattle.std.specs.List.{list_all, slice_split}
 use Rattle.std.specs.Option.{option_and_then, option_map}
-use Rattle.web_request.specs.declared.address.IpAddr.TheVariants.{V4}
-use Rattle.web_request.specs.declared.address.SocketAddr.{SocketAddr}
+use Rattle.web_request.specs.declared.peers.address.IpAddr.TheVariants.{V4}
+use Rattle.web_request.specs.declared.peers.address.SocketAddr.{SocketAddr}
 use Rattle.web_texts.specs.Bytes.{is_dot}
 use Rattle.web_texts.specs.Cut.{split_once}
 use Rattle.web_texts.specs.Digits.{digits_up_to}

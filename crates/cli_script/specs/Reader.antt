@@ -6,7 +6,7 @@ use Rattle.http_header.specs.FieldValue.{FieldValue}
 use Rattle.http_header.specs.HeaderMap.{append_all, value_count}
 use Rattle.web_texts.specs.declared.memory.Fail.{Fail}
 use Rattle.web_texts.specs.Pairs.{Pair}
-use Rattle.web_request.specs.declared.address.SocketAddr.{SocketAddr}
+use Rattle.web_request.specs.declared.peers.address.SocketAddr.{SocketAddr}
 use Rattle.web_request.specs.declared.source.Mark.{Mark}
 use Rattle.cli_script.specs.Acceptance.{Accepts}
 use Rattle.cli_script.specs.ExchangeSinks.{open_exchanges}

@@ -3,7 +3,7 @@ use Rattle.std.specs.Prelude.{ℕ, List, Option}
 use Rattle.http_header.specs.FieldValue.{FieldValue}
 use Rattle.http_header.specs.HeaderMap.{Entries}
 use Rattle.web_texts.specs.Pairs.{Pair}
-use Rattle.web_request.specs.declared.address.SocketAddr.{SocketAddr}
+use Rattle.web_request.specs.declared.peers.address.SocketAddr.{SocketAddr}
 use Rattle.web_request.specs.declared.source.Mark.{Mark}
 use Rattle.web_request.specs.Head.{Target}
 use Rattle.cli_script.specs.declared.layer.LayerSettings.{LayerSettings}

@@ -6,13 +6,13 @@ use std::fmt;
 pub enum Reason {
     /// The word is none that a script has.
     UnknownLine,
-    /// A line of another word than `plan` behind a `plan` line.
+    /// A line of another word than `plan` after a `plan` line.
     LineAfterPlan,
     /// A line of an exchange before the first `exchange` line.
     NoExchange,
-    /// A `text`, `piece`, `stall` or `fault` line behind a `fault` line of the same exchange.
+    /// A `text`, `piece`, `stall` or `fault` line after a `fault` line of the same exchange.
     MarkAfterFault,
-    /// A `header` line behind 1,024 of the same exchange.
+    /// A `header` line after 1,024 of the same exchange.
     TooManyHeaders,
     /// The argument of an `exchange` line is not a method, one space and a target.
     BadExchange,

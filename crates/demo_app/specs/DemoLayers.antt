@@ -3,7 +3,7 @@ use Rattle.std.specs.Prelude.{ℕ, Bool, not, ◌||◌, if◌then◌else◌}
 use Rattle.std.specs.Prelude.{Option, None, Some, is_some, unwrap_or, option_map}
 use Rattle.web_texts.specs.MediaTypes.{MediaType}
 use Rattle.web_body.specs.PayloadSettings.{PayloadSettings, default_payload_settings}
-use Rattle.web_decoders.specs.DecoderSettings.{JsonSettings, FormSettings, HandlerSettings}
+use Rattle.web_body.specs.DecoderSettings.{JsonSettings, FormSettings, HandlerSettings}
 use Rattle.web_extract.specs.LayerConfigurations.{Configurations, holds_nothing}
 use Rattle.cli_script.specs.declared.layer.LayerSettings.{LayerSettings}
 use Rattle.demo_app.specs.declared.layer.DemoLayer.{DemoLayer}

@@ -1,7 +1,7 @@
 -- The request that a script describes, as the program's worker begins it.
 use Rattle.std.specs.Prelude.{ℕ, [], ◌∷◌, codes, map, option_map, false}
 use Rattle.http.specs.declared.version.TheConstants.Version.{HTTP_11}
-use Rattle.web_request.specs.declared.address.IpAddr.TheVariants.{V4}
+use Rattle.web_request.specs.declared.peers.address.IpAddr.TheVariants.{V4}
 use Rattle.web_request.specs.declared.config.AppConfig.{AppConfig}
 use Rattle.web_request.specs.Head.{Head}
 use Rattle.web_request.specs.Request.{Parts, Request}

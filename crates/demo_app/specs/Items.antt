@@ -5,9 +5,9 @@ use Rattle.serde_json.specs.Data.{Data, number, string, object, unsigned, member
 use Rattle.serde_json.specs.Find.{get_member, as_object, as_str, as_number, as_u64}
 use Rattle.web_texts.specs.Digits.{digits_up_to}
 use Rattle.web_texts.specs.Pairs.{Pair}
-use Rattle.web_values.specs.declared.faults.ReadFault.{ReadFault}
-use Rattle.web_values.specs.Answers.{and_then, or_refuse}
-use Rattle.web_values.specs.FormPairs.{values_of}
+use Rattle.web_codec.specs.declared.faults.ReadFault.{ReadFault}
+use Rattle.web_codec.specs.Answers.{and_then, or_refuse}
+use Rattle.web_codec.specs.FormPairs.{values_of}
 use Rattle.demo_app.specs.declared.item.Item.{Item}
 
 abbrev pub because : List ℕ → ReadFault

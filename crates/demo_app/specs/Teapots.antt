@@ -5,11 +5,11 @@ use Rattle.web_texts.specs.MediaTypes.{MediaType, essence_of}
 use Rattle.web_request.specs.Head.{Head}
 use Rattle.web_body.specs.ErrorTexts.{form_error_text, json_error_text, path_error_text}
 use Rattle.web_body.specs.ErrorTexts.{query_error_text}
-use Rattle.web_body.specs.declared.form_error.UrlencodedError.{UrlencodedError}
-use Rattle.web_body.specs.declared.json_error.JsonPayloadError.{JsonPayloadError}
-use Rattle.web_body.specs.declared.path_error.PathError.{PathError}
-use Rattle.web_body.specs.declared.query_error.QueryPayloadError.{QueryPayloadError}
-use Rattle.web_reply.specs.declared.cause.Cause.TheVariants.{Custom}
+use Rattle.web_body.specs.declared.errors.form_error.UrlencodedError.{UrlencodedError}
+use Rattle.web_body.specs.declared.errors.json_error.JsonPayloadError.{JsonPayloadError}
+use Rattle.web_body.specs.declared.errors.path_error.PathError.{PathError}
+use Rattle.web_body.specs.declared.errors.query_error.QueryPayloadError.{QueryPayloadError}
+use Rattle.web_reply.specs.declared.errors.cause.Cause.TheVariants.{Custom}
 use Rattle.web_reply.specs.Replies.{Fault, fault_of}
 use Rattle.demo_app.specs.declared.teapot.Teapot.{Teapot}
 use Rattle.demo_app.specs.declared.teapot.VendorType.{VendorType}

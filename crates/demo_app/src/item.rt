@@ -2,8 +2,8 @@
 use serde_json::{Value, json};
 use std::alloc::Global;
 use std::fmt;
+use web_codec::{ReadFault, ReadJson, WriteFault, WriteJson};
 use web_texts::{Fail, Text};
-use web_values::{ReadFault, ReadJson, WriteFault, WriteJson};
 
 /// A named number, which the demo reads from JSON bodies, forms, queries and paths.
 #[derive(Debug, Drop, PartialEq, Eq)]

@@ -1,13 +1,13 @@
 //! An item, as it is read from names with values and written.
 ghost use Rattle.std.specs.Prelude.{◌≡◌};
-ghost use Rattle.web_values.specs.Answers.{AnswersBy};
-ghost use Rattle.web_values.specs.FormPairs.{values_of};
+ghost use Rattle.web_codec.specs.Answers.{AnswersBy};
+ghost use Rattle.web_codec.specs.FormPairs.{values_of};
 ghost use Rattle.demo_app.specs.Items.{because, one_value};
 
 use crate::item::Item;
 use std::alloc::Global;
+use web_codec::{ReadFault, ReadPairs, WriteFault, WritePairs};
 use web_texts::{Fail, Pair, Text, read_digits};
-use web_values::{ReadFault, ReadPairs, WriteFault, WritePairs};
 
 /// The value of a name that comes once. The texts are those of the refusals where it comes not at
 /// all, and where it comes again.

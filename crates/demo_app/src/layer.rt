@@ -211,7 +211,7 @@ pub fn demo_layer(alloc: Global, settings: LayerSettings) -> Result<DemoLayer, N
     })
 }
 
-/// Adds the layer that a line asks for, behind the others.
+/// Adds the layer that a line asks for, after the others.
 fn add_layer(
     alloc: Global,
     layers: &mut Vec<Rc<DemoLayer>>,

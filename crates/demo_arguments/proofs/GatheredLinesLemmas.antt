@@ -8,12 +8,12 @@ use Rattle.web_request.specs.declared.source.Mark.{Mark}
 use Rattle.web_request.specs.Feed.{Feed}
 use Rattle.web_request.specs.MessageFields.{encoding_of}
 use Rattle.web_request.specs.Request.{Request}
-use Rattle.web_body.specs.declared.lines_error.ReadlinesError.{ReadlinesError}
-use Rattle.web_body.specs.declared.lines_error.ReadlinesError.TheVariants as error
+use Rattle.web_body.specs.declared.errors.lines_error.ReadlinesError.{ReadlinesError}
+use Rattle.web_body.specs.declared.errors.lines_error.ReadlinesError.TheVariants as error
 use Rattle.web_body.specs.declared.payload.Payload.{Payload}
 use Rattle.web_body.specs.declared.payload.Payload.TheVariants as payload
 use Rattle.web_body.specs.Payload.{payload_feed}
-use Rattle.web_reply.specs.declared.cause.Cause.TheVariants as cause
+use Rattle.web_reply.specs.declared.errors.cause.Cause.TheVariants as cause
 use Rattle.web_reply.specs.Replies.{Fault, fault_of}
 use Rattle.web_lines.specs.LineReader.{LineReader}
 use Rattle.web_lines.specs.LineReading.{new_reader, schedule_of, taken_from}

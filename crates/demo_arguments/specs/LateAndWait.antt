@@ -6,7 +6,7 @@ use Rattle.std.specs.Str.{bytes_eq}
 use Rattle.web_texts.specs.Digits.{digits_up_to}
 use Rattle.web_texts.specs.Pairs.{Pair}
 use Rattle.web_request.specs.declared.source.Mark.{Mark}
-use Rattle.web_reply.specs.declared.cause.Cause.TheVariants.{Custom}
+use Rattle.web_reply.specs.declared.errors.cause.Cause.TheVariants.{Custom}
 use Rattle.web_reply.specs.Replies.{Fault, fault_of}
 use Rattle.web_extract.specs.Extracts.{AllowsSome}
 use Rattle.web_extract.specs.declared.never.Never.{Never}

@@ -6,8 +6,8 @@ use Rattle.web_texts.specs.Pairs.{Pair}
 use Rattle.web_request.specs.declared.source.Mark.{Mark}
 use Rattle.web_request.specs.MessageFields.{encoding_of}
 use Rattle.web_request.specs.Request.{Request}
-use Rattle.web_body.specs.declared.lines_error.ReadlinesError.{ReadlinesError}
-use Rattle.web_body.specs.declared.lines_error.ReadlinesError.TheVariants as error
+use Rattle.web_body.specs.declared.errors.lines_error.ReadlinesError.{ReadlinesError}
+use Rattle.web_body.specs.declared.errors.lines_error.ReadlinesError.TheVariants as error
 use Rattle.web_body.specs.declared.poll.Step.{Step}
 use Rattle.web_body.specs.declared.poll.Step.TheVariants as step
 use Rattle.web_body.specs.PollSteps.{GivesSome}
@@ -15,7 +15,7 @@ use Rattle.web_lines.specs.Lines.{Answer}
 use Rattle.web_lines.specs.LineReader.{LineReader}
 use Rattle.web_body.specs.MessageBody.{default_limit}
 use Rattle.web_lines.specs.LineSchedules.{Due, Schedule, error_due, schedule}
-use Rattle.web_reply.specs.declared.cause.Cause.TheVariants as cause
+use Rattle.web_reply.specs.declared.errors.cause.Cause.TheVariants as cause
 use Rattle.web_reply.specs.Replies.{Fault, fault_of}
 use Rattle.web_extract.specs.Extracts.{AllowsSome}
 use Rattle.web_extract.specs.ListResults.{DelayedResult}
@@ -80,12 +80,12 @@ pub record LinesFutureView (S : Type 0) : Type 0 where
   pub lines : Lines
   pub is_finished : Bool
 
--- the lines that came, and these behind them
+-- the lines that came, and these after them
 abbrev pub behind : Lines → Result Lines ReadlinesError → Result Lines ReadlinesError
 behind came (Ok lines) = Ok (came ++ lines)
 behind came (Err e) = Err e
 
--- where the answers that are due are stated, only their lines behind those that came are allowed
+-- where the answers that are due are stated, only their lines after those that came are allowed
 abbrev pub AllowsLines : Lines → Option Schedule → ℕ → Result Lines Fault → Type 0
 AllowsLines came None n x = ⊤
 AllowsLines came (Some s) n x =

@@ -6,10 +6,10 @@ use Rattle.web_cookies.specs.declared.cookie_parse_error.CookieParseError.{Cooki
 use Rattle.web_request.specs.Feed.{Feed}
 use Rattle.web_request.specs.KeptValues.{CookiesSaid}
 use Rattle.web_request.specs.declared.source.Mark.{Mark}
-use Rattle.web_values.specs.FormPairs.{pairs_text}
+use Rattle.web_codec.specs.FormPairs.{pairs_text}
 use Rattle.web_reply.specs.ResponseBodies.{Plain, Plain.Bytes, Plain.Stream, box_plain}
 use Rattle.web_reply.specs.ResponseBodies.{whole_plain}
-use Rattle.web_reply.specs.declared.cause.Cause.TheVariants.{Custom}
+use Rattle.web_reply.specs.declared.errors.cause.Cause.TheVariants.{Custom}
 use Rattle.web_reply.specs.Replies.{Fault, Reply, error_reply, fault_of, plain_reply, typed_reply}
 use Rattle.web_reply.specs.Responders.{bytes_reply, empty_reply, text_reply}
 use Rattle.web_docs.specs.DocumentFunctions.{document_reply}

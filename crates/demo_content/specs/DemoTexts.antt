@@ -10,16 +10,16 @@ use Rattle.web_texts.specs.MediaTypeTexts.{media_type_text}
 use Rattle.web_request.specs.Connections.{Connection}
 use Rattle.web_request.specs.KeptValues.{CookiesSaid}
 use Rattle.web_headers.specs.PrintedLists.{comma_joined}
-use Rattle.web_headers.specs.declared.accept_header.Accept.{Accept}
+use Rattle.web_headers.specs.declared.accepts.accept_header.Accept.{Accept}
 use Rattle.web_negotiate.specs.MediaChoices.{media_rank}
 use Rattle.web_negotiate.specs.Rankings.{ranked_by}
-use Rattle.web_arguments.specs.declared.header_argument.Header.{Header}
+use Rattle.web_extract_head.specs.declared.header_argument.Header.{Header}
 use Rattle.web_reply.specs.Causes.{cause_status}
 use Rattle.web_reply.specs.Replies.{Fault}
-use Rattle.web_types.specs.declared.either.Either.{Either}
-use Rattle.web_types.specs.declared.either.Either.TheVariants.{Left, Right}
-use Rattle.web_types.specs.declared.json_value.Json.{Json}
-use Rattle.web_types.specs.declared.form_value.Form.{Form}
+use Rattle.web_extract_body.specs.declared.either.Either.{Either}
+use Rattle.web_extract_body.specs.declared.either.Either.TheVariants.{Left, Right}
+use Rattle.web_extract_body.specs.declared.json_value.Json.{Json}
+use Rattle.web_extract_body.specs.declared.form_value.Form.{Form}
 use Rattle.demo_app.specs.Items.{item_text}
 use Rattle.demo_app.specs.declared.app.DemoConn.{DemoConn}
 use Rattle.demo_app.specs.declared.item.Item.{Item}

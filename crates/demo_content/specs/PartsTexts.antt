@@ -1,7 +1,7 @@
 -- The text about the parts of a body.
 use Rattle.std.specs.Prelude.{ℕ, List, ◌++◌, length, decimal}
 use Rattle.std.specs.List.{join_by}
-use Rattle.web_parts.specs.declared.part.Part.{Part}
+use Rattle.web_multipart_parts.specs.declared.part.Part.{Part}
 use Rattle.demo_content.specs.DemoTexts.{bar, space, text_or_dash}
 
 -- the name, that of the file, and the size of the content

@@ -20,11 +20,11 @@ use http::StatusCode;
 use http_header::{CONTENT_TYPE, HeaderMap, HeaderValue};
 use std::alloc::Global;
 use web_body::Marks;
+use web_extract_body::{Form, Json};
 use web_reply::{BoxBody, Cause, Done, Error, HttpResponse, Responder, WholeBody};
 use web_request::cookies::CookieParseError;
 use web_request::{App, Fail, HttpRequest, NoMemory};
 use web_texts::Text;
-use web_types::{Form, Json};
 
 /// A value that the handler responds with. `S` is the source of bodies that are streams.
 #[derive(Drop)]
@@ -41,7 +41,7 @@ pub enum Answer<S> {
     Done,
     /// An empty 404, as `None` responds.
     None,
-    /// A response that was made. It stands behind a `Box`, so that the other answers stay small.
+    /// A response that was made. It is in a `Box`, so that the other answers stay small.
     Response(Box<HttpResponse<BoxBody<S>>>),
 }
 

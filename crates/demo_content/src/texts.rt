@@ -9,14 +9,14 @@ use demo_app::Item;
 use demo_arguments::{AllLines, DataArguments};
 use std::alloc::Global;
 use std::fmt;
-use web_arguments::{Header, Path, Query};
+use web_extract_body::{Either, Form, Json};
+use web_extract_head::{Header, Path, Query};
 use web_headers::{Accept, fmt_comma_delimited};
 use web_negotiate::prelude::AcceptChoices;
 use web_reply::{Error, ResponseError};
 use web_request::cookies::CookiePair;
 use web_request::{ConnectionInfo, NoMemory};
 use web_texts::{Mime, Text};
-use web_types::{Either, Form, Json};
 
 /// Room for most lists of cookies and most origins, in bytes, so that their texts need not grow.
 const ROOM: usize = 128;
@@ -125,7 +125,7 @@ impl PlainText for DataArguments {
     }
 }
 
-/// Adds a name with what stands before and behind it, and its value.
+/// Adds a name with what stands before and after it, and its value.
 fn push_named(text: &mut String, name: &str, value: &str) -> Result<(), NoMemory>
     ensures { OnOk result
         (string_bytes text.new ≡ string_bytes text.old ++ (name.now ++ value.now)) }

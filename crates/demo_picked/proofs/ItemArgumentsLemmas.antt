@@ -3,25 +3,25 @@ use Rattle.std.proofs.Common.{◌≡◌, ℕ, List, refl, sym, ◌∙◌}
 use Rattle.std.specs.Prelude.{Result, Ok, Err}
 use Rattle.web_request.specs.declared.source.Mark.{Mark}
 use Rattle.web_request.specs.Head.{Head, head_query}
-use Rattle.web_body.specs.declared.path_error.PathError.TheVariants as path
-use Rattle.web_body.specs.declared.query_error.QueryPayloadError.TheVariants as query
-use Rattle.web_values.specs.FormPairs.{form_pairs}
+use Rattle.web_body.specs.declared.errors.path_error.PathError.TheVariants as path
+use Rattle.web_body.specs.declared.errors.query_error.QueryPayloadError.TheVariants as query
+use Rattle.web_codec.specs.FormPairs.{form_pairs}
 use Rattle.web_reply.specs.Replies.{Fault}
 use Rattle.web_extract.specs.CollectedResults.{map_value}
 use Rattle.web_extract.specs.Refusals.{path_fault, query_fault, refused_by}
 use Rattle.web_extract.specs.SomeAnswer.{itself}
 use Rattle.web_extract.specs.ListMeanings.{Member}
-use Rattle.web_types.specs.EitherLaw.{Only, OnlyOf}
-use Rattle.web_types.specs.TypeFunctions.{IsHandler, IsPairReader, IsPredicate, IsReader}
-use Rattle.web_types.specs.declared.either.Either.{Either}
-use Rattle.web_types.specs.declared.form_value.Form.{Form}
-use Rattle.web_types.specs.declared.json_value.Json.{Json}
-use Rattle.web_types.proofs.EitherLawLemmas.{either_decides}
-use Rattle.web_types.specs.JsonArgument.{MeansJson, json_result}
-use Rattle.web_types.proofs.TypeFunctionsLemmas.{decides_form, decides_json, json_to, refused_only}
-use Rattle.web_arguments.specs.PathArgument.{PathRefused, decoded_parameters}
-use Rattle.web_arguments.specs.QueryArgument.{QueryRefused}
-use Rattle.web_arguments.proofs.ReadArgumentsLemmas.{only_read}
+use Rattle.web_extract_body.specs.EitherLaw.{Only, OnlyOf}
+use Rattle.web_extract_body.specs.TypeFunctions.{IsHandler, IsPairReader, IsPredicate, IsReader}
+use Rattle.web_extract_body.specs.declared.either.Either.{Either}
+use Rattle.web_extract_body.specs.declared.form_value.Form.{Form}
+use Rattle.web_extract_body.specs.declared.json_value.Json.{Json}
+use Rattle.web_extract_body.proofs.EitherLawLemmas.{either_decides}
+use Rattle.web_extract_body.specs.JsonArgument.{MeansJson, json_result}
+use Rattle.web_extract_body.proofs.TypeFunctionsLemmas.{decides_form, decides_json, json_to, refused_only}
+use Rattle.web_extract_head.specs.PathArgument.{PathRefused, decoded_parameters}
+use Rattle.web_extract_head.specs.QueryArgument.{QueryRefused}
+use Rattle.web_extract_head.proofs.ReadArgumentsLemmas.{only_read}
 use Rattle.demo_app.specs.DemoLayers.{demo_configurations}
 use Rattle.demo_app.specs.Items.{item_of_json, item_of_pairs}
 use Rattle.demo_app.specs.Teapots.{form_teapot, is_vendor_type, json_teapot}

@@ -4,9 +4,9 @@ use Rattle.std.specs.Prelude.{Option, None, Some, Result, Ok, Err, String, strin
 use Rattle.std.specs.Global.{Global}
 use Rattle.std.specs.Option.{option_map}
 use Rattle.web_texts.specs.MediaTypes.{MediaType}
-use Rattle.web_texts.specs.declared.quality_item.QualityItem.{QualityItem}
+use Rattle.web_texts.specs.declared.media.quality_item.QualityItem.{QualityItem}
 use Rattle.web_headers.specs.ListHeaders.{accept_of}
-use Rattle.web_headers.specs.declared.accept_header.Accept.{Accept}
+use Rattle.web_headers.specs.declared.accepts.accept_header.Accept.{Accept}
 use Rattle.web_request.specs.declared.source.Mark.{Mark}
 use Rattle.web_request.specs.Feed.{Feed}
 use Rattle.web_request.specs.Head.{head_path}
@@ -32,8 +32,8 @@ use Rattle.web_extract.specs.declared.never.Never.{Never}
 use Rattle.web_extract.proofs.ConvertedFuturesLemmas.{GivesOnly, converted_only}
 use Rattle.web_extract.proofs.HeadArgumentsLemmas.{only_payload, only_request}
 use Rattle.web_headers.specs.HeaderLaws.{SaysOnly}
-use Rattle.web_arguments.specs.HeaderArgument.{header_result, request_values}
-use Rattle.web_arguments.proofs.HeaderArgumentLemmas.{gives_only}
+use Rattle.web_extract_head.specs.HeaderArgument.{header_result, request_values}
+use Rattle.web_extract_head.proofs.HeaderArgumentLemmas.{gives_only}
 use Rattle.demo_app.specs.declared.app.DemoConn.{DemoConn}
 use Rattle.demo_app.specs.declared.app.DemoLocal.{DemoLocal}
 use Rattle.demo_app.specs.declared.layer.DemoLayer.{DemoLayer}

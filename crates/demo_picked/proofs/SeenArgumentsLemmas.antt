@@ -3,23 +3,22 @@ use Rattle.std.proofs.Common.{◌≡◌, ℕ, List, refl, subst, ap, ◌∙◌}
 use Rattle.std.specs.Prelude.{Result, Ok, Err}
 use Rattle.web_request.specs.declared.source.Mark.{Mark}
 use Rattle.web_reply.specs.Replies.{Fault}
-use Rattle.web_extract.specs.ArgumentLists.{Gives, Joins2, nested3}
 use Rattle.web_extract.specs.CappedArguments.{GivesCapped, as_capped, wrapped}
-use Rattle.web_extract.specs.CollectedResults.{collected2, map_value}
+use Rattle.web_extract.specs.CollectedResults.{map_value}
 use Rattle.web_extract.specs.ConvertedFutures.{ConvertsResult, GivesConvertedBy, converted_result}
-use Rattle.web_extract.specs.ListResults.{DelayedResult, Exactly, list2, list3, with_value}
-use Rattle.web_extract.specs.declared.capped_argument.Capped.{Capped}
+use Rattle.web_extract.specs.ListResults.{DelayedResult, list2, list3, with_value}
+use Rattle.web_extract.specs.declared.body.capped_argument.Capped.{Capped}
 use Rattle.web_extract.specs.ListMeanings.{ArgumentMeaning, Meaning, Means2, Means3, Member}
+use Rattle.web_extract.specs.SeenResults.{SeenAs}
 use Rattle.web_extract.proofs.ConvertedFuturesLemmas.{GivesOnly}
-use Rattle.web_extract.proofs.HandedMarksLemmas.{decides2, decides3}
+use Rattle.web_extract.proofs.SeenResultsLemmas.{sees2, sees3}
 use Rattle.demo_picked.specs.Picking.{same_fault}
 
 -- Of each list of marks the argument leaves these, and its result, seen by f, is this one.
 abbrev pub Seen : {T V : Type 0} → (T → V) → Meaning T → (List Mark → List Mark)
     → (List Mark → DelayedResult V) → Type 0
 Seen {T} f means rest a =
-    (m left : List Mark) (n : ℕ) (x : Result T Fault) → means m left n x
-    → (left ≡ rest m) × (n ≡ (a m).delay) × (map_value f x ≡ (a m).result)
+    (m : List Mark) → SeenAs f means m (rest m) (a m)
 
 -- the same of an argument with an error of its own
 abbrev pub SeenAlone : {T E V : Type 0} → (T → V) → (E → Fault)
@@ -45,14 +44,6 @@ capped_alone cap means rest a seen m left n x h =
     let once = seen m left n h.0 h.1 in
     (once.0, once.1, ap (converted_result (λ v. v) same_fault) h.2 ∙ wrapped_value h.0 ∙ ap (map_value as_capped) once.2)
 
--- the rest and the result, as a meaning
-abbrev As : {V : Type 0} → (List Mark → List Mark) → (List Mark → DelayedResult V) → Meaning V
-As rest a m left n y = (left ≡ rest m) × (n ≡ (a m).delay) × (y ≡ (a m).result)
-
-exactly : {V : Type 0} (rest : List Mark → List Mark) (a : List Mark → DelayedResult V) (m : List Mark)
-    → Exactly (As rest a) m (rest m) (a m)
-exactly rest a m left n y = (λ h. h, λ h. h)
-
 -- an argument as a place of a list, whose refusals convert as a function says
 pub listed_seen : {T E V : Type 0} (f : T → V) (converts : E → Fault → Type 0) (error : E → Fault)
     → ((e : E) (x : Fault) → converts e x → x ≡ error e)
@@ -62,85 +53,27 @@ listed_seen f converts error only means rest a seen m left n (Ok v) h = seen m l
 listed_seen f converts error only means rest a seen m left n (Err e) h =
     rw (only h.0 e h.2) (seen m left n (Err h.0) h.1)
 
-collected_seen : {T U V W : Type 0} (f : T → V) (g : U → W) (x : Result T Fault) (y : Result U Fault)
-    → map_value (λ v. (f v.0, g v.1)) (collected2 x y) ≡ collected2 (map_value f x) (map_value g y)
-collected_seen f g (Ok a) (Ok b) = refl
-collected_seen f g (Ok a) (Err e) = refl
-collected_seen f g (Err e) (Ok b) = refl
-collected_seen f g (Err e) (Err d) = refl
-
--- two places, each seen by a function
-module _ {T U V W : Type 0} (f : T → V) (g : U → W)
-    (first : Gives T) (second : Gives U) (first_as : Gives V) (second_as : Gives W)
-    (to_first : (n : ℕ) (x : Result T Fault) → first n x → first_as n (map_value f x))
-    (to_second : (n : ℕ) (x : Result U Fault) → second n x → second_as n (map_value g x)) where
-  joins_seen : (n : ℕ) (x : Result (T × U) Fault) → Joins2 first second n x
-      → Joins2 first_as second_as n (map_value (λ v. (f v.0, g v.1)) x)
-  joins_seen n x j = record {
-    n1 = j.n1;
-    x1 = map_value f j.x1;
-    first_gives = to_first j.n1 j.x1 j.first_gives;
-    n2 = j.n2;
-    x2 = map_value g j.x2;
-    second_gives = to_second j.n2 j.x2 j.second_gives;
-    delay = j.delay;
-    result = ap (map_value (λ v. (f v.0, g v.1))) j.result ∙ collected_seen f g j.x1 j.x2;
-  }
-
 module _ {T U V W : Type 0} (f : T → V) (g : U → W) (first : Meaning T) (second : Meaning U)
     (rest1 rest2 : List Mark → List Mark)
     (a : List Mark → DelayedResult V) (b : List Mark → DelayedResult W)
     (seen1 : Seen f first rest1 a) (seen2 : Seen g second rest2 b) where
-  pair_as : (m left : List Mark) (n : ℕ) (x : Result (T × U) Fault) → Means2 first second m left n x
-      → Means2 (As rest1 a) (As rest2 b) m left n (map_value (λ v. (f v.0, g v.1)) x)
-  pair_as m left n x h = (
-    h.0,
-    joins_seen f g (first m h.0) (second h.0 left) (As rest1 a m h.0) (As rest2 b h.0 left)
-        (λ k y. seen1 m h.0 k y) (λ k y. seen2 h.0 left k y) n x h.1,
-  )
-
   -- a list of two, of which the second gets what the first leaves
   pub pair_seen : Seen (λ v. (f v.0, g v.1)) (Means2 first second) (λ m. rest2 (rest1 m))
       (λ m. list2 (a m) (b (rest1 m)))
-  pair_seen m left n x h =
-      (decides2 (As rest1 a) (As rest2 b) m (rest1 m) (rest2 (rest1 m)) (a m) (b (rest1 m))
-      (exactly rest1 a m) (exactly rest2 b (rest1 m)) left n (map_value (λ v. (f v.0, g v.1)) x)).0
-      (pair_as m left n x h)
-
-nested_seen : {T U X V W Y : Type 0} (f : T → V) (g : U → W) (h : X → Y) (x : Result (T × U × X) Fault)
-    → map_value (λ v. (f v.0, (g v.1.0, h v.1.1))) (nested3 x) ≡ nested3 (map_value (λ v. (f v.0, g v.1, h v.2)) x)
-nested_seen f g h (Ok v) = refl
-nested_seen f g h (Err e) = refl
+  pair_seen m =
+      sees2 f g first second m (rest1 m) (rest2 (rest1 m)) (a m) (b (rest1 m)) (seen1 m) (seen2 (rest1 m))
 
 module _ {T U X V W Y : Type 0} (f : T → V) (g : U → W) (h : X → Y)
     (first : Meaning T) (second : Meaning U) (third : Meaning X)
     (rest1 rest2 rest3 : List Mark → List Mark)
     (a : List Mark → DelayedResult V) (b : List Mark → DelayedResult W) (c : List Mark → DelayedResult Y)
     (seen1 : Seen f first rest1 a) (seen2 : Seen g second rest2 b) (seen3 : Seen h third rest3 c) where
-  three_as : (m left : List Mark) (n : ℕ) (x : Result (T × U × X) Fault) → Means3 first second third m left n x
-      → Means3 (As rest1 a) (As rest2 b) (As rest3 c) m left n (map_value (λ v. (f v.0, g v.1, h v.2)) x)
-  three_as m left n x d = (
-    d.0,
-    d.1,
-    subst (λ (y : Result (V × (W × Y)) Fault).
-        Joins2 (As rest1 a m d.0) (Joins2 (As rest2 b d.0 d.1) (As rest3 c d.1 left)) n y) (nested_seen f g h x)
-        (joins_seen f (λ v. (g v.0, h v.1)) (first m d.0) (Joins2 (second d.0 d.1) (third d.1 left))
-        (As rest1 a m d.0) (Joins2 (As rest2 b d.0 d.1) (As rest3 c d.1 left))
-        (λ k y. seen1 m d.0 k y)
-        (joins_seen g h (second d.0 d.1) (third d.1 left) (As rest2 b d.0 d.1) (As rest3 c d.1 left)
-        (λ k y. seen2 d.0 d.1 k y) (λ k y. seen3 d.1 left k y))
-        n (nested3 x) d.2),
-  )
-
   -- a list of three, each of which gets what the one before leaves
   pub three_seen : Seen (λ v. (f v.0, g v.1, h v.2)) (Means3 first second third)
       (λ m. rest3 (rest2 (rest1 m))) (λ m. list3 (a m) (b (rest1 m)) (c (rest2 (rest1 m))))
-  three_seen m left n x d =
-      (decides3 (As rest1 a) (As rest2 b) (As rest3 c) m (rest1 m) (rest2 (rest1 m)) (rest3 (rest2 (rest1 m)))
-      (a m) (b (rest1 m)) (c (rest2 (rest1 m)))
-      (exactly rest1 a m) (exactly rest2 b (rest1 m)) (exactly rest3 c (rest2 (rest1 m)))
-      left n (map_value (λ v. (f v.0, g v.1, h v.2)) x)).0
-      (three_as m left n x d)
+  three_seen m =
+      sees3 f g h first second third m (rest1 m) (rest2 (rest1 m)) (rest3 (rest2 (rest1 m)))
+      (a m) (b (rest1 m)) (c (rest2 (rest1 m))) (seen1 m) (seen2 (rest1 m)) (seen3 (rest2 (rest1 m)))
 
 -- values that are seen by a function, and then converted
 module _ {T V P : Type 0} (f : T → V) (value : V → P) where

@@ -6,15 +6,15 @@ use Rattle.std.specs.Option.{option_map}
 use Rattle.web_texts.specs.MediaTypes.{MediaType}
 use Rattle.web_texts.specs.declared.errors.ParseError.{ParseError}
 use Rattle.web_texts.specs.declared.errors.ParseError.TheVariants as refusal
-use Rattle.web_texts.specs.declared.quality_item.QualityItem.{QualityItem}
+use Rattle.web_texts.specs.declared.media.quality_item.QualityItem.{QualityItem}
 use Rattle.web_texts.specs.Pairs.{Pair}
 use Rattle.web_headers.specs.ListHeaders.{accept_of}
-use Rattle.web_headers.specs.declared.accept_header.Accept.{Accept}
+use Rattle.web_headers.specs.declared.accepts.accept_header.Accept.{Accept}
 use Rattle.web_request.specs.declared.source.Mark.{Mark}
 use Rattle.web_request.specs.Connections.{Connection, connection_of}
 use Rattle.web_request.specs.KeptValues.{CookiesSaid, known_cookies}
 use Rattle.web_request.specs.Request.{Record, record_of}
-use Rattle.web_reply.specs.declared.cause.Cause.TheVariants.{Parse}
+use Rattle.web_reply.specs.declared.errors.cause.Cause.TheVariants.{Parse}
 use Rattle.web_reply.specs.Replies.{Fault, fault_of}
 use Rattle.web_extract.specs.DataArguments.{data_result, request_data_result}
 use Rattle.web_extract.specs.Extracts.{AllowsSome}
@@ -26,9 +26,9 @@ use Rattle.web_extract.specs.OptionArgument.{GivesOption, means_option_some}
 use Rattle.web_extract.specs.ResultArgument.{GivesResult, means_result_some}
 use Rattle.web_extract.specs.SomeAnswer.{itself, means2_some, means3_some, member_some}
 use Rattle.web_extract.specs.declared.never.Never.{Never}
-use Rattle.web_arguments.specs.HeaderArgument.{MeansHeader, header_some, request_values}
-use Rattle.web_arguments.specs.declared.header_argument.Header.{Header}
-use Rattle.web_types.specs.declared.json_value.Json.{Json}
+use Rattle.web_extract_head.specs.HeaderArgument.{MeansHeader, header_some, request_values}
+use Rattle.web_extract_head.specs.declared.header_argument.Header.{Header}
+use Rattle.web_extract_body.specs.declared.json_value.Json.{Json}
 use Rattle.demo_app.specs.declared.app.DemoConn.{DemoConn}
 use Rattle.demo_app.specs.declared.app.DemoLocal.{DemoLocal}
 use Rattle.demo_app.specs.declared.item.Item.{Item}

@@ -14,7 +14,7 @@ use Rattle.web_extract.specs.Extracts.{AllowsSome}
 use Rattle.web_extract.specs.LayerConfigurations.{payload_settings}
 use Rattle.web_extract.specs.ListResults.{DelayedResult, with_value}
 use Rattle.web_extract.specs.PayloadArgument.{MeansPayload, payload_some}
-use Rattle.web_extract.specs.declared.capped_argument.Capped.{Capped}
+use Rattle.web_extract.specs.declared.body.capped_argument.Capped.{Capped}
 use Rattle.web_extract.specs.StringArgument.{MeansString, string_rest, string_result, string_some}
 use Rattle.web_extract.specs.ListMeanings.{ArgumentMeaning}
 use Rattle.demo_app.specs.DemoLayers.{demo_configurations}

@@ -2,11 +2,11 @@
 use Rattle.std.specs.Prelude.{◌≡◌, List, Option}
 use Rattle.web_request.specs.declared.source.Mark.{Mark}
 use Rattle.web_request.specs.Head.{Head, head_query}
-use Rattle.web_decoders.specs.DecoderSettings.{FormSettings, JsonSettings}
+use Rattle.web_body.specs.DecoderSettings.{FormSettings, JsonSettings}
 use Rattle.web_decoders.specs.TypePredicates.{Predicate}
-use Rattle.web_values.specs.DecodedForms.{PairReader}
-use Rattle.web_values.specs.DecodedJson.{JsonReader}
-use Rattle.web_values.specs.FormPairs.{form_pairs}
+use Rattle.web_codec.specs.DecodedForms.{PairReader}
+use Rattle.web_codec.specs.DecodedJson.{JsonReader}
+use Rattle.web_codec.specs.FormPairs.{form_pairs}
 use Rattle.web_reply.specs.Replies.{Fault}
 use Rattle.web_extract.specs.CappedArguments.{GivesCapped, as_capped, means_capped_some}
 use Rattle.web_extract.specs.Extracts.{AllowsSome}
@@ -14,21 +14,21 @@ use Rattle.web_extract.specs.LayerConfigurations.{form_settings, json_settings, 
 use Rattle.web_extract.specs.LayerConfigurations.{query_settings}
 use Rattle.web_extract.specs.ListResults.{DelayedResult, with_value}
 use Rattle.web_extract.specs.Refusals.{Handler}
-use Rattle.web_extract.specs.declared.capped_argument.Capped.{Capped}
+use Rattle.web_extract.specs.declared.body.capped_argument.Capped.{Capped}
 use Rattle.web_extract.specs.ListMeanings.{ArgumentMeaning}
-use Rattle.web_types.specs.EitherArgument.{MeansEither, either_result, either_some}
-use Rattle.web_types.specs.FormArgument.{MeansForm, form_rest, form_result, form_some}
-use Rattle.web_types.specs.JsonArgument.{MeansJson, capped_json, json_rest, json_result}
-use Rattle.web_types.specs.JsonArgument.{json_some}
-use Rattle.web_types.specs.declared.either.Either.{Either}
-use Rattle.web_types.specs.declared.either.EitherExtractError.{EitherExtractError}
-use Rattle.web_types.specs.declared.form_value.Form.{Form}
-use Rattle.web_types.specs.declared.json_value.Json.{Json}
-use Rattle.web_arguments.specs.PathArgument.{PathRefused, decoded_parameters, path_refused_some}
-use Rattle.web_arguments.specs.PathArgument.{path_result}
-use Rattle.web_arguments.specs.QueryArgument.{QueryRefused, query_refused_some, query_result}
-use Rattle.web_arguments.specs.ReadArguments.{MeansRead, read_some}
-use Rattle.web_arguments.specs.declared.query_argument.Query.{Query}
+use Rattle.web_extract_body.specs.EitherArgument.{MeansEither, either_result, either_some}
+use Rattle.web_extract_body.specs.FormArgument.{MeansForm, form_rest, form_result, form_some}
+use Rattle.web_extract_body.specs.JsonArgument.{MeansJson, capped_json, json_rest, json_result}
+use Rattle.web_extract_body.specs.JsonArgument.{json_some}
+use Rattle.web_extract_body.specs.declared.either.Either.{Either}
+use Rattle.web_extract_body.specs.declared.either.EitherExtractError.{EitherExtractError}
+use Rattle.web_extract_body.specs.declared.form_value.Form.{Form}
+use Rattle.web_extract_body.specs.declared.json_value.Json.{Json}
+use Rattle.web_extract_head.specs.PathArgument.{PathRefused, decoded_parameters, path_refused_some}
+use Rattle.web_extract_head.specs.PathArgument.{path_result}
+use Rattle.web_extract_head.specs.QueryArgument.{QueryRefused, query_refused_some, query_result}
+use Rattle.web_extract_head.specs.ReadArguments.{MeansRead, read_some}
+use Rattle.web_extract_head.specs.declared.query_argument.Query.{Query}
 use Rattle.demo_app.specs.DemoLayers.{demo_configurations}
 use Rattle.demo_app.specs.Items.{item_of_json, item_of_pairs}
 use Rattle.demo_app.specs.Teapots.{form_teapot, is_vendor_type, json_teapot}

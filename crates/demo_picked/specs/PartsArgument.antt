@@ -5,7 +5,7 @@ use Rattle.web_reply.specs.Replies.{Fault}
 use Rattle.web_extract.specs.Extracts.{AllowsSome}
 use Rattle.web_extract.specs.ListMeanings.{ArgumentMeaning}
 use Rattle.web_extract.specs.ListResults.{DelayedResult}
-use Rattle.web_parts.specs.declared.part.Part.{Part}
+use Rattle.web_multipart_parts.specs.declared.part.Part.{Part}
 use Rattle.web_multipart.specs.MultipartArgument.{MeansMultipart, limit_of, multipart_rest}
 use Rattle.web_multipart.specs.MultipartArgument.{multipart_result, multipart_some}
 use Rattle.demo_app.specs.DemoRequests.{DemoRequest}

@@ -1,8 +1,8 @@
 -- What is picked of an argument.
 use Rattle.std.specs.Prelude.{◌≡◌, ℕ, List, Result, refl}
 use Rattle.web_request.specs.declared.source.Mark.{Mark}
-use Rattle.web_reply.specs.declared.cause.Cause.TheVariants.{Io, Parse}
-use Rattle.web_reply.specs.declared.cause.IoKind.TheVariants.{Other}
+use Rattle.web_reply.specs.declared.errors.cause.Cause.TheVariants.{Io, Parse}
+use Rattle.web_reply.specs.declared.errors.cause.IoKind.TheVariants.{Other}
 use Rattle.web_reply.specs.Replies.{Fault, fault_of}
 use Rattle.web_texts.specs.declared.errors.ParseError.{ParseError}
 use Rattle.web_extract.specs.ConvertedFutures.{GivesConverted, converts_by, means_converted_some}
@@ -10,8 +10,8 @@ use Rattle.web_extract.specs.Extracts.{AllowsSome}
 use Rattle.web_extract.specs.ListMeanings.{ArgumentMeaning, Meaning}
 use Rattle.web_extract.specs.SomeAnswer.{itself}
 use Rattle.web_extract.specs.declared.never.Never.{Never}
-use Rattle.web_types.specs.EitherArgument.{ConvertsEither, either_converted}
-use Rattle.web_types.specs.declared.either.EitherExtractError.{EitherExtractError}
+use Rattle.web_extract_body.specs.EitherArgument.{ConvertsEither, either_converted}
+use Rattle.web_extract_body.specs.declared.either.EitherExtractError.{EitherExtractError}
 use Rattle.demo_picked.specs.declared.picked.Picked.{Picked}
 
 -- the errors that refusals convert to

@@ -16,10 +16,10 @@ use std::alloc::Global;
 use web_body::{Marks, Payload, Poll, Step};
 use web_extract::EitherFuture::{Left, Right};
 use web_extract::{Capped, CappedFut, EitherFuture, MapInto, from_request_into};
+use web_extract_body::{Either, Form, Json, JsonExtractFut};
 use web_multipart::{Multipart, MultipartExtractFut};
 use web_reply::Error;
 use web_request::{HttpRequest, NoMemory};
-use web_types::{Either, Form, Json, JsonExtractFut};
 
 // Not a `FutureOf`: other crates do not read an impl with a constant behind its bound.
 type CappedItemFuture = MapInto<CappedFut<JsonExtractFut<Item, Demo>, 16>, Picked, Error>;

@@ -16,16 +16,16 @@ use demo_arguments::{
     choice_of,
 };
 use std::alloc::Global;
-use web_arguments::{Header, Path, Query};
 use web_body::{Marks, Payload};
 use web_extract::EitherFuture::{Left, Right};
 use web_extract::{Capped, EitherFuture, FromRequest, Ready};
+use web_extract_body::{Either, Form, Json};
+use web_extract_head::{Header, Path, Query};
 use web_headers::Accept;
 use web_multipart::Multipart;
 use web_reply::Error;
 use web_request::{ConnectionInfo, HttpRequest, NoMemory};
 use web_texts::Text;
-use web_types::{Either, Form, Json};
 
 /// The arguments that the first segment of the path asks for.
 #[derive(Drop)]

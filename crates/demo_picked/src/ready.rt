@@ -14,9 +14,9 @@ use demo_arguments::{
     CookieArguments, HeadChoice, ReadChoice, RequestArguments, RequestChoice, Wait,
 };
 use std::alloc::Global;
-use web_arguments::{Header, Path, Query};
 use web_body::{Marks, Payload};
 use web_extract::{FromRequest, Ready};
+use web_extract_head::{Header, Path, Query};
 use web_headers::Accept;
 use web_reply::Error;
 use web_request::{ConnectionInfo, HttpRequest, NoMemory};

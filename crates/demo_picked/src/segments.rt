@@ -6,15 +6,15 @@ use crate::picked_future::IntoPicked;
 use bytes::Bytes;
 use demo_app::{Demo, DemoLocal, Item};
 use demo_arguments::{AllLines, DataArguments, Late, RawBody, Wait};
-use web_arguments::{Header, Path, Query};
 use web_body::{Marks, Payload};
 use web_extract::{Capped, IntoSome};
+use web_extract_body::{Either, Form, Json};
+use web_extract_head::{Header, Path, Query};
 use web_headers::Accept;
 use web_multipart::Multipart;
 use web_reply::Error;
 use web_request::{ConnectionInfo, Data, HttpRequest, ReqData};
 use web_texts::Text;
-use web_types::{Either, Form, Json};
 
 impl IntoPicked for Bytes {
     ghost use Rattle.demo_picked.specs.declared.picked.Picked.TheVariants as picked;

@@ -2,6 +2,7 @@
 mod BookingLemmas
 mod EchoLemmas
 mod ExactLemmas
+mod SeenOnceLemmas
 pub mod FlightLemmas
 mod GreeterLemmas
 mod HelloLemmas

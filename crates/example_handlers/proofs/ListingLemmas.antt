@@ -1,4 +1,4 @@
--- The handler that takes the body and the rest behind it.
+-- The handler that takes the body and the rest after it.
 use Rattle.std.proofs.Common.{◌≡◌, ℕ, ◌<◌, List, [], arith, refl, sym, ap, ◌∙◌}
 use Rattle.std.specs.Prelude.{Option, None, Some, Result, Ok, Err, false, max, nat_lt, slice_index_or}
 use Rattle.std.specs.Option.{option_map}
@@ -40,7 +40,7 @@ use Rattle.example_handlers.proofs.ToldBodiesLemmas.{comes_before, is_told, once
 abbrev Arguments : Type 0
 Arguments = List ℕ × Option (List ℕ)
 
--- what the arguments come as: the body and nothing behind it, or the refusal of the body
+-- what the arguments come as: the body and nothing after it, or the refusal of the body
 abbrev pub AsArguments : Result (List ℕ) Fault → Result Arguments Fault → Type 0
 AsArguments (Ok b) x = x ≡ Ok (b, Some [])
 AsArguments (Err e) x = x ≡ Err e

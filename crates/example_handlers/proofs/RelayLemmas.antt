@@ -5,7 +5,7 @@ use Rattle.web_request.specs.declared.source.Mark.{Mark}
 use Rattle.web_request.specs.Feed.{Feed}
 use Rattle.web_request.specs.Pool.{Pool}
 use Rattle.web_request.specs.Request.{Record, Request}
-use Rattle.web_values.specs.Answers.{OrAll}
+use Rattle.web_codec.specs.Answers.{OrAll}
 use Rattle.web_body.specs.declared.payload.Payload.{Payload}
 use Rattle.web_body.specs.Payload.{payload_feed}
 use Rattle.web_reply.specs.declared.body.BoxBody.{BoxBody}

@@ -1,20 +1,20 @@
 -- How bookings are read.
 use Rattle.std.specs.Prelude.{ℕ, Bool, true, Some, bytes_eq, codes}
 use Rattle.web_texts.specs.MediaTypes.{MediaType, essence_of}
-use Rattle.web_values.specs.declared.faults.ReadFault.{ReadFault}
-use Rattle.web_values.specs.declared.faults.JsonFault.TheVariants.{Target}
-use Rattle.web_body.specs.declared.json_error.JsonPayloadError.{JsonPayloadError}
-use Rattle.web_body.specs.declared.json_error.JsonPayloadError.TheVariants.{Deserialize}
-use Rattle.web_body.specs.declared.form_error.UrlencodedError.{UrlencodedError}
-use Rattle.web_body.specs.declared.form_error.UrlencodedError.TheVariants.{Parse}
-use Rattle.web_reply.specs.declared.cause.Cause.TheVariants.{Custom}
+use Rattle.web_codec.specs.declared.faults.ReadFault.{ReadFault}
+use Rattle.web_codec.specs.declared.faults.JsonFault.TheVariants.{Target}
+use Rattle.web_body.specs.declared.errors.json_error.JsonPayloadError.{JsonPayloadError}
+use Rattle.web_body.specs.declared.errors.json_error.JsonPayloadError.TheVariants.{Deserialize}
+use Rattle.web_body.specs.declared.errors.form_error.UrlencodedError.{UrlencodedError}
+use Rattle.web_body.specs.declared.errors.form_error.UrlencodedError.TheVariants.{Parse}
+use Rattle.web_reply.specs.declared.errors.cause.Cause.TheVariants.{Custom}
 use Rattle.web_reply.specs.Replies.{Fault, fault_of}
 use Rattle.web_extract.specs.LayerConfigurations.{Configurations, holds_nothing}
 use Rattle.web_extract.specs.Refusals.{form_fault, json_fault}
-use Rattle.web_extract.specs.declared.refuse.NoHandler.{NoHandler}
-use Rattle.example_handlers.specs.declared.booking_layer.BookingLayer.{BookingLayer}
-use Rattle.example_handlers.specs.declared.booking_layer.PlainText.{PlainText}
-use Rattle.example_handlers.specs.declared.booking_layer.Unprocessable.{Unprocessable}
+use Rattle.web_extract.specs.declared.config.refuse.NoHandler.{NoHandler}
+use Rattle.example_handlers.specs.declared.bookings.booking_layer.BookingLayer.{BookingLayer}
+use Rattle.example_handlers.specs.declared.bookings.booking_layer.PlainText.{PlainText}
+use Rattle.example_handlers.specs.declared.bookings.booking_layer.Unprocessable.{Unprocessable}
 
 -- status 422 with the reason of a reader
 abbrev pub reader_refusal : ReadFault → Fault

@@ -4,10 +4,10 @@ use Rattle.serde_json.specs.Data.{Data, number, string, object, unsigned, member
 use Rattle.serde_json.specs.Find.{get, as_str, as_number, as_u64}
 use Rattle.web_texts.specs.Digits.{digits_up_to}
 use Rattle.web_texts.specs.Pairs.{Pair}
-use Rattle.web_values.specs.Answers.{or_refuse}
-use Rattle.web_values.specs.FormPairs.{values_of}
-use Rattle.web_values.specs.declared.faults.ReadFault.{ReadFault}
-use Rattle.example_handlers.specs.declared.booking.Booking.{Booking}
+use Rattle.web_codec.specs.Answers.{or_refuse}
+use Rattle.web_codec.specs.FormPairs.{values_of}
+use Rattle.web_codec.specs.declared.faults.ReadFault.{ReadFault}
+use Rattle.example_handlers.specs.declared.bookings.booking.Booking.{Booking}
 
 -- a text `name` and a whole number `seats`
 abbrev pub booking_of_json : Data → Result Booking ReadFault

@@ -6,3 +6,4 @@ pub mod Examples
 pub mod Relays
 pub mod SecondPoll
 pub mod Uploads
+pub mod Texts

@@ -2,7 +2,7 @@
 use Rattle.std.specs.Prelude.{ℕ, ◌++◌, List, Option, None, Some, codes, decimal, length}
 use Rattle.std.specs.List.{find}
 use Rattle.std.specs.Str.{bytes_eq}
-use Rattle.web_parts.specs.declared.part.Part.{Part}
+use Rattle.web_multipart_parts.specs.declared.part.Part.{Part}
 
 -- the first part of this name
 abbrev pub part_named : List ℕ → List Part → Option Part

@@ -10,14 +10,12 @@
 //! (`rewritten_request`), and one that is a handler round a handler (`logged`); a body that is read
 //! piece by piece (`counted`), a request that was parsed elsewhere (`parsed_request`), exchanges
 //! that are told apart by their paths (`routes`), a handler whose reply is promised
-//! (`path_reply`), forms with files (`upload`), the part of a file that is sent (`file_service`),
-//! and the coding that a proxy chooses (`compressing_proxy`).
+//! (`path_reply`), lists with a text (`texts`), forms with files (`upload`), the part of a file
+//! that is sent (`file_service`), and the coding that a proxy chooses (`compressing_proxy`).
 #![tactic(auto)]
 
 mod api_key;
-mod booking;
-mod booking_handlers;
-mod booking_layer;
+mod bookings;
 mod compressing_proxy;
 mod counted;
 mod echo;
@@ -34,12 +32,13 @@ mod routes;
 mod second_poll;
 mod served_host;
 mod serving;
+mod texts;
 mod upload;
 
 pub use api_key::ApiKey;
-pub use booking::Booking;
-pub use booking_handlers::{serve_form_bookings, serve_json_bookings};
-pub use booking_layer::{BookingLayer, Bookings, PlainText, Unprocessable};
+pub use bookings::booking::Booking;
+pub use bookings::booking_handlers::{serve_form_bookings, serve_json_bookings};
+pub use bookings::booking_layer::{BookingLayer, Bookings, PlainText, Unprocessable};
 pub use compressing_proxy::coding_to_send;
 pub use counted::Counted;
 pub use echo::Echo;
@@ -56,4 +55,5 @@ pub use routes::{Page, page_of, pages};
 pub use second_poll::{Greeter, SecondPoll};
 pub use served_host::is_served;
 pub use serving::{Outcomes, serve_echo, serve_greeting};
+pub use texts::{request_list_law, serve_texts, text_list_law};
 pub use upload::{PartByPart, PartSizes, Upload};

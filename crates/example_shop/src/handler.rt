@@ -3,16 +3,16 @@ use crate::error::ShopError;
 use crate::item::Item;
 use crate::order::Order;
 use std::alloc::Global;
-use web_arguments::{Header, Query};
 use web_body::Marks;
 use web_build::prelude::*;
 use web_cookies::{Cookie, SameSite};
 use web_extract::Ready;
+use web_extract_body::Json;
+use web_extract_head::{Header, Query};
 use web_headers::AcceptLanguage;
 use web_reply::{BoxBody, Error, HttpResponse};
 use web_status::prelude::*;
 use web_texts::{Fail, NoMemory, Text};
-use web_types::Json;
 
 /// How many there are of each item.
 const STOCK: u64 = 10;

@@ -9,6 +9,7 @@ mod handler;
 mod item;
 mod layer;
 mod order;
+mod price;
 
 use crate::error::replied;
 use crate::handler::{Answer, OrderArguments, Reply, take_order};

@@ -40,7 +40,17 @@ const ROWS: &[(&str, &str, &str)] = &[
     (
         "/orders?count=x",
         TEA,
-        "400 Query deserialize error: count is no number",
+        "400 Query deserialize error: count: no whole number from 0 to 18446744073709551615",
+    ),
+    (
+        "/orders",
+        "{\"name\":\"tea\"}",
+        "422 the shop cannot read this: Json deserialize error: price: missing",
+    ),
+    (
+        "/orders",
+        "{\"name\":\"tea\",\"price\":{\"cents\":0,\"currency\":\"EUR\"}}",
+        "422 the shop cannot read this: Json deserialize error: price: cents: not in 1..=1000000",
     ),
 ];
 

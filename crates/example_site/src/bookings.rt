@@ -5,10 +5,10 @@ use crate::reply::{Answer, Plain, page};
 use http::StatusCode;
 use std::alloc::Global;
 use web_body::{Marks, Payload};
+use web_codec::{ReadFault, ReadPairs};
+use web_extract_body::Form;
 use web_request::HttpRequest;
 use web_texts::{Fail, NoMemory, Pair, read_digits};
-use web_types::Form;
-use web_values::{ReadFault, ReadPairs};
 
 /// The most seats of a booking.
 const MOST_SEATS: u64 = 8;

@@ -8,11 +8,11 @@ use serde_json::Value;
 use std::alloc::Global;
 use web_body::{Marks, Payload};
 use web_build::prelude::*;
+use web_codec::{ReadFault, ReadJson, WriteFault, WriteJson};
+use web_extract_body::Json;
 use web_reply::HttpResponse;
 use web_request::HttpRequest;
 use web_texts::{Fail, NoMemory, read_digits};
-use web_types::Json;
-use web_values::{ReadFault, ReadJson, WriteFault, WriteJson};
 
 /// An item: a number, a name, and tags that may be left out.
 #[derive(Debug, Drop, Serialize, Deserialize)]

@@ -13,7 +13,7 @@ use web_messages::Limits;
 use web_request::{AppConfig, IpAddr, NoData, NoMemory, SocketAddr, Text};
 use web_worker::Worker;
 
-/// The most bytes that are taken of one connection. Behind them it is closed.
+/// The most bytes that are taken of one connection. After them it is closed.
 const MOST_BYTES: u64 = 1_073_741_824;
 
 /// How many bytes are read at once.
@@ -73,8 +73,8 @@ fn take_piece(
 }
 
 /// Reads piece by piece, and sends each reply with the piece that makes its message whole. It
-/// returns how the connection ended: at the end of the input, behind a reply that closes, or
-/// behind the most bytes that are taken.
+/// returns how the connection ended: at the end of the input, after a reply that closes, or
+/// after the most bytes that are taken.
 fn serve_pieces<R: Read, W: Write>(
     alloc: Global,
     worker: &mut Worker<Plain>,

@@ -15,8 +15,8 @@ use Rattle.web_extract.specs.BodyArguments.{type_refusal}
 use Rattle.web_extract.specs.CollectedResults.{map_value}
 use Rattle.web_extract.specs.ListResults.{DelayedResult, greatest, with_value}
 use Rattle.web_extract.specs.StringArgument.{string_refusal}
-use Rattle.web_types.specs.ReadTypes.{reads_type}
-use Rattle.web_types.specs.EitherArgument.{after_bytes, after_left, either_result}
+use Rattle.web_extract_body.specs.ReadTypes.{reads_type}
+use Rattle.web_extract_body.specs.EitherArgument.{after_bytes, after_left, either_result}
 use Rattle.web_multipart.specs.MultipartArgument.{limit_of}
 use Rattle.web_multipart_stream.specs.FormBoundaries.{boundary_of}
 use Rattle.web_multipart_stream.specs.StreamViews.{is_coded}

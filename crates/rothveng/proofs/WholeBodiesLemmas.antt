@@ -14,9 +14,9 @@ use Rattle.web_lines.specs.LineSchedules.{delay_of, due, end_of, ends_at, stalls
 use Rattle.web_reply.specs.Replies.{Fault}
 use Rattle.web_extract.specs.BodyArguments.{body_result, collected_result, payload_fault, read_result, unless_refused}
 use Rattle.web_extract.specs.ListResults.{DelayedResult}
-use Rattle.web_types.specs.HandledBodies.{delay_of_body, rest_where}
-use Rattle.web_parts.specs.PartReading.{Reader, new_reader, parts_with}
-use Rattle.web_parts.specs.Parts.{Closes, CutOff, Ending, Fails}
+use Rattle.web_extract_body.specs.HandledBodies.{delay_of_body, rest_where}
+use Rattle.web_multipart_parts.specs.PartReading.{Reader, new_reader, parts_with}
+use Rattle.web_multipart_parts.specs.Parts.{Closes, CutOff, Ending, Fails}
 use Rattle.web_multipart_stream.specs.PartSchedules.{end_delay, schedule}
 use Rattle.web_multipart_stream.specs.StreamViews.{due_by}
 use Rattle.demo_arguments.specs.LinesArgument.{result_by}

@@ -1,32 +1,54 @@
 //! Each law that has parameters, at the types of an application.
 use bytes::Bytes;
 use example_handlers::{Booking, Echo};
-use web_arguments::{date_header_law, header_law, path_law, query_law};
+use std::alloc::Global;
 use web_body::{Marks, buffered_law, pending_count_law};
 use web_build::layering_law;
 use web_cutting::{
-    argument_cutting_law, argument_within_law, capped_cutting_law, capped_taking_law,
-    capped_within_law, data_cutting_law, data_taking_law, decoder_cutting_law, either_cutting_law,
-    either_taking_law, head_cutting_law, head_taking_law, list_cutting_law, list_taking_law,
-    list_within_law, multipart_cutting_law, multipart_taking_law, payload_taking_law,
-    place_cutting_law, read_cutting_law, read_taking_law, reply_cutting_law, reply_within_law,
-    value_cutting_law, value_taking_law,
+    argument_cutting_law, argument_within_law, capped_cutting_law, capped_over_limit_law,
+    capped_taking_law, capped_within_law, data_cutting_law, data_taking_law, decoder_cutting_law,
+    either_cutting_law, either_taking_law, head_cutting_law, head_taking_law, list_cutting_law,
+    list_over_limit_law, list_taking_law, list_within_law, multipart_cutting_law,
+    multipart_taking_law, over_limit_law, payload_taking_law, place_cutting_law, read_cutting_law,
+    read_taking_law, reply_cutting_law, reply_within_law, value_cutting_law, value_taking_law,
 };
 use web_extract::{
-    Error, Ready, connection_law, data_law, first_taker_law, head_law, list_law, nesting_law,
-    optional_law, payload_law, place_law,
+    ByBytes, Error, Itself, Ready, bytes_law, connection_law, data_law, first_taker_law, head_law,
+    list_law, nesting_law, optional_law, payload_law, payload_place_law, place_law, same_error_law,
+    seen_places_law, string_law,
 };
+use web_extract_body::{either_law, form_law, json_law};
+use web_extract_head::{date_header_law, header_law, path_law, query_law};
 use web_headers::ContentLength;
 use web_http1::{answers_law, pieces_law};
 use web_multipart::multipart_law;
-use web_request::{NoData, PlainApp};
-use web_types::{either_law, form_law, json_law};
-use web_worker::{distinct_serials_law, isolation_law};
+use web_request::{NoData, NoMemory, PlainApp};
+use web_worker::{Handler, distinct_serials_law, isolation_law};
 
 type Site = PlainApp<Marks>;
 
 /// The arguments of the handler.
 type Arguments = (Bytes, Option<Bytes>);
+
+/// A handler of any arguments that responds with an empty body.
+#[derive(Drop)]
+struct Empty;
+
+impl<Args: Drop> Handler<Args> for Empty {
+    ghost use Rattle.std.specs.Prelude.{None, ⊤};
+
+    type Output = Bytes;
+
+    type Future = Ready<Bytes>;
+
+    ghost answers = { λ h args n y. ⊤ };
+
+    ghost calls = { λ h. None };
+
+    fn call(&mut self, _alloc: Global, _args: Args) -> Result<Ready<Bytes>, NoMemory> {
+        Ok(Ready::new(Bytes::new()))
+    }
+}
 
 fn laws_of_bodies() {
     buffered_law::<Marks>();
@@ -44,6 +66,8 @@ fn laws_of_single_arguments() {
     head_law::<Site>();
     connection_law::<Site>();
     payload_law::<Marks, Site>();
+    bytes_law::<Site>();
+    string_law::<Site>();
     optional_law::<Site, Bytes, Error>();
     json_law::<Site, Booking>();
     form_law::<Site, Booking>();
@@ -52,9 +76,12 @@ fn laws_of_single_arguments() {
 }
 
 fn laws_of_lists() {
-    list_law::<Site, Bytes, String, Bytes, String>();
+    same_error_law::<Site, String, ByBytes>();
+    seen_places_law::<Site>();
+    payload_place_law::<Marks, Site>();
+    list_law::<Site, Bytes, String, Bytes, String, Itself, ByBytes, Itself, ByBytes>();
     place_law::<Site, Bytes, String, Bytes, String>();
-    nesting_law::<Site, Bytes, String, Bytes, String>();
+    nesting_law::<Site, Bytes, String, Bytes, String, Itself, ByBytes, Itself, ByBytes>();
     first_taker_law::<Site, Bytes, String, Bytes, String>();
 }
 
@@ -89,6 +116,9 @@ fn laws_under_limits() {
     capped_within_law::<Site, Bytes, 9>();
     list_within_law::<Site, Bytes, String, Bytes, String>();
     reply_within_law::<Site, Arguments, Echo>();
+    over_limit_law::<Site, Empty, Empty>();
+    list_over_limit_law::<Site, Empty, Empty>();
+    capped_over_limit_law::<Site, Empty, Empty, 9>();
 }
 
 fn laws_of_serving() {

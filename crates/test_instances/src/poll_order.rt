@@ -33,7 +33,7 @@ struct LoggedSource {
 }
 
 impl Source for LoggedSource {
-    ghost use Rattle.std.specs.Prelude.{None};
+    ghost use Rattle.std.specs.Prelude.{None, false};
 
     ghost feed = { λ s. record {
       marks = None;
@@ -41,6 +41,7 @@ impl Source for LoggedSource {
       stalls = s.stalls;
       given = 0;
       answers = s.left;
+      lacked = false;
     } };
 
     fn next(&mut self) -> Turn {

@@ -12,12 +12,12 @@ use std::process::Abort;
 use web_body::{JsonPayloadError, Marks, Poll, Step};
 use web_decoders::{ByFn, JsonConfig};
 use web_extract::{Configs, FromRequest, LayerConfigs, NoHandler};
+use web_extract_body::Json;
 use web_reply::{
     Cause, Error, HttpResponse, MappedError, ResponseError, ResponseMapper, WholeBody,
 };
 use web_request::{App, AppLayer, ConfigChoice, NoData, NoMemory, RequestHead};
 use web_texts::Mime;
-use web_types::Json;
 
 /// Adds the header `a` with this value.
 #[derive(Drop)]

@@ -22,6 +22,7 @@ pub record Reading_on {S : Type 0} (feed : S → Feed) (limit : ℕ) (first : Pa
   pub gave : GivesBytes feed first given now
   pub grew : length (held_bytes now_held) ≡ length (held_bytes first_held) + given
   pub faults : (payload_feed feed now).faults ≡ (payload_feed feed first).faults
+  pub lacked : (payload_feed feed now).lacked ≡ (payload_feed feed first).lacked
   pub stalls : (payload_feed feed first).stalls ≤ (payload_feed feed now).stalls
   pub memory : NeedsNoMemory (payload_feed feed first).marks (held_bytes first_held) → NoneNeeded (payload_feed feed now).marks now_held
 
@@ -34,6 +35,7 @@ module _ {S : Type 0} (feed : S → Feed) (limit : ℕ) where
     gave = gave_none feed first;
     grew = omega arith;
     faults = refl;
+    lacked = refl;
     stalls = omega arith;
     memory = needed_from (payload_feed feed first).marks held;
   }
@@ -51,6 +53,7 @@ module _ {S : Type 0} (feed : S → Feed) (limit : ℕ) where
           gave = gave_more feed first on.given now (length b) new on.gave gave;
           grew = omega (arith, size, on.grew);
           faults = next.faults ∙ on.faults;
+          lacked = next.lacked ∙ on.lacked;
           stalls = omega (arith, on.stalls, next.stalls);
           memory = λ need. needed_on _ _ b held more next.takes single (on.memory need);
         }

@@ -33,7 +33,8 @@ scan_passes limit k (x ∷ m) h =
 over_at : (limit : ℕ) (m p : List Mark) → scan limit 0 m ≡ Some p → (goes_on limit [] m).content ≡ Over (0 + length (piece_bytes p))
 over_at limit m p e = rw e refl
 
-passes : (limit : ℕ) (m : List Mark) → limit < length (piece_bytes m) → (size : ℕ) × ((reading limit m).content ≡ Over size)
+-- a body of more bytes than the limit passes it
+pub passes : (limit : ℕ) (m : List Mark) → limit < length (piece_bytes m) → (size : ℕ) × ((reading limit m).content ≡ Over size)
 passes limit m h =
     let p = scan_passes limit 0 m (omega (arith, h)) in
     let whole_is : reading limit m ≡ goes_on limit [] m = reading_held limit [] m (omega arith) in

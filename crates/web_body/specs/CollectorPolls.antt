@@ -9,7 +9,7 @@ use Rattle.web_body.specs.declared.collecting.Unread.{Unread}
 use Rattle.web_body.specs.declared.collecting.Unread.TheVariants.{TooLong, Failed}
 use Rattle.web_body.specs.declared.poll.Step.{Step}
 use Rattle.web_body.specs.Payload.{payload_feed, bytes_between, KeepsPayload}
-use Rattle.web_body.specs.PollSteps.{IfReady, OnPending, Shifts}
+use Rattle.web_body.specs.PollSteps.{IfReady, OnPending, Shifts, UnlessNoMemory}
 use Rattle.web_body.specs.Collector.{Read, read_of, reading_of, Allows}
 
 abbrev pub IfWhole : {T E : Type 0} → Result T E → Type 0 → Type 0
@@ -66,6 +66,8 @@ pub record PollCounts {S : Type 0} (feed : S → Feed) (limit : ℕ) (old : Payl
   pub failed : OnFailed s (Rose (payload_feed feed old).faults (payload_feed feed new).faults)
   pub whole_ended : OnWhole s ((payload_feed feed new).answers ≡ 0)
   pub whole_unfailed : OnWhole s ((payload_feed feed new).faults ≡ (payload_feed feed old).faults)
+  pub lacked :
+      UnlessNoMemory s ((payload_feed feed new).lacked ≡ (payload_feed feed old).lacked)
   pub whole_length : OnBody s (λ b. length b ≡ length held + bytes_between feed old new)
   pub whole_within : OnBody s (λ b. length b ≤ limit)
   pub too_long : OnTooLong s (limit < length held + bytes_between feed old new)

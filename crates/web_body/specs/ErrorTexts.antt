@@ -1,16 +1,16 @@
 -- The texts of errors.
 use Rattle.std.specs.Prelude.{ℕ, List, ◌++◌, codes, decimal}
-use Rattle.web_values.specs.FaultTexts.{json_fault_text}
+use Rattle.web_codec.specs.FaultTexts.{json_fault_text}
 use Rattle.web_body.specs.declared.message_body.PayloadError.{PayloadError}
 use Rattle.web_body.specs.declared.message_body.PayloadError.TheVariants as payload
-use Rattle.web_body.specs.declared.json_error.JsonPayloadError.{JsonPayloadError}
-use Rattle.web_body.specs.declared.json_error.JsonPayloadError.TheVariants as json
-use Rattle.web_body.specs.declared.form_error.UrlencodedError.{UrlencodedError}
-use Rattle.web_body.specs.declared.form_error.UrlencodedError.TheVariants as form
-use Rattle.web_body.specs.declared.path_error.PathError.{PathError}
-use Rattle.web_body.specs.declared.path_error.PathError.TheVariants as path
-use Rattle.web_body.specs.declared.query_error.QueryPayloadError.{QueryPayloadError}
-use Rattle.web_body.specs.declared.query_error.QueryPayloadError.TheVariants as query
+use Rattle.web_body.specs.declared.errors.json_error.JsonPayloadError.{JsonPayloadError}
+use Rattle.web_body.specs.declared.errors.json_error.JsonPayloadError.TheVariants as json
+use Rattle.web_body.specs.declared.errors.form_error.UrlencodedError.{UrlencodedError}
+use Rattle.web_body.specs.declared.errors.form_error.UrlencodedError.TheVariants as form
+use Rattle.web_body.specs.declared.errors.path_error.PathError.{PathError}
+use Rattle.web_body.specs.declared.errors.path_error.PathError.TheVariants as path
+use Rattle.web_body.specs.declared.errors.query_error.QueryPayloadError.{QueryPayloadError}
+use Rattle.web_body.specs.declared.errors.query_error.QueryPayloadError.TheVariants as query
 
 abbrev pub payload_error_text : PayloadError → List ℕ
 payload_error_text payload.Overflow = codes "payload reached its limit"

@@ -14,3 +14,4 @@ pub mod PayloadSettings
 pub mod WholePayloads
 pub mod BufferedBytes
 pub mod Cuttings
+pub mod DecoderSettings

@@ -1,7 +1,7 @@
 -- The texts of errors of lines.
 use Rattle.std.specs.Prelude.{ℕ, ◌++◌, List, codes}
-use Rattle.web_body.specs.declared.lines_error.ReadlinesError.{ReadlinesError}
-use Rattle.web_body.specs.declared.lines_error.ReadlinesError.TheVariants as lines
+use Rattle.web_body.specs.declared.errors.lines_error.ReadlinesError.{ReadlinesError}
+use Rattle.web_body.specs.declared.errors.lines_error.ReadlinesError.TheVariants as lines
 use Rattle.web_body.specs.ErrorTexts.{payload_error_text}
 
 abbrev pub lines_error_text : ReadlinesError → List ℕ

@@ -22,4 +22,5 @@ marks_feed m = record {
   stalls = 0;
   given = 0;
   answers = length (without_empty m);
+  lacked = false;
 }

@@ -1,5 +1,5 @@
 -- The state of a payload as contracts see it, and what it gave between two states.
-use Rattle.std.specs.Prelude.{◌≡◌, ℕ, ◌+◌, ◌-◌, ◌≤◌, List, [], Some, length, ⊤}
+use Rattle.std.specs.Prelude.{◌≡◌, ℕ, ◌+◌, ◌-◌, ◌≤◌, List, [], Some, length, ⊤, false}
 use Rattle.web_request.specs.Body.{whole}
 use Rattle.web_request.specs.Feed.{Feed}
 use Rattle.web_body.specs.declared.payload.Payload.{Payload}
@@ -13,6 +13,7 @@ plain_feed b = record {
   stalls = 0;
   given = 0;
   answers = length b;
+  lacked = false;
 }
 
 abbrev pub payload_feed : {S : Type 0} → (S → Feed) → Payload S → Feed

@@ -20,6 +20,10 @@ NeverNoMemory s = MatchStep s ⊤ (λ _. ⊤) ⊥
 abbrev pub OnPending : {T : Type 0} → Step T → Type 0 → Type 0
 OnPending s P = MatchStep s P (λ _. ⊤) ⊤
 
+-- no allocation failed
+abbrev pub UnlessNoMemory : {T : Type 0} → Step T → Type 0 → Type 0
+UnlessNoMemory s P = MatchStep s P (λ _. P) ⊤
+
 -- it is finished after Ready and NoMemory, and not after Pending
 abbrev pub Ends : {T : Type 0} → Step T → Bool → Type 0
 Ends s finished = MatchStep s (finished ≡ false) (λ _. finished ≡ true) (finished ≡ true)

@@ -25,6 +25,7 @@ reader_body turns left = record {
     stalls = 0;
     given = 0;
     answers = suc turns;
+    lacked = false;
   };
   left = left;
 }

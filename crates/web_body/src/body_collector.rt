@@ -103,7 +103,7 @@ impl<S: Source> Collector<S> {
 impl<S: Source> Poll for Collector<S> {
     ghost use Rattle.std.specs.Prelude.{◌≡◌, ◌<◌, ◌≤◌, ◌+◌, length, false};
     ghost use Rattle.web_texts.specs.Counts.{Rose};
-    ghost use Rattle.web_body.specs.PollSteps.{Ends, IfReady, Shifts, OnPending};
+    ghost use Rattle.web_body.specs.PollSteps.{Ends, IfReady, Shifts, OnPending, UnlessNoMemory};
     ghost use Rattle.web_body.specs.PollSteps.{IsPending, NeverNoMemory};
     ghost use Rattle.web_body.specs.CollectorPolls.{OnWhole, OnTooLong, OnFailed};
     ghost use Rattle.web_body.specs.CollectorPolls.{OnBody, OnSize};
@@ -149,6 +149,8 @@ impl<S: Source> Poll for Collector<S> {
         ensures whole_ended { OnWhole result ((payload_feed S.feed self.new.payload).answers ≡ 0) }
         ensures whole_unfailed { OnWhole result ((payload_feed S.feed self.new.payload).faults
             ≡ (payload_feed S.feed self.old.payload).faults) }
+        ensures lacked { UnlessNoMemory result ((payload_feed S.feed self.new.payload).lacked
+            ≡ (payload_feed S.feed self.old.payload).lacked) }
         ensures whole_length { OnBody result (λ b. length b
             ≡ length self.old.held + bytes_between S.feed self.old.payload self.new.payload) }
         ensures whole_within { OnBody result (λ b. length b ≤ self.old.limit) }

@@ -36,7 +36,7 @@ impl Held {
     }
 
     /// Appends a piece. It allocates only where bytes are held already.
-    // All that a small piece behind others goes through is inlined into the loop that collects:
+    // All that a small piece after others goes through is inlined into the loop that collects:
     // collecting a piece of one byte takes 131 instructions so, and 303 by calls.
     #[inline(always)]
     pub fn add(&mut self, alloc: Global, piece: Bytes) -> Result<(), NoMemory>

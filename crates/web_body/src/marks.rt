@@ -22,7 +22,7 @@ pub struct Marks {
 }
 
 impl Model for Marks {
-    ghost use Rattle.std.specs.Prelude.{◌≡◌, ◌+◌, ◌<◌, ◌^◌, Some, true, length};
+    ghost use Rattle.std.specs.Prelude.{◌≡◌, ◌+◌, ◌<◌, ◌^◌, Some, true, false, length};
     ghost use Rattle.web_request.specs.Body.{is_body, piece_bytes};
     ghost use Rattle.web_request.specs.Feed.{Feed};
     ghost use Rattle.web_body.specs.MemoryBodies.{without_empty};
@@ -35,6 +35,7 @@ impl Model for Marks {
       stalls = m.stalls;
       given = m.given;
       answers = length (without_empty m.left.items);
+      lacked = false;
     } };
 
     ghost invariant = { λ m.

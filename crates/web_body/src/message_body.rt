@@ -168,7 +168,7 @@ impl<S: Source> Poll for HttpMessageBody<S> {
     ghost use Rattle.web_texts.specs.Counts.{Rose};
     ghost use Rattle.web_body.specs.declared.poll.Step.TheVariants.{Ready};
     ghost use Rattle.web_body.specs.PollSteps.{Ends, IfReady, Shifts, OnPending};
-    ghost use Rattle.web_body.specs.PollSteps.{IsPending, NeverNoMemory};
+    ghost use Rattle.web_body.specs.PollSteps.{IsPending, NeverNoMemory, UnlessNoMemory};
     ghost use Rattle.web_body.specs.CollectorPolls.{OnWhole, OnBody};
     ghost use Rattle.web_body.specs.Payload.{payload_feed, bytes_between, KeepsPayload};
     ghost use Rattle.web_body.specs.Collector.{StallsNext};
@@ -218,6 +218,8 @@ impl<S: Source> Poll for HttpMessageBody<S> {
         ensures whole_ended { OnWhole result ((payload_feed S.feed self.new.payload).answers ≡ 0) }
         ensures whole_unfailed { OnWhole result ((payload_feed S.feed self.new.payload).faults
             ≡ (payload_feed S.feed self.old.payload).faults) }
+        ensures lacked { UnlessNoMemory result ((payload_feed S.feed self.new.payload).lacked
+            ≡ (payload_feed S.feed self.old.payload).lacked) }
         ensures whole_length { OnBody result (λ b. length b
             ≡ length self.old.held + bytes_between S.feed self.old.payload self.new.payload) }
         ensures whole_within { OnBody result (λ b. length b ≤ self.old.limit) }

@@ -32,6 +32,7 @@ pub struct ReadSource<R: Read + Drop> {
     is_over: bool,
     faults: u64,
     given: u64,
+    lacked: bool,
 }
 
 impl<R: Read + Drop> Model for ReadSource<R> {
@@ -47,6 +48,7 @@ impl<R: Read + Drop> Model for ReadSource<R> {
         stalls = 0;
         given = s.given;
         answers = answers_left s.is_over s.turns;
+        lacked = s.lacked;
       };
       left = R.remaining s.reader;
     } };
@@ -67,6 +69,7 @@ impl<R: Read + Drop> ReadSource<R> {
             is_over: false,
             faults: 0,
             given: 0,
+            lacked: false,
         }
     }
 
@@ -102,6 +105,7 @@ impl<R: Read + Drop> ReadSource<R> {
                 }
                 Err(_) => {
                     self.is_over = true;
+                    self.lacked = true;
                     Turn::NoMemory
                 }
             },

@@ -10,7 +10,7 @@ use web_request::NoMemory;
 /// The most bytes that one buffer can have.
 const MOST_BYTES: usize = 9_223_372_036_854_775_807;
 
-/// A piece of fewer bytes than this is copied behind the small pieces before it. A shared piece
+/// A piece of fewer bytes than this is copied after the small pieces before it. A shared piece
 /// takes some 40 bytes beside its own, so that a row takes fewer than its pieces have.
 const SMALL: usize = 256;
 
@@ -21,7 +21,7 @@ const SMALL: usize = 256;
 #[derive(Drop)]
 pub struct Rope {
     pieces: BytesQueue,
-    /// The small pieces behind the last large one.
+    /// The small pieces after the last large one.
     small: Vec<u8>,
 }
 

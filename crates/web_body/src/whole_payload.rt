@@ -91,7 +91,7 @@ impl<S: Source> Poll for ToBytes<S> {
     ghost use Rattle.std.specs.Prelude.{◌≡◌, ◌+◌, false, length};
     ghost use Rattle.web_texts.specs.Counts.{Rose};
     ghost use Rattle.web_body.specs.PollSteps.{Ends, IfReady, IsPending, NeverNoMemory};
-    ghost use Rattle.web_body.specs.PollSteps.{OnPending, Shifts};
+    ghost use Rattle.web_body.specs.PollSteps.{OnPending, Shifts, UnlessNoMemory};
     ghost use Rattle.web_body.specs.Payload.{KeepsPayload, bytes_between, payload_feed};
     ghost use Rattle.web_body.specs.Collector.{NeedsNoMemory, StallsNext};
     ghost use Rattle.web_body.specs.CollectorPolls.{OnWhole, OnBody};
@@ -134,6 +134,8 @@ impl<S: Source> Poll for ToBytes<S> {
         ensures whole_ended { OnWhole result ((payload_feed S.feed self.new.payload).answers ≡ 0) }
         ensures whole_unfailed { OnWhole result ((payload_feed S.feed self.new.payload).faults
             ≡ (payload_feed S.feed self.old.payload).faults) }
+        ensures lacked { UnlessNoMemory result ((payload_feed S.feed self.new.payload).lacked
+            ≡ (payload_feed S.feed self.old.payload).lacked) }
         ensures whole_length { OnBody result (λ b. length b
             ≡ length self.old.held + bytes_between S.feed self.old.payload self.new.payload) }
     {
@@ -177,7 +179,7 @@ impl<S: Source> Poll for ToBytesLimited<S> {
     ghost use Rattle.std.specs.Prelude.{◌≡◌, ◌<◌, ◌≤◌, ◌+◌, false, length, IfOk};
     ghost use Rattle.web_texts.specs.Counts.{Rose};
     ghost use Rattle.web_body.specs.PollSteps.{Ends, IfReady, IsPending, NeverNoMemory};
-    ghost use Rattle.web_body.specs.PollSteps.{OnPending, Shifts};
+    ghost use Rattle.web_body.specs.PollSteps.{OnPending, Shifts, UnlessNoMemory};
     ghost use Rattle.web_body.specs.Payload.{KeepsPayload, bytes_between, payload_feed};
     ghost use Rattle.web_body.specs.Collector.{NeedsNoMemory, StallsNext};
     ghost use Rattle.web_body.specs.CollectorPolls.{IfWhole};
@@ -228,6 +230,8 @@ impl<S: Source> Poll for ToBytesLimited<S> {
         ensures whole_unfailed { OnWithin result (λ x. IfWhole x
             ((payload_feed S.feed self.new.payload).faults
             ≡ (payload_feed S.feed self.old.payload).faults)) }
+        ensures lacked { UnlessNoMemory result ((payload_feed S.feed self.new.payload).lacked
+            ≡ (payload_feed S.feed self.old.payload).lacked) }
         ensures whole_length { OnWithin result (λ x. IfOk x (λ b. length b
             ≡ length self.old.held + bytes_between S.feed self.old.payload self.new.payload)) }
         ensures whole_within { OnWithin result (λ x. IfOk x (λ b. length b ≤ self.old.limit)) }

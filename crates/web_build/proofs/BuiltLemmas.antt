@@ -10,11 +10,11 @@ use Rattle.http_header.proofs.PlacesLemmas.{index_of_cases}
 use Rattle.web_reply.specs.HeaderSteps.{Headers}
 use Rattle.web_reply.specs.ResponseBodies.{Plain, whole_plain}
 use Rattle.web_reply.specs.Replies.{Fault, Reply, fault_of, with_body}
-use Rattle.web_reply.specs.declared.cause.Cause.TheVariants.{Http}
-use Rattle.web_reply.specs.declared.cause.HttpError.{HttpError}
+use Rattle.web_reply.specs.declared.errors.cause.Cause.TheVariants.{Http}
+use Rattle.web_reply.specs.declared.errors.cause.HttpError.{HttpError}
 use Rattle.serde_json.specs.Data.{Data}
-use Rattle.web_values.specs.PrintedValues.{PrintsJson}
-use Rattle.web_values.specs.declared.faults.WriteFault.{WriteFault}
+use Rattle.web_codec.specs.PrintedValues.{PrintsJson}
+use Rattle.web_codec.specs.declared.faults.WriteFault.{WriteFault}
 use Rattle.web_build.specs.Builders.{Building, BuildsJson, built, default_type, has_type, json_reply, message_of, reply_of, set_no_chunking}
 
 type_decides : (m : Headers) → Decides (has_type m) (ContainsKey m (codes "content-type"))

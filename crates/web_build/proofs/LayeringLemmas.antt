@@ -8,8 +8,8 @@ use Rattle.http_header.specs.FieldValue.{FieldValue}
 use Rattle.http_header.specs.HeaderMap.{append, insert, pairs}
 use Rattle.web_reply.specs.ResponseBodies.{Plain, either_plain, whole_plain}
 use Rattle.web_reply.specs.Replies.{Reply, plain_reply}
-use Rattle.web_reply.specs.declared.cause.HttpError.{HttpError}
-use Rattle.web_reply.specs.declared.cause.HttpError.TheVariants.{MaxSize}
+use Rattle.web_reply.specs.declared.errors.cause.HttpError.{HttpError}
+use Rattle.web_reply.specs.declared.errors.cause.HttpError.TheVariants.{MaxSize}
 use Rattle.web_reply.specs.HeaderSteps.{Headers, and_place_each, place, refuses_append, refuses_insert}
 use Rattle.web_build.specs.Customized.{Customized, Fits, LayersOwn, either_reply, insert_all, layer_headers, layered, stacked, with_layers}
 use Rattle.web_reply.specs.declared.body.EitherBody.{EitherBody}

@@ -7,17 +7,17 @@ use Rattle.http_header.specs.FieldValue.{FieldValue, plain_value}
 use Rattle.http_header.specs.HeaderMap.{get_all, index_of}
 use Rattle.web_texts.specs.Digits.{digits_up_to}
 use Rattle.web_texts.specs.HeaderTexts.{first_text_of, value_bytes}
-use Rattle.web_values.specs.PrintedValues.{PrintsJson}
-use Rattle.web_values.specs.declared.faults.WriteFault.{WriteFault}
+use Rattle.web_codec.specs.PrintedValues.{PrintsJson}
+use Rattle.web_codec.specs.declared.faults.WriteFault.{WriteFault}
 use Rattle.web_request.specs.declared.source.Mark.{Mark}
-use Rattle.web_body.specs.declared.json_error.JsonPayloadError.TheVariants as json
+use Rattle.web_body.specs.declared.errors.json_error.JsonPayloadError.TheVariants as json
 use Rattle.web_reply.specs.ResponseBodies.{Plain, whole_plain}
 use Rattle.web_reply.specs.Replies.{Fault, Reply, bare_reply, error_reply, fault_of, plain_reply}
 use Rattle.web_reply.specs.Replies.{with_body}
 use Rattle.web_reply.specs.declared.body.WholeBody.{WholeBody}
 use Rattle.web_reply.specs.declared.body.WholeBody.TheVariants as whole
-use Rattle.web_reply.specs.declared.cause.Cause.TheVariants.{Http, Json}
-use Rattle.web_reply.specs.declared.cause.HttpError.{HttpError}
+use Rattle.web_reply.specs.declared.errors.cause.Cause.TheVariants.{Http, Json}
+use Rattle.web_reply.specs.declared.errors.cause.HttpError.{HttpError}
 use Rattle.web_reply.specs.declared.head.ConnectionType.{ConnectionType}
 use Rattle.web_reply.specs.declared.head.ConnectionType.TheVariants as connection
 use Rattle.web_reply.specs.declared.head.ResponseHead.{ResponseHead}
@@ -88,7 +88,7 @@ abbrev pub head_with : ResponseHead → Result Headers HttpError → Result Resp
 head_with head (Ok m) = Ok (record head { headers = m })
 head_with head (Err e) = Err e
 
--- a header, if it was not refused, in place of those of its name or behind them
+-- a header, if it was not refused, in place of those of its name or after them
 abbrev pub put_header :
     Placing → Result (List ℕ × FieldValue) HttpError → Building → Building
 put_header placing header b =

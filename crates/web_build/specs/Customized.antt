@@ -11,8 +11,8 @@ use Rattle.web_reply.specs.declared.body.EitherBody.{EitherBody}
 use Rattle.web_reply.specs.declared.body.EitherBody.TheVariants.{Left, Right}
 use Rattle.web_reply.specs.declared.body.WholeBody.{WholeBody}
 use Rattle.web_reply.specs.Replies.{Reply, error_reply, fault_of, plain_reply, with_body}
-use Rattle.web_reply.specs.declared.cause.Cause.TheVariants.{Http}
-use Rattle.web_reply.specs.declared.cause.HttpError.{HttpError}
+use Rattle.web_reply.specs.declared.errors.cause.Cause.TheVariants.{Http}
+use Rattle.web_reply.specs.declared.errors.cause.HttpError.{HttpError}
 use Rattle.web_reply.specs.HeaderSteps.{Headers, and_place_each, place_each, place_one}
 use Rattle.web_reply.specs.declared.header_setting.Placing.TheVariants.{Replace, Append}
 use Rattle.web_reply.specs.ResponseCookies.{with_headers}
@@ -48,7 +48,7 @@ abbrev pub put_override :
 put_override header c =
     unless_kept c.error c (with_overrides c (place_one Replace header c.overrides))
 
--- a header, if it was not refused, behind those that are added
+-- a header, if it was not refused, after those that are added
 abbrev pub append_to :
     {R : Type 0} → Result (List ℕ × FieldValue) HttpError → Customized R → Customized R
 append_to header c =

@@ -5,7 +5,7 @@ use Rattle.web_reply.specs.Replies.{Reply, bare_reply, typed_reply}
 use Rattle.web_reply.specs.declared.body.WholeBody.{WholeBody}
 use Rattle.web_reply.specs.declared.body.WholeBody.TheVariants as whole
 use Rattle.web_reply.specs.HeaderSteps.{valued}
-use Rattle.web_reply.specs.declared.cause.HttpError.{HttpError}
+use Rattle.web_reply.specs.declared.errors.cause.HttpError.{HttpError}
 
 -- HTTP/1.1, this status, this body and one header
 abbrev pub one_header_reply : ℕ → WholeBody → List ℕ → FieldValue → Reply WholeBody

@@ -22,14 +22,13 @@ use std::alloc::Global;
 use std::marker::Model;
 use web_body::{JsonPayloadError, Payload, Poll, Step, WriteJson, write_value};
 use web_cookies::Cookie;
-use web_headers::TryIntoHeaderValue;
 use web_reply::header_setting::{Placing, named, place_header, place_one, valued};
 use web_reply::{
     BoxBody, ConnectionType, Error, HttpError, HttpResponse, MessageBody, Reason, Responder,
     WholeBody, cookie_header,
 };
 use web_request::{App, HttpRequest, Source};
-use web_texts::{Fail, NoMemory, first_text, read_digits};
+use web_texts::{Fail, NoMemory, TryIntoHeaderValue, first_text, read_digits};
 
 /// A response that is built step by step.
 ///
@@ -200,7 +199,7 @@ impl HttpResponseBuilder {
         Ok(self)
     }
 
-    /// Adds a header behind those of its name. Where an error is kept or the builder is spent, this
+    /// Adds a header after those of its name. Where an error is kept or the builder is spent, this
     /// takes no memory.
     pub fn append_header(
         &mut self,
@@ -259,7 +258,7 @@ impl HttpResponseBuilder {
         Ok(self)
     }
 
-    /// Adds a header behind those of its name. A name or a value is refused as by `set_header`.
+    /// Adds a header after those of its name. A name or a value is refused as by `set_header`.
     pub fn header<V: TryIntoHeaderValue + Drop>(
         &mut self,
         name: &str,

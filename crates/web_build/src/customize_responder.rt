@@ -3,7 +3,7 @@ ghost use Rattle.std.specs.Prelude.{◌≡◌, [], Ok as ok, IfOk, IsOk, IsSome,
 ghost use Rattle.http_header.specs.FieldValue.{plain_value};
 ghost use Rattle.http_header.specs.HeaderMap.{pairs};
 ghost use Rattle.web_reply.specs.Replies.{Reply, error_reply, fault_of, plain_reply};
-ghost use Rattle.web_reply.specs.declared.cause.Cause.TheVariants.{Http};
+ghost use Rattle.web_reply.specs.declared.errors.cause.Cause.TheVariants.{Http};
 ghost use Rattle.web_reply.specs.HeaderSteps.{AllStepTo, named, place_each};
 ghost use Rattle.web_build.specs.Customized.{append_to, layer_headers, new_customized};
 ghost use Rattle.web_build.specs.Customized.{put_override, set_customized_status};
@@ -155,7 +155,7 @@ impl<R> CustomizeResponder<R> {
         }
     }
 
-    /// Puts a header that was not refused behind the headers that are added, unless an error is
+    /// Puts a header that was not refused after the headers that are added, unless an error is
     /// kept, and keeps a refusal.
     fn append_to(
         &mut self,
@@ -194,7 +194,7 @@ impl<R: Drop> CustomizeResponder<R> {
         Ok(customized)
     }
 
-    /// Adds a header behind those of its name. Where an error is kept, this takes no memory.
+    /// Adds a header after those of its name. Where an error is kept, this takes no memory.
     pub fn append_header(
         self,
         name: HeaderName,

@@ -54,7 +54,7 @@ module _ {V E Y U W : Type 0} (s : Setting Feed DemoLayer DemoLocal DemoConn V E
   answered bytes behind given end result remains (inl h) = h.1
   answered bytes behind given end result remains (inr h) = absurd (remains h.0)
 
-  -- what was written behind nothing, where memory sufficed
+  -- what was written after nothing, where memory sufficed
   pub all_written : (bytes before behind : List ℕ) (result : Ended) → before ≡ [] → (result ≡ ended.NoMemory → ⊥)
       → AnswersAll s connection_limits bytes result before behind
       → (given : List ℕ) (end : Ended) → Answers s connection_limits bytes given end → behind ≡ given

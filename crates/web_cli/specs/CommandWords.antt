@@ -4,7 +4,7 @@ use Rattle.std.specs.Prelude.{bytes_eq, if◌then◌else◌, ⊤}
 use Rattle.std.specs.Option.{option_and_then, option_map}
 use Rattle.web_texts.specs.Cut.{split_once}
 use Rattle.web_texts.specs.Digits.{digits_up_to}
-use Rattle.web_describe.specs.HeaderDescriptions.{newline}
+use Rattle.web_request_log.specs.HeaderDescriptions.{newline}
 use Rattle.cli_load.specs.declared.load.Load.{Load}
 use Rattle.web_cli.specs.declared.words.Command.{Command}
 use Rattle.web_cli.specs.declared.words.Command.TheVariants.{Serve, Generate, Replay, Connect}

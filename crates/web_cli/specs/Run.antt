@@ -4,7 +4,7 @@ use Rattle.web_texts.specs.Counts.{Rose}
 use Rattle.cli_io.specs.IoState.{InputState, OutputState}
 use Rattle.cli_io.specs.WholeReading.{limit, IsAll, IsTooLong, IsFault}
 use Rattle.cli_io.specs.WholeWriting.{IsWritten, IsCutOff}
-use Rattle.web_describe.specs.HeaderDescriptions.{newline}
+use Rattle.web_request_log.specs.HeaderDescriptions.{newline}
 use Rattle.web_cli.specs.CommandWords.{usage}
 use Rattle.web_cli.specs.ScriptAnswers.{is_valid_script, IsFaultText}
 use Rattle.web_cli.specs.declared.status.Status.{Status}

@@ -19,7 +19,7 @@ use Rattle.cli_script.specs.Script.{ScriptView, script_lines, script_view}
 use Rattle.cli_script.specs.ScriptedView.{ScriptedExchangeView}
 use Rattle.cli_script.specs.declared.script.InvalidScript.{InvalidScript}
 use Rattle.cli_print.specs.OutcomeText.{print}
-use Rattle.web_describe.specs.HeaderDescriptions.{newline}
+use Rattle.web_request_log.specs.HeaderDescriptions.{newline}
 use Rattle.demo_app.specs.declared.layer.DemoLayer.{DemoLayer}
 use Rattle.demo_app.specs.declared.app.DemoLocal.{DemoLocal}
 use Rattle.demo_app.specs.declared.app.DemoConn.{DemoConn}

@@ -30,7 +30,7 @@ with_first a rest c =
       any_assoc (list_any is_http_only rest) (is_http_only a) c.http_only,
     ) refl
 
--- the part before a semicolon, and then what is behind it
+-- the part before a semicolon, and then what is after it
 pub part_more : (text part : List ℕ) (behind : List (List ℕ)) (c next all : CookieFields) → slice_split is_semicolon text ≡ part ∷ behind → with_attributes (attributes_of text) c ≡ all
     → next ≡ with_attributes (attribute_of part ∷ []) c → with_attributes (map attribute_of behind) next ≡ all
 part_more text part behind c next all parts so_far is =

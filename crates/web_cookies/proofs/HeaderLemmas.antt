@@ -13,7 +13,7 @@ use Rattle.web_texts.specs.Pairs.{Pair}
 use Rattle.web_cookies.specs.HeaderCookies.{cookie_of_part, cookies_in, cookies_said}
 use Rattle.web_cookies.proofs.ReaderLemmas.{not_utf8}
 
--- the part before a semicolon, and then what is behind it
+-- the part before a semicolon, and then what is after it
 pub part_more : (encoded : Bool) (text part : List ℕ) (behind : List (List ℕ)) (now next all : List Pair) → slice_split is_semicolon text ≡ part ∷ behind
     → now ++ cookies_in encoded text ≡ all → next ≡ now ++ cookie_of_part encoded part → next ++ flat_map (cookie_of_part encoded) behind ≡ all
 part_more encoded text part behind now next all parts so_far is =

@@ -1,4 +1,4 @@
--- What the parts behind the first one say of a cookie (RFC 6265, section 5.2).
+-- What the parts after the first one say of a cookie (RFC 6265, section 5.2).
 use Rattle.std.specs.Prelude.{ℕ, ◌||◌, Bool, true, false, List, [], ◌∷◌, codes, drop, map}
 use Rattle.std.specs.Prelude.{min, Option, None, Some, if◌then◌else◌}
 use Rattle.std.specs.List.{list_any, slice_split}
@@ -38,7 +38,7 @@ site_of value =
 abbrev pub without_dot : List ℕ → List ℕ
 without_dot value = if starts_with_byte 46 value then drop 1 value else value
 
--- the age in seconds that digits say, at most 2^63 - 1; behind a minus 0
+-- the age in seconds that digits say, at most 2^63 - 1; after a minus 0
 abbrev pub age_of : List ℕ → Option ℕ
 age_of value =
     if starts_with_byte 45 value then (if are_digits (drop 1 value) then Some 0 else None)

@@ -53,6 +53,6 @@ cookie_in encoded text (Some halves) =
     said_with (with_attributes (attributes_of halves.1)) (pair_said encoded halves.0)
 
 -- The cookie that a text says: a pair before the first semicolon, percent-decoded where `encoded`,
--- and behind it attributes.
+-- and after it attributes.
 abbrev pub cookie_said : Bool → List ℕ → Result CookieFields CookieParseError
 cookie_said encoded text = cookie_in encoded text (split_once 59 text)

@@ -20,7 +20,7 @@ site_name site.Strict = codes "Strict"
 site_name site.Lax = codes "Lax"
 site_name site.None = codes "None"
 
--- the text behind a label, where there is something to print
+-- the text after a label, where there is something to print
 abbrev pub labelled : {T : Type 0} → List ℕ → (T → List ℕ) → Option T → List ℕ
 labelled label text None = []
 labelled label text (Some x) = label ++ text x

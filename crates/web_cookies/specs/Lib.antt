@@ -5,3 +5,4 @@ pub mod CookieEquality
 pub mod Attributes
 pub mod CookieReaders
 pub mod HeaderCookies
+pub mod CookieChecks

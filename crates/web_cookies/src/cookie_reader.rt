@@ -18,7 +18,7 @@ use web_texts::{Fail, Pair, cut_at, trim};
 
 impl Cookie {
     /// Reads a cookie as a response sets it (RFC 6265, section 5.2): a name and a value with `=`
-    /// between them, which are trimmed of blanks, and attributes behind semicolons. An attribute
+    /// between them, which are trimmed of blanks, and attributes after semicolons. An attribute
     /// that is unknown or cannot be read is left out, and a later one replaces an earlier one.
     ///
     /// Returns `MissingPair` where the part before the first semicolon has no `=`, `EmptyName`

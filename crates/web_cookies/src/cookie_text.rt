@@ -7,7 +7,7 @@ use crate::same_site::SameSite;
 use httpdate::HttpDate;
 use std::fmt;
 
-/// A text behind a label, where there is one.
+/// A text after a label, where there is one.
 #[derive(Drop)]
 struct LabelledText<'a>(&'a str, Option<&'a str>);
 

@@ -2,6 +2,7 @@
 #![tactic(auto)]
 
 mod attributes;
+mod checked_cookie;
 mod cookie_pair;
 mod cookie_parse_error;
 mod cookie_reader;

@@ -16,7 +16,8 @@ const REMOVAL_AGE: u64 = 31_536_000;
 const _: () = prove!(REMOVAL_AGE == 365 * 24 * 60 * 60);
 
 /// A cookie (RFC 6265, section 4.1): a name, a value, and the attributes that are set. Its name and
-/// value are kept and printed as they are, without escapes.
+/// value are kept and printed as they are, without escapes: a semicolon in a value from outside
+/// ends it, and what follows becomes attributes. `Cookie::checked` refuses such a value.
 ///
 /// Contracts see its fields. They see a date by the numbers that it shows.
 #[derive(Drop)]
@@ -211,22 +212,13 @@ impl Cookie {
     }
 }
 
-fn copy_text(alloc: Global, text: &Option<Text>) -> Result<Option<Text>, NoMemory>
-    ensures { IfOk result (λ copy. copy ≡ text.now) }
-{
-    match text {
-        Some(text) => Ok(Some(text.duplicate(alloc)?)),
-        None => Ok(None),
-    }
-}
-
 impl Duplicate for Cookie {
     fn duplicate(&self, alloc: Global) -> Result<Cookie, NoMemory> {
         let name = self.name.duplicate(alloc)?;
         let value = Text::of(alloc, self.value())?;
         let mut copy = Cookie::new(name, value);
-        copy.path = copy_text(alloc, &self.path)?;
-        copy.domain = copy_text(alloc, &self.domain)?;
+        copy.path = self.path.duplicate(alloc)?;
+        copy.domain = self.domain.duplicate(alloc)?;
         copy.max_age = self.max_age;
         copy.expires = self.expires;
         copy.secure = self.secure;

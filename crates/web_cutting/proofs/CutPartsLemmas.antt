@@ -8,7 +8,7 @@ use Rattle.web_body.specs.Cuttings.{SameBody}
 use Rattle.web_extract.specs.FirstTaker.{AllOrNone, LeavesAllOrNone}
 use Rattle.web_multipart.specs.Collections.{collection, result_by, result_of}
 use Rattle.web_multipart.specs.MultipartArgument.{MeansMultipart, multipart_rest, multipart_result}
-use Rattle.web_parts.specs.PartReading.{new_reader}
+use Rattle.web_multipart_parts.specs.PartReading.{new_reader}
 use Rattle.web_multipart_stream.specs.FormBoundaries.{boundary_of}
 use Rattle.web_multipart_stream.specs.PartSchedules.{Schedule}
 use Rattle.web_multipart_stream.specs.ScheduleLaws.{SameParts}

@@ -2,12 +2,12 @@
 use Rattle.std.proofs.Common.{ℕ, ◌+◌, Bool, true, false, List, [], refl}
 use Rattle.web_request.specs.declared.source.Mark.{Mark}
 use Rattle.web_request.specs.Head.{Head}
-use Rattle.web_values.specs.DecodedForms.{PairReader}
-use Rattle.web_values.specs.DecodedJson.{JsonReader}
+use Rattle.web_codec.specs.DecodedForms.{PairReader}
+use Rattle.web_codec.specs.DecodedJson.{JsonReader}
 use Rattle.web_body.specs.Cuttings.{SameBody}
-use Rattle.web_body.specs.declared.form_error.UrlencodedError.{UrlencodedError}
-use Rattle.web_body.specs.declared.json_error.JsonPayloadError.{JsonPayloadError}
-use Rattle.web_decoders.specs.DecoderSettings.{FormSettings, JsonSettings}
+use Rattle.web_body.specs.declared.errors.form_error.UrlencodedError.{UrlencodedError}
+use Rattle.web_body.specs.declared.errors.json_error.JsonPayloadError.{JsonPayloadError}
+use Rattle.web_body.specs.DecoderSettings.{FormSettings, JsonSettings}
 use Rattle.web_decoders.specs.FormBodies.{FormAnswer}
 use Rattle.web_decoders.specs.FormHeads.{form_head, form_refusal, takes_form}
 use Rattle.web_decoders.specs.JsonBodies.{JsonAnswer}
@@ -15,10 +15,10 @@ use Rattle.web_decoders.specs.TypePredicates.{Predicate}
 use Rattle.web_reply.specs.Replies.{Fault}
 use Rattle.web_extract.specs.Refusals.{Handler}
 use Rattle.web_extract.specs.ListMeanings.{ArgumentMeaning}
-use Rattle.web_types.specs.EitherArgument.{MeansEither}
-use Rattle.web_types.specs.FormArgument.{MeansForm, form_rest}
-use Rattle.web_types.specs.HandledBodies.{rest_where}
-use Rattle.web_types.specs.JsonArgument.{MeansJson, json_head_refusal}
+use Rattle.web_extract_body.specs.EitherArgument.{MeansEither}
+use Rattle.web_extract_body.specs.FormArgument.{MeansForm, form_rest}
+use Rattle.web_extract_body.specs.HandledBodies.{rest_where}
+use Rattle.web_extract_body.specs.JsonArgument.{MeansJson, json_head_refusal}
 use Rattle.web_cutting.specs.CutFree.{CutFree, CutFreeWithin}
 use Rattle.web_cutting.proofs.CutFreeLemmas.{decoded_cut, within_cut}
 

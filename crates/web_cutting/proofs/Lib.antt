@@ -6,3 +6,4 @@ mod CutRepliesLemmas
 mod TakingLemmas
 mod CutPartsLemmas
 mod PoolCallsLemmas
+mod OverLimitLemmas

@@ -6,7 +6,7 @@ use Rattle.web_reply.specs.Replies.{Fault}
 use Rattle.web_extract.specs.BodyArguments.{rest_after}
 use Rattle.web_extract.specs.FirstTaker.{AllOrNone, LeavesAllOrNone}
 use Rattle.web_extract.specs.ListMeanings.{Meaning, Means1, Means2, Means3, Means4, Member}
-use Rattle.web_types.specs.HandledBodies.{rest_where}
+use Rattle.web_extract_body.specs.HandledBodies.{rest_where}
 
 -- ---- one argument
 

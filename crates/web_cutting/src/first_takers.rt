@@ -7,13 +7,13 @@ ghost use Rattle.web_extract.specs.FirstTaker.{LeavesAllOrNone};
 use bytes::Bytes;
 use http::Method;
 use http_uri::Uri;
-use web_arguments::{Header, Path, Query};
 use web_body::Payload;
+use web_codec::{ReadJson, ReadPairs};
 use web_extract::{Capped, Configs, FromRequest, WithCap};
+use web_extract_body::{Either, Form, Json};
+use web_extract_head::{Header, Path, Query};
 use web_request::{App, ConnectionInfo, Data, Holds, HttpRequest, PeerAddr, ReqData, Source};
 use web_texts::Duplicate;
-use web_types::{Either, Form, Json};
-use web_values::{ReadJson, ReadPairs};
 
 /// `Json` and `Form` leave all of the body or none, and so do they, `Bytes` and `String` under
 /// every cap. `Bytes` and `String` themselves do so by `web_extract::first_taker_law`.

@@ -4,11 +4,11 @@ ghost use Rattle.web_cutting.specs.CutFree.{CutFree};
 
 use http::Method;
 use http_uri::Uri;
-use web_arguments::{Header, Path, Query};
+use web_codec::ReadPairs;
 use web_extract::{Configs, FromRequest};
+use web_extract_head::{Header, Path, Query};
 use web_request::{App, ConnectionInfo, Data, Holds, HttpRequest, PeerAddr, ReqData};
 use web_texts::Duplicate;
-use web_values::ReadPairs;
 
 /// What the head and the connection say is the same in every cutting of the body, which is left.
 ///

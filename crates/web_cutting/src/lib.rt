@@ -8,6 +8,7 @@ mod first_takers;
 mod head_cutting;
 mod list_cutting;
 mod multipart_cutting;
+mod over_limit;
 mod pool_calls;
 mod reply_cutting;
 mod value_cutting;
@@ -22,6 +23,7 @@ pub use first_takers::{
 pub use head_cutting::{data_cutting_law, head_cutting_law, read_cutting_law};
 pub use list_cutting::list_cutting_law;
 pub use multipart_cutting::{multipart_cutting_law, multipart_taking_law};
+pub use over_limit::{capped_over_limit_law, list_over_limit_law, over_limit_law};
 pub use pool_calls::{PoolCall, make_calls};
 pub use reply_cutting::reply_cutting_law;
 pub use value_cutting::{either_cutting_law, value_cutting_law};

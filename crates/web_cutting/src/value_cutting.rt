@@ -4,10 +4,10 @@ ghost use Rattle.web_request.specs.Request.{Request};
 ghost use Rattle.web_extract.specs.LayerConfigurations.{form_settings};
 ghost use Rattle.web_cutting.specs.CutFree.{CutFree, CutFreeWithin};
 
+use web_codec::{ReadJson, ReadPairs};
 use web_extract::{Configs, FromRequest, WithCap};
+use web_extract_body::{Either, Form, Json};
 use web_request::App;
-use web_types::{Either, Form, Json};
-use web_values::{ReadJson, ReadPairs};
 
 /// `Json` allows the same results in every cutting of the body, and `Form` where the body is within
 /// the limit, each of them under every cap; the number that a form's refusal carries tells the size

@@ -5,14 +5,14 @@ use Rattle.std.specs.Option.{IfNone}
 use Rattle.serde_json.specs.Data.{Data}
 use Rattle.web_texts.specs.Pairs.{Pair}
 use Rattle.web_request.specs.Feed.{Feed}
-use Rattle.web_values.specs.declared.faults.ReadFault.{ReadFault}
-use Rattle.web_values.specs.declared.faults.JsonFault.{JsonFault}
-use Rattle.web_values.specs.DecodedJson.{JsonReader}
-use Rattle.web_values.specs.DecodedForms.{PairReader}
-use Rattle.web_values.proofs.ReaderFunctionLemmas.{json_only, form_only}
+use Rattle.web_codec.specs.declared.faults.ReadFault.{ReadFault}
+use Rattle.web_codec.specs.declared.faults.JsonFault.{JsonFault}
+use Rattle.web_codec.specs.DecodedJson.{JsonReader}
+use Rattle.web_codec.specs.DecodedForms.{PairReader}
+use Rattle.web_codec.proofs.ReaderFunctionLemmas.{json_only, form_only}
 use Rattle.web_body.specs.declared.collecting.Unread.TheVariants.{TooLong, Failed}
-use Rattle.web_body.specs.declared.json_error.JsonPayloadError.{JsonPayloadError}
-use Rattle.web_body.specs.declared.form_error.UrlencodedError.{UrlencodedError}
+use Rattle.web_body.specs.declared.errors.json_error.JsonPayloadError.{JsonPayloadError}
+use Rattle.web_body.specs.declared.errors.form_error.UrlencodedError.{UrlencodedError}
 use Rattle.web_body.specs.declared.poll.Step.{Step}
 use Rattle.web_body.specs.declared.poll.Step.TheVariants.{Pending, Ready, NoMemory}
 use Rattle.web_body.specs.PollSteps.{IfReady}

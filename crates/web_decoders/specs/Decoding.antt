@@ -12,6 +12,7 @@ use Rattle.web_body.specs.declared.poll.Step.{Step}
 use Rattle.web_body.specs.declared.poll.Step.TheVariants.{Ready}
 use Rattle.web_body.specs.Payload.{payload_feed, bytes_between, KeepsPayload}
 use Rattle.web_body.specs.PollSteps.{GivesSome, IfReady, IsPending, OnPending}
+use Rattle.web_body.specs.PollSteps.{UnlessNoMemory}
 use Rattle.web_body.specs.Collector.{Collector, new_collector, Read, read_of, StallsNext}
 use Rattle.web_body.specs.Collector.{collector_gives, collector_some}
 
@@ -82,11 +83,12 @@ MeansDecoded {T} {E} decodes limit None (Some m) gives =
 abbrev pub came_length : {S : Type 0} → (S → Feed) → Collector S → Collector S → ℕ
 came_length feed old new = length old.held + bytes_between feed old.payload new.payload
 
--- the payload came to its end without a fault
+-- the payload came to its end without a fault or want of memory
 abbrev pub CameWhole : {S : Type 0} → (S → Feed) → Collector S → Collector S → Type 0
 CameWhole feed old new =
     ((payload_feed feed new.payload).answers ≡ 0)
     × ((payload_feed feed new.payload).faults ≡ (payload_feed feed old.payload).faults)
+    × ((payload_feed feed new.payload).lacked ≡ (payload_feed feed old.payload).lacked)
 
 -- what the counts of the payload say of a body that was read in one poll
 abbrev pub CameBy : {S : Type 0} → (S → Feed) → Collector S → Read → Collector S → Type 0
@@ -120,6 +122,8 @@ pub record PollsDecoding {D S T E : Type 0} (feed : S → Feed)
   pub payload : KeepsPayload feed old.body.payload new.body.payload
   pub pending : OnPending s (Rose
       (payload_feed feed old.body.payload).stalls (payload_feed feed new.body.payload).stalls)
+  pub lacked : UnlessNoMemory s ((payload_feed feed new.body.payload).lacked
+      ≡ (payload_feed feed old.body.payload).lacked)
   pub held : OnPending s (length new.body.held
       ≡ length old.body.held + bytes_between feed old.body.payload new.body.payload)
   pub within : OnPending s (length new.body.held ≤ new.body.limit)

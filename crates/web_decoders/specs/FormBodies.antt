@@ -4,13 +4,13 @@ use Rattle.std.specs.Option.{IfNone}
 use Rattle.web_texts.specs.Pairs.{Pair}
 use Rattle.web_request.specs.declared.source.Mark.{Mark}
 use Rattle.web_request.specs.Feed.{Feed}
-use Rattle.web_values.specs.declared.faults.ReadFault.{ReadFault}
-use Rattle.web_values.specs.FormPairs.{form_pairs}
-use Rattle.web_values.specs.DecodedForms.{PairReader, DecodesForm, decoded_form}
+use Rattle.web_codec.specs.declared.faults.ReadFault.{ReadFault}
+use Rattle.web_codec.specs.FormPairs.{form_pairs}
+use Rattle.web_codec.specs.DecodedForms.{PairReader, DecodesForm, decoded_form}
 use Rattle.web_body.specs.declared.collecting.Unread.TheVariants.{TooLong, Failed}
 use Rattle.web_body.specs.declared.message_body.PayloadError.TheVariants.{Io}
-use Rattle.web_body.specs.declared.form_error.UrlencodedError.{UrlencodedError}
-use Rattle.web_body.specs.declared.form_error.UrlencodedError.TheVariants as form
+use Rattle.web_body.specs.declared.errors.form_error.UrlencodedError.{UrlencodedError}
+use Rattle.web_body.specs.declared.errors.form_error.UrlencodedError.TheVariants as form
 use Rattle.web_body.specs.declared.payload.Payload.{Payload}
 use Rattle.web_body.specs.declared.poll.Step.{Step}
 use Rattle.web_body.specs.Payload.{payload_feed}
@@ -20,7 +20,7 @@ use Rattle.web_decoders.specs.declared.form_head.FormHead.{FormHead}
 use Rattle.web_decoders.specs.Decoding.{Decoding, new_decoding, decoding_gives, DecodesSome}
 use Rattle.web_decoders.specs.Decoding.{CameBy, CameWhole, PollsDecoding, decoding_some}
 use Rattle.web_decoders.specs.FormHeads.{form_refusal}
-use Rattle.web_decoders.specs.JsonBodies.{or_all_some}
+use Rattle.web_codec.specs.Answers.{or_all_some}
 
 -- the limit where no other is chosen, in bytes
 abbrev pub default_form_limit : ℕ

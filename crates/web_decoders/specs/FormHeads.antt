@@ -9,8 +9,8 @@ use Rattle.web_request.specs.MessageFields.{content_type_of, encoding_of}
 use Rattle.web_body.specs.declared.head_tests.Declared.{Declared}
 use Rattle.web_body.specs.declared.head_tests.Declared.TheVariants.{Nothing, Unreadable, Length}
 use Rattle.web_body.specs.declared.message_body.PayloadError.TheVariants.{UnsupportedEncoding}
-use Rattle.web_body.specs.declared.form_error.UrlencodedError.{UrlencodedError}
-use Rattle.web_body.specs.declared.form_error.UrlencodedError.TheVariants as form
+use Rattle.web_body.specs.declared.errors.form_error.UrlencodedError.{UrlencodedError}
+use Rattle.web_body.specs.declared.errors.form_error.UrlencodedError.TheVariants as form
 use Rattle.web_body.specs.HeadTests.{content_length, content_encoding, declared_of, is_coded_of}
 use Rattle.web_decoders.specs.declared.form_head.FormHead.{FormHead}
 

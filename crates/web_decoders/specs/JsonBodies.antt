@@ -2,22 +2,21 @@
 use Rattle.std.specs.Prelude.{◌≡◌, ◌<◌, ℕ, Bool, true, false, List, [], Option, None, Some, Result}
 use Rattle.std.specs.Prelude.{Ok, Err, refl}
 use Rattle.std.specs.Option.{IfNone}
-use Rattle.std.proofs.Common.{inl, inr}
 use Rattle.serde_json.specs.Data.{Data}
 use Rattle.serde_json.specs.Written.{has_float}
 use Rattle.web_request.specs.declared.source.Mark.{Mark}
 use Rattle.web_request.specs.Feed.{Feed}
-use Rattle.web_values.specs.declared.faults.JsonFault.{JsonFault}
-use Rattle.web_values.specs.declared.faults.JsonFault.TheVariants as fault
-use Rattle.web_values.specs.Answers.{OrAll}
-use Rattle.web_values.specs.JsonValues.{body_value}
-use Rattle.web_values.specs.DecodedJson.{JsonReader, as_target, decoded_json}
-use Rattle.web_values.specs.DecodedJson.{DecodesJson, DecodesValue, DecodesData}
-use Rattle.web_values.specs.declared.faults.ReadFault.{ReadFault}
+use Rattle.web_codec.specs.declared.faults.JsonFault.{JsonFault}
+use Rattle.web_codec.specs.declared.faults.JsonFault.TheVariants as fault
+use Rattle.web_codec.specs.Answers.{or_all_some}
+use Rattle.web_codec.specs.JsonValues.{body_value}
+use Rattle.web_codec.specs.DecodedJson.{JsonReader, as_target, decoded_json}
+use Rattle.web_codec.specs.DecodedJson.{DecodesJson, DecodesValue, DecodesData}
+use Rattle.web_codec.specs.declared.faults.ReadFault.{ReadFault}
 use Rattle.web_body.specs.declared.collecting.Unread.TheVariants.{TooLong, Failed}
 use Rattle.web_body.specs.declared.message_body.PayloadError.TheVariants.{Io}
-use Rattle.web_body.specs.declared.json_error.JsonPayloadError.{JsonPayloadError}
-use Rattle.web_body.specs.declared.json_error.JsonPayloadError.TheVariants as json
+use Rattle.web_body.specs.declared.errors.json_error.JsonPayloadError.{JsonPayloadError}
+use Rattle.web_body.specs.declared.errors.json_error.JsonPayloadError.TheVariants as json
 use Rattle.web_body.specs.declared.payload.Payload.{Payload}
 use Rattle.web_body.specs.declared.poll.Step.{Step}
 use Rattle.web_body.specs.Payload.{payload_feed}
@@ -79,11 +78,6 @@ json_body_refusal b = b.decoding.refusal
 -- the marks of its payload, where they are stated
 abbrev pub json_body_marks : {S : Type 0} → (S → Feed) → JsonBody S → Option (List Mark)
 json_body_marks feed b = (payload_feed feed b.decoding.body.payload).marks
-
--- It is not the case that nothing is allowed.
-pub or_all_some : {T : Type 0} (allowed : T → Type 0) → T
-    → ((x : T) → OrAll allowed x → ⊥) → ⊥
-or_all_some allowed x none = none x (inr (λ y p. none y (inl p)))
 
 data_some : {T : Type 0} (reads : JsonReader T) (has : Bool) (d : Data)
     → ((y : Result T JsonFault) → DecodesData reads has d y → ⊥) → ⊥

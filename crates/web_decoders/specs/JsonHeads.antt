@@ -7,8 +7,8 @@ use Rattle.http_header.specs.HeaderMap.{Entries, get}
 use Rattle.web_texts.specs.Blanks.{trimmed}
 use Rattle.web_texts.specs.Digits.{digits_up_to}
 use Rattle.web_body.specs.declared.message_body.PayloadError.TheVariants.{UnsupportedEncoding}
-use Rattle.web_body.specs.declared.json_error.JsonPayloadError.{JsonPayloadError}
-use Rattle.web_body.specs.declared.json_error.JsonPayloadError.TheVariants as json
+use Rattle.web_body.specs.declared.errors.json_error.JsonPayloadError.{JsonPayloadError}
+use Rattle.web_body.specs.declared.errors.json_error.JsonPayloadError.TheVariants as json
 use Rattle.web_body.specs.HeadTests.{content_length, content_encoding, is_coded_of}
 use Rattle.web_decoders.specs.declared.json_head.JsonHead.{JsonHead}
 

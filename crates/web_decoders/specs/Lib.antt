@@ -1,4 +1,3 @@
-pub mod DecoderSettings
 pub mod Decoding
 pub mod FormBodies
 pub mod FormHeads

@@ -5,7 +5,7 @@ use Rattle.http_header.specs.FieldValue.{FieldValue}
 use Rattle.http_header.specs.HeaderMap.{Entries}
 use Rattle.web_texts.specs.MediaTypes.{MediaType}
 use Rattle.web_texts.specs.declared.errors.ContentTypeError.{ContentTypeError}
-use Rattle.web_values.specs.Answers.{OrAll}
+use Rattle.web_codec.specs.Answers.{OrAll}
 use Rattle.web_request.specs.MessageFields.{mime_type_of}
 
 -- what a predicate may answer for a media type

@@ -15,9 +15,9 @@ use bytes::Bytes;
 use std::alloc::Global;
 use std::marker::{Model, PhantomData};
 use web_body::{Payload, PayloadError, Poll, Step, Unread, UrlencodedError};
+use web_codec::{ReadPairs, decode_form};
 use web_request::{App, HttpRequest, Source};
 use web_texts::{Fail, NoMemory};
-use web_values::{ReadPairs, decode_form};
 
 /// The limit of a form where no other is chosen, in bytes.
 pub const DEFAULT_FORM_LIMIT: usize = 32_768;

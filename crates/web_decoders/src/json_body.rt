@@ -13,19 +13,15 @@ ghost use Rattle.web_decoders.specs.WrittenTypes.{NeedsNoReading};
 use crate::body_decoder::{Decode, Decoding};
 use crate::json_head::{JsonHead, reads_type};
 use crate::taken::take_where;
-use crate::type_predicates::AllowType;
 use bytes::Bytes;
 use std::alloc::Global;
 use std::marker::{Model, PhantomData};
-use web_body::{JsonPayloadError, Payload, PayloadError, Poll, Step, Unread};
+use web_body::{
+    AllowType, DEFAULT_JSON_LIMIT, JsonPayloadError, Payload, PayloadError, Poll, Step, Unread,
+};
+use web_codec::{ReadJson, decode_json};
 use web_request::{App, HttpRequest, Source};
 use web_texts::{Fail, NoMemory};
-use web_values::{ReadJson, decode_json};
-
-/// The limit of a JSON body where no other is chosen, in bytes.
-pub const DEFAULT_JSON_LIMIT: usize = 2_097_152;
-
-const _: () = prove!(DEFAULT_JSON_LIMIT == 2_097_152);
 
 /// Decodes a JSON body that was read under a limit. It is seen as that limit.
 #[derive(Drop)]

@@ -9,11 +9,10 @@ ghost use Rattle.web_decoders.specs.TypePredicates.{AllowsBy, ReadsType, is_json
 ghost use Rattle.web_decoders.specs.WrittenTypes.{NeedsNoReading};
 ghost use Rattle.std.specs.Option.{option_and_then};
 
-use crate::type_predicates::AllowType;
 use crate::written_type::is_written;
 use http_header::{CONTENT_LENGTH, HeaderMap, HeaderValue};
 use std::alloc::Global;
-use web_body::{JsonPayloadError, PayloadError, is_coded};
+use web_body::{AllowType, JsonPayloadError, PayloadError, is_coded};
 use web_request::{App, HttpMessage, HttpRequest};
 use web_texts::{APPLICATION_JSON, Fail, Mime, NoMemory, number_of, trim_bytes};
 

@@ -24,7 +24,7 @@ module _ (d : Document) (media_type tag modified : FieldValue) (kind : media_typ
       ∙ ap (λ t. whole_of (media_type_value d) t modified) version
       ∙ ap (λ m. whole_of (media_type_value d) (tag_value d) m) date
 
--- a value of Content-Range behind the headers of a document
+-- a value of Content-Range after the headers of a document
 pub part_is : (d : Document) (value : FieldValue) → insert (whole_headers d) (codes "content-range") value ≡ part_headers value d
 part_is d value = refl
 

@@ -20,14 +20,14 @@ Documents = FinMap (slice_cmp nat_cmp) Document
 abbrev pub store_of : List Document → Documents
 store_of documents = from_entries (map (λ d. (d.path, d)) documents)
 
--- what is wrong with a document behind these, if anything is
+-- what is wrong with a document after these, if anything is
 abbrev pub fault_behind : List Document → Document → Option StoreFault
 fault_behind before d =
     if list_any (λ e. bytes_eq d.path e.path) before then Some (fault.DuplicatePath d.path)
     else if has_field_values d then None
     else Some (fault.Value d.path)
 
--- nothing is wrong with any of them behind those before it
+-- nothing is wrong with any of them after those before it
 abbrev pub HasNoFault : List Document → Type 0
 HasNoFault documents = (before : List Document) (d : Document) (after : List Document)
     → documents ≡ before ++ d ∷ after → fault_behind before d ≡ None

@@ -70,7 +70,7 @@ pub fn with_range(
     Ok(map)
 }
 
-/// The headers of a document with an empty Content-Range behind them.
+/// The headers of a document with an empty Content-Range after them.
 pub fn part_map(whole: &HeaderMap<HeaderValue>) -> Result<HeaderMap<HeaderValue>, NoMemory>
     ensures { IfOk result (λ map. map
         ≡ insert whole.now (codes "content-range") (plain_value [])) }

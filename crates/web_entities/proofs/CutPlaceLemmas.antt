@@ -12,7 +12,7 @@ tests_same a b e = grind (arith, nat_tests)
 pub other_byte : (a b : ℕ) → (a == b) ≡ false → a ≡ b → ⊥
 other_byte a b e same = absurd (grind (arith, nat_tests))
 
--- the mode behind each text cuts exactly where the text is such
+-- the mode after each text cuts exactly where the text is such
 pub record ModesSay {M : Type 0} (rule : Rule M) (mode : M) (cuts : List ℕ → Type 0) : Type 0 where
   pub yes : (front : List ℕ) → rule.cuts (fold rule.next mode front) ≡ true → cuts front
   pub no : (front : List ℕ) → rule.cuts (fold rule.next mode front) ≡ false → cuts front → ⊥

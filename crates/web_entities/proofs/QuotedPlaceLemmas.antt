@@ -5,8 +5,8 @@ use Rattle.std.specs.List.{concat, fold, list_all}
 use Rattle.web_texts.specs.ParameterPlaces.{is_outside, place_behind, semicolons}
 use Rattle.web_texts.specs.PieceItems.{is_empty}
 use Rattle.web_texts.specs.QuotedText.{is_closed}
-use Rattle.web_texts.specs.declared.parameters.Place.{Place}
-use Rattle.web_texts.specs.declared.parameters.Place.TheVariants.{Outside, Quoted, Escaped}
+use Rattle.web_texts.specs.declared.grammar.parameters.Place.{Place}
+use Rattle.web_texts.specs.declared.grammar.parameters.Place.TheVariants.{Outside, Quoted, Escaped}
 use Rattle.web_entities.specs.CutPlaces.{CutsBehind, IsOutsideQuotes, is_part}
 use Rattle.web_entities.proofs.CutPlaceLemmas.{cuts_behind}
 use Rattle.web_texts.proofs.TestLemmas.{same_byte}

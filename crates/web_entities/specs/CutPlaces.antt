@@ -22,7 +22,7 @@ HasNoCut mark cuts text =
     (j : ℕ) → j < length text → slice_index text j ≡ mark → cuts (take j text) → ⊥
 
 -- The first piece ends at the first mark that has this in front of it, and the other pieces are
--- those of the text behind that mark. Where there is no such mark, the text is one piece.
+-- those of the text after that mark. Where there is no such mark, the text is one piece.
 pub record CutsBehind {M : Type 0} (rule : Rule M) (cuts : List ℕ → Type 0) : Type 0 where
   pub cut : (text : List ℕ) (i : ℕ) → IsFirstCut rule.mark cuts text i
       → pieces rule rule.start text ≡ take i text ∷ pieces rule rule.start (drop (i + 1) text)
@@ -50,7 +50,7 @@ abbrev pub IsOutsideQuotes : List ℕ → Type 0
 IsOutsideQuotes text =
     (parts : List (List ℕ)) × (text ≡ concat parts) × (list_all is_part parts ≡ true)
 
--- behind an opening quote there is a closing one
+-- after an opening quote there is a closing one
 abbrev pub HasClosingQuote : List ℕ → Type 0
 HasClosingQuote text =
     (inner more : List ℕ) × (text ≡ inner ++ more) × (is_closed inner ≡ true)

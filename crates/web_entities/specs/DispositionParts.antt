@@ -4,7 +4,7 @@ use Rattle.std.specs.Prelude.{ℕ, Bool, true, false, List, [], ◌∷◌, Optio
 use Rattle.std.specs.Prelude.{if◌then◌else◌}
 use Rattle.std.specs.Option.{option_or}
 use Rattle.std.specs.Str.{str_eq_ignore_ascii_case}
-use Rattle.web_texts.specs.declared.extended_value.ExtendedValue.{ExtendedValue}
+use Rattle.web_texts.specs.declared.grammar.extended_value.ExtendedValue.{ExtendedValue}
 use Rattle.web_entities.specs.declared.disposition_param.DispositionParam.{DispositionParam}
 use Rattle.web_entities.specs.declared.disposition_param.DispositionParam.TheVariants as param
 use Rattle.web_entities.specs.declared.content_disposition.DispositionType.{DispositionType}

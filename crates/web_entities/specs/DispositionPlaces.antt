@@ -7,7 +7,7 @@ use Rattle.web_entities.specs.declared.disposition_places.Place.TheVariants as p
 use Rattle.web_entities.specs.declared.disposition_places.Inside.{Inside}
 use Rattle.web_entities.specs.declared.disposition_places.Inside.TheVariants.{Plain, Escaped}
 
--- Behind the equals sign of a name that ends in an asterisk no quote is looked for.
+-- After the equals sign of a name that ends in an asterisk no quote is looked for.
 abbrev pub next_place : Place → ℕ → Place
 next_place place.Name b =
     if b == 42 then place.Starred else if b == 61 then place.Lead else place.Name

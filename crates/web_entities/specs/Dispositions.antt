@@ -9,7 +9,7 @@ use Rattle.web_texts.specs.ExtendedValues.{extended_value_of}
 use Rattle.web_texts.specs.Pieces.{pieces}
 use Rattle.web_texts.specs.PieceItems.{all_items, is_empty}
 use Rattle.web_texts.specs.QuotedText.{unescaped}
-use Rattle.web_texts.specs.declared.extended_value.ExtendedValue.{ExtendedValue}
+use Rattle.web_texts.specs.declared.grammar.extended_value.ExtendedValue.{ExtendedValue}
 use Rattle.web_entities.specs.DispositionPlaces.{in_parameters, in_quotes}
 use Rattle.web_entities.specs.declared.disposition_param.DispositionParam.{DispositionParam}
 use Rattle.web_entities.specs.declared.disposition_param.DispositionParam.TheVariants as param
@@ -38,7 +38,7 @@ before_quote (inner ∷ next ∷ more) = Some (unescaped inner)
 abbrev pub quoted_value_of : List ℕ → Option (List ℕ)
 quoted_value_of text = before_quote (pieces in_quotes in_quotes.start text)
 
--- Text behind the closing quote is skipped.
+-- Text after the closing quote is skipped.
 abbrev pub plain_value_of : List ℕ → Option (List ℕ)
 plain_value_of value =
     if slice_index value 0 == 34 then quoted_value_of (drop 1 value) else Some value
@@ -87,7 +87,7 @@ typed_disposition name params =
     (λ parameters. record { disposition = type_of name; parameters = parameters })
     (all_items param_of (pieces in_parameters in_parameters.start params))
 
--- The type stands before the first semicolon, and parameters behind it. Names need not be tokens,
+-- The type stands before the first semicolon, and parameters after it. Names need not be tokens,
 -- and a trailing semicolon is allowed, where the RFC has neither.
 abbrev pub disposition_of : List ℕ → Option ContentDisposition
 disposition_of text =

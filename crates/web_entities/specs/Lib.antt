@@ -10,3 +10,4 @@ pub mod IfRanges
 pub mod ListedTags
 pub mod TagLists
 pub mod CutPlaces
+pub mod CheckedNames

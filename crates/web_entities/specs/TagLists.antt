@@ -24,7 +24,7 @@ abbrev pub is_even : Quotes → Bool
 is_even Even = true
 is_even Odd = false
 
--- A comma behind an odd number of double quotes does not cut.
+-- A comma after an odd number of double quotes does not cut.
 abbrev pub outside_quotes : Rule Quotes
 outside_quotes = record { mark = 44; cuts = is_even; next = next_quotes; start = Even }
 

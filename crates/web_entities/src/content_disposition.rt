@@ -40,7 +40,7 @@ pub enum DispositionType {
 }
 
 /// How a representation is to be shown or saved (RFC 6266), or which field of a form a part is. It
-/// is read from the first value, which must be UTF-8: a type, and parameters behind semicolons.
+/// is read from the first value, which must be UTF-8: a type, and parameters after semicolons.
 #[derive(Debug, Drop, PartialEq, Eq)]
 pub struct ContentDisposition {
     /// The type.
@@ -68,7 +68,7 @@ impl DispositionType {
     }
 }
 
-/// The text before the first semicolon and the text behind it, or all and nothing.
+/// The text before the first semicolon and the text after it, or all and nothing.
 fn split_type(text: &str) -> (&str, &str)
     ensures { (result.0.now, result.1.now) ≡ parts_or_all text.now (split_once 59 text.now) }
 {
@@ -118,7 +118,7 @@ impl ContentDisposition {
 
     /// Reads one value. `ParseError::Header` comes where it is not UTF-8 or outside the grammar:
     /// an empty type, a parameter without a name, without `=` or without a value, quoted text
-    /// without a closing quote, and behind `*=` what is no extended value.
+    /// without a closing quote, and after `*=` what is no extended value.
     pub fn from_raw(alloc: Global, value: &HeaderValue) -> Result<Self, Fail<ParseError>>
         ensures { Reads result (raw_disposition_of value.now.bytes) }
     {

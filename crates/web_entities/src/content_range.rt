@@ -34,7 +34,7 @@ pub enum ContentRangeSpec {
     Unregistered {
         /// The unit, up to the first space.
         unit: Text,
-        /// The text behind that space.
+        /// The text after that space.
         resp: Text,
     },
 }

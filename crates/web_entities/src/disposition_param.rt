@@ -20,7 +20,9 @@ use web_texts::{
 /// in any ASCII case.
 #[derive(Debug, Drop, PartialEq, Eq)]
 pub enum DispositionParam {
-    /// `name`, of a field of a form (RFC 7578, section 4.2).
+    /// `name`, of a field of a form (RFC 7578, section 4.2). It is printed without quotes: a
+    /// semicolon in a name from outside ends it, and what follows is another parameter.
+    /// `DispositionParam::checked_name` refuses such a name.
     Name(Text),
     /// `filename`, the name of a file.
     Filename(Text),
@@ -296,7 +298,7 @@ fn make_extended(
     Ok(DispositionParam::UnknownExt(Text::of(alloc, name)?, value))
 }
 
-/// Reads quoted text behind its opening quote. What follows the closing quote is skipped.
+/// Reads quoted text after its opening quote. What follows the closing quote is skipped.
 fn read_quoted(alloc: Global, text: &str) -> Result<Text, Fail<ParseError>>
     ensures { Reads result (quoted_value_of text.now) }
 {

@@ -8,15 +8,15 @@ use web_texts::Mode;
 pub enum Place {
     /// In a name.
     Name,
-    /// In a name, behind an asterisk and blanks alone.
+    /// In a name, after an asterisk and blanks alone.
     Starred,
-    /// Behind the equals sign, before the value.
+    /// After the equals sign, before the value.
     Lead,
     /// In a value, or in what follows its closing quote.
     Value,
     /// Between quotes.
     Quoted,
-    /// Between quotes, behind a backslash.
+    /// Between quotes, after a backslash.
     Escaped,
 }
 
@@ -60,9 +60,9 @@ impl Mode for Place {
 /// A place between quotes.
 #[derive(Clone, Copy, Debug, PartialEq, Eq)]
 pub enum Inside {
-    /// Not behind a backslash.
+    /// Not after a backslash.
     Plain,
-    /// Behind a backslash, which keeps the next byte.
+    /// After a backslash, which keeps the next byte.
     Escaped,
 }
 

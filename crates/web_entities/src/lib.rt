@@ -1,6 +1,7 @@
 //! Entity tags, ranges and dispositions: the headers of HTTP that speak of a representation.
 #![tactic(auto)]
 
+mod checked_name;
 mod content_disposition;
 mod content_range;
 mod disposition_param;

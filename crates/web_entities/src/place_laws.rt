@@ -27,8 +27,8 @@ pub fn media_semicolon_law()
     ensures { CutsBehind semicolons IsOutsideQuotes }
 {}
 
-/// A semicolon ends a parameter of a disposition behind a name and an equals sign, but not within
-/// quoted text that is the value. Behind a name that ends in an asterisk no quote counts.
+/// A semicolon ends a parameter of a disposition after a name and an equals sign, but not within
+/// quoted text that is the value. After a name that ends in an asterisk no quote counts.
 ///
 /// The contract is a law, for callers to cite in proofs; a call of it has no effect.
 pub fn disposition_semicolon_law()

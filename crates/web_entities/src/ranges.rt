@@ -36,13 +36,13 @@ pub enum ByteRangeSpec {
 }
 
 /// Which parts of a representation a request is for (RFC 9110, section 14.2).
-/// `ParseError::Header` comes where no byte range can be read behind `bytes=`, where another unit
+/// `ParseError::Header` comes where no byte range can be read after `bytes=`, where another unit
 /// or its text is empty, and where there is no `=`.
 #[derive(Debug, Drop, PartialEq, Eq)]
 pub enum Range {
     /// These ranges of bytes.
     Bytes(Items<ByteRangeSpec>),
-    /// Another unit, and the text behind `=`.
+    /// Another unit, and the text after `=`.
     Unregistered(Text, Text),
 }
 

@@ -3,7 +3,7 @@ use Rattle.std.proofs.Common.{◌≡◌, ℕ, suc, max, Bool, true, false, ◌&&
 use Rattle.std.specs.Prelude.{Result}
 use Rattle.web_reply.specs.Replies.{Fault}
 use Rattle.web_extract.specs.CollectedResults.{collected2}
-use Rattle.web_extract.specs.declared.place.Place.{Place}
+use Rattle.web_extract.specs.declared.lists.place.Place.{Place}
 use Rattle.web_extract.specs.Place.{HoldsOrWaits, place_comes}
 use Rattle.web_extract.specs.ArgumentLists.{Gives, Joins2}
 

@@ -6,7 +6,7 @@ use Rattle.web_body.specs.PollSteps.{IfReady, Shifts}
 use Rattle.web_body.specs.declared.poll.Step.{Step}
 use Rattle.web_body.specs.declared.poll.Step.TheVariants.{Pending, Ready, NoMemory}
 use Rattle.web_extract.specs.Extracts.{Extracts}
-use Rattle.web_extract.specs.declared.capped_argument.Capped.{Capped}
+use Rattle.web_extract.specs.declared.body.capped_argument.Capped.{Capped}
 use Rattle.web_extract.specs.CappedArguments.{GivesCapped, WrapsStep}
 
 module _ {T E : Type 0} {cap : ℕ} where

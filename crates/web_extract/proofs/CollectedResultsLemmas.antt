@@ -3,8 +3,8 @@ use Rattle.std.proofs.Common.{◌≡◌, List, [], ◌∷◌, ◌++◌, refl, sy
 use Rattle.std.specs.Prelude.{⊤, Option, None, Some, Result, Ok, Err}
 use Rattle.web_reply.specs.JoinedErrors.{cause_members, join, members}
 use Rattle.web_reply.specs.Replies.{Fault, fault_of}
-use Rattle.web_reply.specs.declared.cause.Cause.TheVariants.{Several}
-use Rattle.web_reply.specs.declared.several.Member.{Member}
+use Rattle.web_reply.specs.declared.errors.cause.Cause.TheVariants.{Several}
+use Rattle.web_reply.specs.declared.errors.several.Member.{Member}
 use Rattle.web_extract.specs.CollectedResults.{collected2, collected3, collected4, map_value, refusal, refused, unless_refused, values2, values3, values4}
 
 -- two errors, each of them maybe absent, as one

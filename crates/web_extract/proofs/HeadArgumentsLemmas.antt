@@ -6,7 +6,7 @@ use Rattle.web_request.specs.declared.source.Mark.{Mark}
 use Rattle.web_request.specs.Feed.{Feed}
 use Rattle.web_request.specs.Head.{Head, head_target, uri_view}
 use Rattle.web_request.specs.Request.{Record, Request}
-use Rattle.web_values.specs.Answers.{OrAll}
+use Rattle.web_codec.specs.Answers.{OrAll}
 use Rattle.web_body.specs.declared.payload.Payload.{Payload}
 use Rattle.web_body.specs.Payload.{payload_feed}
 use Rattle.web_reply.specs.Replies.{Fault}

@@ -6,7 +6,7 @@ use Rattle.std.specs.Borrow.{Bor}
 use Rattle.web_texts.specs.declared.memory.NoMemory.{NoMemory}
 use Rattle.web_request.specs.declared.head.RequestHead.{RequestHead}
 use Rattle.web_request.specs.Head.{head_view}
-use Rattle.web_values.specs.Answers.{OrAll}
+use Rattle.web_codec.specs.Answers.{OrAll}
 use Rattle.web_reply.specs.Replies.{Fault}
 use Rattle.web_extract.specs.Extracts.{AllowsOnly}
 use Rattle.web_extract.specs.Refusals.{ClosureRefuses}

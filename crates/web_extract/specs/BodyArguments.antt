@@ -14,7 +14,7 @@ use Rattle.web_body.specs.HeadTests.{refusal_by}
 use Rattle.web_body.specs.MessageBody.{answer_of}
 use Rattle.web_body.specs.declared.message_body.PayloadError.{PayloadError}
 use Rattle.web_reply.specs.Replies.{Fault, fault_of}
-use Rattle.web_reply.specs.declared.cause.Cause.TheVariants.{ContentType, Custom, Payload}
+use Rattle.web_reply.specs.declared.errors.cause.Cause.TheVariants.{ContentType, Custom, Payload}
 use Rattle.web_extract.specs.ConvertedFutures.{converted_result}
 use Rattle.web_extract.specs.Extracts.{AllowsSome}
 use Rattle.web_extract.specs.ListResults.{DelayedResult}

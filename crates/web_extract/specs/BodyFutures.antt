@@ -13,6 +13,7 @@ use Rattle.web_body.specs.MessageBody.{body_some}
 use Rattle.web_body.specs.MessageBodyPolls.{NotByHead, OnIo, OnOverflow}
 use Rattle.web_body.specs.Payload.{KeepsPayload, bytes_between, payload_feed}
 use Rattle.web_body.specs.PollSteps.{GivesSome, IfReady, MatchStep, OnPending}
+use Rattle.web_body.specs.PollSteps.{UnlessNoMemory}
 use Rattle.web_body.specs.declared.message_body.PayloadError.{PayloadError}
 use Rattle.web_body.specs.declared.poll.Step.{Step}
 use Rattle.web_body.specs.declared.poll.Step.TheVariants.{Pending, Ready, NoMemory}
@@ -104,6 +105,8 @@ module _ {S : Type 0} (feed : S → Feed) where
     pub whole_ended : OnWhole s ((payload_feed feed new.payload).answers ≡ 0)
     pub whole_unfailed : OnWhole s
         ((payload_feed feed new.payload).faults ≡ (payload_feed feed old.payload).faults)
+    pub lacked : UnlessNoMemory s
+        ((payload_feed feed new.payload).lacked ≡ (payload_feed feed old.payload).lacked)
     pub whole_length : OnBody s
         (λ b. length b ≡ length old.held + bytes_between feed old.payload new.payload)
     pub whole_within : OnBody s (λ b. length b ≤ old.limit)

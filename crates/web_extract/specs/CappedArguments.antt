@@ -6,7 +6,7 @@ use Rattle.web_body.specs.PollSteps.{GivesSome}
 use Rattle.web_body.specs.declared.poll.Step.{Step}
 use Rattle.web_body.specs.declared.poll.Step.TheVariants.{Pending, Ready, NoMemory}
 use Rattle.web_extract.specs.Extracts.{AllowsSome}
-use Rattle.web_extract.specs.declared.capped_argument.Capped.{Capped}
+use Rattle.web_extract.specs.declared.body.capped_argument.Capped.{Capped}
 
 -- the same settings under the lesser of their limit and this cap
 abbrev pub capped_settings : ℕ → PayloadSettings → PayloadSettings

@@ -4,7 +4,7 @@ use Rattle.std.proofs.Common.{inl, inr}
 use Rattle.web_request.specs.declared.source.Mark.{Mark}
 use Rattle.web_request.specs.Head.{Head, Target, head_target, uri_view}
 use Rattle.web_request.specs.Request.{Record, Request, nothing_kept, record_of}
-use Rattle.web_values.specs.Answers.{OrAll}
+use Rattle.web_codec.specs.Answers.{OrAll}
 use Rattle.web_reply.specs.Replies.{Fault}
 use Rattle.http_uri.specs.declared.uri.Uri.{Uri}
 use Rattle.web_extract.specs.Extracts.{AllowsSome}

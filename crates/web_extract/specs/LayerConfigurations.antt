@@ -3,10 +3,10 @@ use Rattle.std.specs.Prelude.{◌≡◌, List, Option, None, Some, IfSome, optio
 use Rattle.std.specs.Option.{unwrap_or}
 use Rattle.web_request.specs.Nearest.{nearest_config}
 use Rattle.web_body.specs.PayloadSettings.{PayloadSettings, default_payload_settings}
-use Rattle.web_decoders.specs.DecoderSettings.{JsonSettings, FormSettings, HandlerSettings}
-use Rattle.web_decoders.specs.DecoderSettings.{default_json_settings, default_form_settings}
-use Rattle.web_decoders.specs.DecoderSettings.{default_handler_settings}
-use Rattle.web_extract.specs.declared.layer_configs.LayerConfigs.{LayerConfigs}
+use Rattle.web_body.specs.DecoderSettings.{JsonSettings, FormSettings, HandlerSettings}
+use Rattle.web_body.specs.DecoderSettings.{default_json_settings, default_form_settings}
+use Rattle.web_body.specs.DecoderSettings.{default_handler_settings}
+use Rattle.web_extract.specs.declared.config.layer_configs.LayerConfigs.{LayerConfigs}
 
 -- J, F, P and Q: the handlers of faults in JSON, forms, paths and queries; T: the predicate of
 -- media types

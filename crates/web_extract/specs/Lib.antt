@@ -24,3 +24,4 @@ pub mod DataArguments
 pub mod PayloadArgument
 pub mod PeerArgument
 pub mod CappedArguments
+pub mod SeenResults

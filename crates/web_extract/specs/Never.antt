@@ -1,8 +1,8 @@
 -- The error of arguments that are never refused.
 use Rattle.std.specs.Prelude.{◌≡◌, ℕ, List, Result, Err, refl}
 use Rattle.web_request.specs.declared.source.Mark.{Mark}
-use Rattle.web_reply.specs.declared.cause.Cause.TheVariants.{Io}
-use Rattle.web_reply.specs.declared.cause.IoKind.TheVariants.{Other}
+use Rattle.web_reply.specs.declared.errors.cause.Cause.TheVariants.{Io}
+use Rattle.web_reply.specs.declared.errors.cause.IoKind.TheVariants.{Other}
 use Rattle.web_reply.specs.Replies.{Fault, fault_of}
 use Rattle.web_extract.specs.declared.never.Never.{Never}
 

@@ -3,7 +3,7 @@ use Rattle.std.specs.Prelude.{◌≡◌, ℕ, List, [], Option, Some, Result, Ok
 use Rattle.std.proofs.Common.{inl, inr}
 use Rattle.web_request.specs.declared.source.Mark.{Mark}
 use Rattle.web_request.specs.Feed.{Feed}
-use Rattle.web_values.specs.Answers.{OrAll}
+use Rattle.web_codec.specs.Answers.{OrAll}
 use Rattle.web_body.specs.declared.payload.Payload.{Payload}
 use Rattle.web_body.specs.Payload.{payload_feed}
 use Rattle.web_reply.specs.Replies.{Fault}

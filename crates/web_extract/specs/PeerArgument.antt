@@ -1,9 +1,9 @@
 -- The address that a request came from, as an argument.
 use Rattle.std.specs.Prelude.{◌≡◌, Option, None, Some, Result, Ok, Err, refl}
-use Rattle.web_request.specs.declared.address.SocketAddr.{SocketAddr}
-use Rattle.web_request.specs.declared.peer.MissingPeerAddr.{MissingPeerAddr}
-use Rattle.web_request.specs.declared.peer.PeerAddr.{PeerAddr}
-use Rattle.web_reply.specs.declared.cause.Cause.TheVariants.{MissingPeer}
+use Rattle.web_request.specs.declared.peers.address.SocketAddr.{SocketAddr}
+use Rattle.web_request.specs.declared.peers.peer.MissingPeerAddr.{MissingPeerAddr}
+use Rattle.web_request.specs.declared.peers.peer.PeerAddr.{PeerAddr}
+use Rattle.web_reply.specs.declared.errors.cause.Cause.TheVariants.{MissingPeer}
 use Rattle.web_reply.specs.Replies.{Fault, fault_of}
 
 -- the address that is known, or that it is missing

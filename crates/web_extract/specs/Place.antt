@@ -3,8 +3,8 @@ use Rattle.std.specs.Prelude.{◌≡◌, ℕ, suc, Bool, true, false, Result, Ok
 use Rattle.web_texts.specs.declared.memory.NoMemory.{NoMemory}
 use Rattle.web_reply.specs.Replies.{Fault}
 use Rattle.web_extract.specs.ArgumentLists.{Gives, ConvertsRefusal}
-use Rattle.web_extract.specs.declared.place.Place.{Place}
-use Rattle.web_extract.specs.declared.place.Place.TheVariants.{Waiting, Done, Taken}
+use Rattle.web_extract.specs.declared.lists.place.Place.{Place}
+use Rattle.web_extract.specs.declared.lists.place.Place.TheVariants.{Waiting, Done, Taken}
 
 abbrev pub place_finished : {F T : Type 0} → (F → Bool) → Place F T → Bool
 place_finished finished (Waiting f) = finished f

@@ -5,15 +5,15 @@ use Rattle.std.specs.Borrow.{Bor}
 use Rattle.web_texts.specs.declared.memory.NoMemory.{NoMemory}
 use Rattle.web_request.specs.declared.head.RequestHead.{RequestHead}
 use Rattle.web_request.specs.Head.{Head, head_view}
-use Rattle.web_values.specs.Answers.{OrAll}
-use Rattle.web_body.specs.declared.path_error.PathError.{PathError}
-use Rattle.web_body.specs.declared.path_error.PathError.TheVariants as path
-use Rattle.web_body.specs.declared.query_error.QueryPayloadError.{QueryPayloadError}
-use Rattle.web_body.specs.declared.json_error.JsonPayloadError.{JsonPayloadError}
-use Rattle.web_body.specs.declared.form_error.UrlencodedError.{UrlencodedError}
-use Rattle.web_decoders.specs.JsonBodies.{or_all_some}
-use Rattle.web_reply.specs.declared.cause.Cause.TheVariants.{Custom, Form, Io, Json, Query}
-use Rattle.web_reply.specs.declared.cause.IoKind.TheVariants.{Other}
+use Rattle.web_codec.specs.Answers.{OrAll}
+use Rattle.web_body.specs.declared.errors.path_error.PathError.{PathError}
+use Rattle.web_body.specs.declared.errors.path_error.PathError.TheVariants as path
+use Rattle.web_body.specs.declared.errors.query_error.QueryPayloadError.{QueryPayloadError}
+use Rattle.web_body.specs.declared.errors.json_error.JsonPayloadError.{JsonPayloadError}
+use Rattle.web_body.specs.declared.errors.form_error.UrlencodedError.{UrlencodedError}
+use Rattle.web_codec.specs.Answers.{or_all_some}
+use Rattle.web_reply.specs.declared.errors.cause.Cause.TheVariants.{Custom, Form, Io, Json, Query}
+use Rattle.web_reply.specs.declared.errors.cause.IoKind.TheVariants.{Other}
 use Rattle.web_reply.specs.Replies.{Fault, fault_of}
 use Rattle.web_extract.specs.Extracts.{Possible}
 

@@ -5,8 +5,8 @@ use Rattle.web_reply.specs.Replies.{Fault}
 use Rattle.web_body.specs.PollSteps.{GivesSome}
 use Rattle.web_extract.specs.CollectedResults.{collected2}
 use Rattle.web_extract.specs.Extracts.{AllowsSome}
-use Rattle.web_extract.specs.declared.place.Place.{Place}
-use Rattle.web_extract.specs.declared.place.Place.TheVariants.{Waiting, Done, Taken}
+use Rattle.web_extract.specs.declared.lists.place.Place.{Place}
+use Rattle.web_extract.specs.declared.lists.place.Place.TheVariants.{Waiting, Done, Taken}
 use Rattle.web_extract.specs.Place.{place_finished, place_comes}
 use Rattle.web_extract.specs.ArgumentLists.{Gives, ConvertsRefusal, Joins1, Joins2, Joins3}
 use Rattle.web_extract.specs.ArgumentLists.{Joins4, nested3, nested4}

@@ -2,7 +2,7 @@
 use Rattle.std.proofs.Common.{◌≡◌, ℕ, Bool, true, false, not, List, [], ◌∷◌, ◌++◌, map, filter, cond, Option, None, Some, refl}
 use Rattle.std.specs.List.{flat_map, filter_map, list_all, slice_split}
 use Rattle.std.specs.Prelude.{slice_get}
-use Rattle.std.proofs.lemmas.List.{map-append}
+use Rattle.std.proofs.lemmas.List.{map-append, append-nil}
 use Rattle.std.proofs.lemmas.List.Elements.{filter-append, filter_map-append}
 use Rattle.std.proofs.lemmas.List.Sums.{AllPass-from_list_all, list_all-from_AllPass}
 use Rattle.http_header.specs.Token.{is_visible_or_blank}
@@ -52,3 +52,13 @@ values_said read (value ∷ values) =
 
 pub commas_said : {T : Type 0} (read : List ℕ → Option T) (values : List (List ℕ)) → piece_list_of each_comma read values ≡ comma_list_of read values
 commas_said read values = rw (values_said read values) refl
+
+one_said : {T : Type 0} (read : List ℕ → Option T) (text : List ℕ) → is_visible_text text ≡ true
+    → Some (items_of_value each_comma read text) ≡ comma_list_of read (text ∷ [])
+one_said read text visible =
+    rw (← commas_said read (text ∷ []), visible, append-nil (items_of_value each_comma read text)) refl
+
+-- what was read of one value, by a list that was empty before
+pub one_read : {T : Type 0} (read : List ℕ → Option T) (text : List ℕ) (before after : List T) → is_visible_text text ≡ true
+    → before ≡ [] → after ≡ before ++ items_of_value each_comma read text → Some after ≡ comma_list_of read (text ∷ [])
+one_read read text before after visible none added = rw (added, none) (one_said read text visible)

@@ -64,7 +64,7 @@ abbrev pub plain_or_named : List ℕ → Option CacheDirective → Option CacheD
 plain_or_named text (Some plain) = Some plain
 plain_or_named text None = named_directive text (split_once 61 text)
 
--- a name, or a name and behind its first `=` an argument
+-- a name, or a name and after its first `=` an argument
 abbrev pub cache_directive_of : List ℕ → Option CacheDirective
 cache_directive_of text =
     if is_empty text then None else plain_or_named text (plain_directive text)

@@ -8,3 +8,4 @@ pub mod PrintedLists
 pub mod TypedHeaders
 pub mod ValueHeaders
 pub mod HeaderLaws
+pub mod CheckedDirectives

@@ -7,7 +7,7 @@ use Rattle.web_texts.specs.MediaTypes.{MediaType, media_type_of}
 use Rattle.web_texts.specs.MediaTypeTexts.{media_type_text}
 use Rattle.web_texts.specs.Methods.{method_of}
 use Rattle.web_texts.specs.QualityItems.{quality_item_of, quality_item_text}
-use Rattle.web_texts.specs.declared.quality_item.QualityItem.{QualityItem}
+use Rattle.web_texts.specs.declared.media.quality_item.QualityItem.{QualityItem}
 use Rattle.web_headers.specs.CacheDirectives.{cache_directive_of, cache_directive_text}
 use Rattle.web_headers.specs.Codings.{encoding_of, encoding_text}
 use Rattle.web_headers.specs.HeaderReaders.{comma_list_of}
@@ -15,7 +15,7 @@ use Rattle.web_headers.specs.Preferences.{preference_of, preference_text}
 use Rattle.web_headers.specs.PrintedLists.{comma_joined}
 use Rattle.web_headers.specs.declared.cache_control.CacheDirective.{CacheDirective}
 use Rattle.web_headers.specs.declared.codings.Encoding.{Encoding}
-use Rattle.web_headers.specs.declared.preferences.Preference.{Preference}
+use Rattle.web_headers.specs.declared.accepts.preferences.Preference.{Preference}
 
 -- a list that is not empty
 abbrev pub some_items : {T : Type 0} → List T → Option (List T)

@@ -4,8 +4,8 @@ use Rattle.std.specs.Prelude.{if◌then◌else◌}
 use Rattle.std.specs.Option.{option_map}
 use Rattle.std.specs.Str.{bytes_eq}
 use Rattle.web_texts.specs.Blanks.{trimmed}
-use Rattle.web_headers.specs.declared.preferences.Preference.{Preference}
-use Rattle.web_headers.specs.declared.preferences.Preference.TheVariants as preference
+use Rattle.web_headers.specs.declared.accepts.preferences.Preference.{Preference}
+use Rattle.web_headers.specs.declared.accepts.preferences.Preference.TheVariants as preference
 
 abbrev pub preference_of : {T : Type 0} → (List ℕ → Option T) → List ℕ → Option (Preference T)
 preference_of read text =

@@ -1,6 +1,5 @@
 //! Allow.
 
-use crate::header_value::{TryIntoHeaderValue, printed_value};
 use crate::list_reader::read_list;
 use crate::printed_list::fmt_comma_delimited;
 use crate::typed_header::Header;
@@ -9,7 +8,10 @@ use http_header::{ALLOW, HeaderMap, HeaderName, HeaderValue};
 use std::alloc::Global;
 use std::fmt;
 use std::ops::{Deref, DerefMut};
-use web_texts::{Duplicate, Fail, InvalidHeaderValue, Items, NoMemory, ParseError};
+use web_texts::{
+    Duplicate, Fail, InvalidHeaderValue, Items, NoMemory, ParseError, TryIntoHeaderValue,
+    printed_value,
+};
 
 /// Allow (RFC 9110, section 10.2.1): the methods that a resource has.
 #[derive(Debug, Drop, PartialEq, Eq)]
@@ -77,7 +79,7 @@ impl DerefMut for Allow {
     ghost use Rattle.std.specs.Prelude.{◌≡◌};
     ghost use Rattle.std.specs.Borrow.{Lends, sem};
     ghost use Rattle.web_headers.specs.contracts.allow_header.Allow.{the_row};
-    ghost use Rattle.web_texts.specs.contracts.items.Items as items;
+    ghost use Rattle.web_texts.specs.contracts.texts.items.Items as items;
     ghost use Rattle.http.specs.contracts.method.Method as method;
 
     ghost deref_mut_gives = { λ header items. items ≡ header.0 };

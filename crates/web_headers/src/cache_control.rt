@@ -9,7 +9,6 @@ ghost use Rattle.web_headers.specs.CacheDirectives.{argument_directive, named_di
 ghost use Rattle.web_headers.specs.CacheDirectives.{extension_text, TakesNoMemory};
 ghost use Rattle.web_headers.specs.declared.cache_control.CacheDirective.TheVariants as directive;
 
-use crate::header_value::{TryIntoHeaderValue, printed_value};
 use crate::list_reader::read_some_list;
 use crate::printed_list::fmt_comma_delimited;
 use crate::typed_header::Header;
@@ -18,8 +17,8 @@ use std::alloc::Global;
 use std::fmt;
 use std::ops::{Deref, DerefMut};
 use web_texts::{
-    Duplicate, Fail, InvalidHeaderValue, Items, NoMemory, ParseError, ReadText, Text, cut_at,
-    number_of, unquoted,
+    Duplicate, Fail, InvalidHeaderValue, Items, NoMemory, ParseError, ReadText, Text,
+    TryIntoHeaderValue, cut_at, number_of, printed_value, unquoted,
 };
 
 /// Cache-Control (RFC 9111, section 5.2): directives for caches. Where it is read, at least one
@@ -54,7 +53,9 @@ pub enum CacheDirective {
     ProxyRevalidate,
     /// `s-maxage=` and seconds
     SMaxAge(u32),
-    /// Any other name, and its argument if it has one.
+    /// Any other name, and its argument if it has one. Both are printed as they are: a comma in one
+    /// from outside ends the directive, and what follows is another one.
+    /// `CacheDirective::checked_extension` refuses such a text.
     Extension(Text, Option<Text>),
 }
 
@@ -148,7 +149,7 @@ impl ReadText for CacheDirective {
     ghost reads = { cache_directive_of };
 
     /// Reads a directive. The names that are known are in lower case, and seconds are at most
-    /// 2^32 - 1. `ParseError::Header` comes for the empty text, where nothing stands behind the
+    /// 2^32 - 1. `ParseError::Header` comes for the empty text, where nothing stands after the
     /// first `=`, and for seconds that are no such number. Only an `Extension` takes memory.
     fn parse(alloc: Global, text: &str) -> Result<CacheDirective, Fail<ParseError>>
         ensures value { Reads result (cache_directive_of text.now) }
@@ -212,15 +213,6 @@ impl fmt::Display for CacheDirective {
     }
 }
 
-fn duplicate_argument(argument: &Option<Text>, alloc: Global) -> Result<Option<Text>, NoMemory>
-    ensures { IfOk result (λ copy. copy ≡ argument.now) }
-{
-    match argument {
-        Some(text) => Ok(Some(text.duplicate(alloc)?)),
-        None => Ok(None),
-    }
-}
-
 impl Duplicate for CacheDirective {
     ghost use Rattle.std.specs.Prelude.{◌≡◌, Ok, IfOk};
     ghost use Rattle.web_headers.specs.CacheDirectives.{TakesNoMemory};
@@ -245,7 +237,7 @@ impl Duplicate for CacheDirective {
             CacheDirective::SMaxAge(seconds) => CacheDirective::SMaxAge(*seconds),
             CacheDirective::Extension(name, argument) => {
                 let name = name.duplicate(alloc)?;
-                CacheDirective::Extension(name, duplicate_argument(argument, alloc)?)
+                CacheDirective::Extension(name, argument.duplicate(alloc)?)
             }
         })
     }
@@ -314,7 +306,7 @@ impl DerefMut for CacheControl {
     ghost use Rattle.std.specs.Prelude.{◌≡◌};
     ghost use Rattle.std.specs.Borrow.{Lends, sem};
     ghost use Rattle.web_headers.specs.contracts.cache_control.CacheControl.{the_row};
-    ghost use Rattle.web_texts.specs.contracts.items.Items as items;
+    ghost use Rattle.web_texts.specs.contracts.texts.items.Items as items;
     ghost use Rattle.web_headers.specs.contracts.cache_control.CacheDirective as cache_directive;
 
     ghost deref_mut_gives = { λ header items. items ≡ header.0 };

@@ -1,6 +1,5 @@
 //! Content-Language.
 
-use crate::header_value::{TryIntoHeaderValue, printed_value};
 use crate::list_reader::read_some_list;
 use crate::printed_list::fmt_comma_delimited;
 use crate::typed_header::Header;
@@ -10,6 +9,7 @@ use std::fmt;
 use std::ops::{Deref, DerefMut};
 use web_texts::{
     Duplicate, Fail, InvalidHeaderValue, Items, LanguageTag, NoMemory, ParseError, QualityItem,
+    TryIntoHeaderValue, printed_value,
 };
 
 /// Content-Language (RFC 9110, section 8.5): the languages of those for whom content is meant.
@@ -80,9 +80,9 @@ impl DerefMut for ContentLanguage {
     ghost use Rattle.std.specs.Prelude.{◌≡◌};
     ghost use Rattle.std.specs.Borrow.{Lends, sem};
     ghost use Rattle.web_headers.specs.contracts.content_language.ContentLanguage.{the_row};
-    ghost use Rattle.web_texts.specs.contracts.items.Items as items;
-    ghost use Rattle.web_texts.specs.contracts.quality_item.QualityItem as quality_item;
-    ghost use Rattle.web_texts.specs.contracts.language_tag.LanguageTag as tag;
+    ghost use Rattle.web_texts.specs.contracts.texts.items.Items as items;
+    ghost use Rattle.web_texts.specs.contracts.media.quality_item.QualityItem as quality_item;
+    ghost use Rattle.web_texts.specs.contracts.media.language_tag.LanguageTag as tag;
 
     ghost deref_mut_gives = { λ header items. items ≡ header.0 };
 

@@ -1,15 +1,14 @@
 //! Content-Length.
 ghost use Rattle.std.specs.Prelude.{◌≡◌};
 
-use crate::header_value::TryIntoHeaderValue;
 use crate::typed_header::Header;
 use http_header::{CONTENT_LENGTH, HeaderMap, HeaderName, HeaderValue};
 use std::alloc::Global;
 use std::fmt;
 use std::ops::{Deref, DerefMut};
 use web_texts::{
-    Duplicate, Fail, InvalidHeaderValue, NoMemory, ParseError, ReadText, first_text, read_digits,
-    trim,
+    Duplicate, Fail, InvalidHeaderValue, NoMemory, ParseError, ReadText, TryIntoHeaderValue,
+    first_text, read_digits, trim,
 };
 
 /// Content-Length (RFC 9110, section 8.6): the length of content, in bytes.

@@ -3,7 +3,6 @@ ghost use Rattle.std.specs.Prelude.{◌≡◌, IfOk, Some, true, codes};
 ghost use Rattle.std.specs.Option.{is_some};
 ghost use Rattle.web_texts.specs.MediaTypes.{media_type_of};
 
-use crate::header_value::{TryIntoHeaderValue, printed_value};
 use crate::typed_header::Header;
 use crate::value_readers::from_one_value;
 use http_header::{CONTENT_TYPE, HeaderMap, HeaderName, HeaderValue};
@@ -13,7 +12,7 @@ use std::ops::{Deref, DerefMut};
 use web_texts::{
     APPLICATION_JSON, APPLICATION_OCTET_STREAM, APPLICATION_WWW_FORM_URLENCODED, Duplicate, Fail,
     InvalidHeaderValue, Mime, MimeFault, NoMemory, ParseError, TEXT_HTML_UTF_8, TEXT_PLAIN_UTF_8,
-    TEXT_XML,
+    TEXT_XML, TryIntoHeaderValue, printed_value,
 };
 
 /// Content-Type (RFC 9110, section 8.3): the media type of content.
@@ -143,7 +142,7 @@ impl DerefMut for ContentType {
     ghost use Rattle.std.specs.Prelude.{◌≡◌};
     ghost use Rattle.std.specs.Borrow.{Lends, sem};
     ghost use Rattle.web_headers.specs.contracts.content_type.ContentType.{the_row};
-    ghost use Rattle.web_texts.specs.contracts.media_type.Mime as mime;
+    ghost use Rattle.web_texts.specs.contracts.media.media_type.Mime as mime;
 
     ghost deref_mut_gives = { λ header mime. mime ≡ header.0 };
 

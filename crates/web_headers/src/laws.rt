@@ -1,11 +1,11 @@
 //! What callers may rely on for headers of one date, over the definitions.
 ghost use Rattle.web_headers.specs.HeaderLaws.{SaysOneThing, ShowsOneDate};
 
-use crate::date_header::Date;
-use crate::expires_header::Expires;
-use crate::if_modified_since::IfModifiedSince;
-use crate::if_unmodified_since::IfUnmodifiedSince;
-use crate::last_modified::LastModified;
+use crate::dates::date_header::Date;
+use crate::dates::expires_header::Expires;
+use crate::dates::if_modified_since::IfModifiedSince;
+use crate::dates::if_unmodified_since::IfUnmodifiedSince;
+use crate::dates::last_modified::LastModified;
 use crate::typed_header::Header;
 
 /// A text shows one date at most. So the values of each header of one date say exactly one thing:

@@ -72,7 +72,7 @@ IsKnown (turned.Goes used) = ⊤
 IsKnown (turned.Waits skipped p) = ⊥
 IsKnown (turned.Ended e) = ⊤
 
--- a settled message leaves those behind it
+-- a settled message leaves those after it
 pub left_behind : (limits : Limits) (left : List ℕ) (m : Message) → IsSettled limits left (next.Message m) → IsNext limits left (next.Message m)
 left_behind limits left m is = subst (λ (t : List ℕ). IsNext limits t (next.Message m)) (append-nil left) (is [])
 
@@ -238,7 +238,7 @@ module _ {S L D C V E Y U W : Type 0} (s : Setting S L D C V E Y U W) where
     ),
   )
 
-  -- what goes on behind what was given
+  -- what goes on after what was given
   pub goes_then : (c : ConnectionView) (e : Option Ended) (more : List ℕ) (xs ys : List Answer) (given next' rest : List ℕ) (closed : Bool) → replies xs ≡ given ++ replies ys
       → GoesOn s c e more ys next' rest closed → GoesOn s c e more xs (given ++ next') rest closed
   goes_then c None more xs ys given next' rest closed split g =
@@ -265,7 +265,7 @@ module _ {S L D C V E Y U W : Type 0} (s : Setting S L D C V E Y U W) where
   goes_to c (Some ended.SourceFault) more xs given rest other closed same g = g
   goes_to c (Some ended.NoMemory) more xs given rest other closed same g = g
 
-  -- a step behind what was given
+  -- a step after what was given
   pub goes_further : (middle new : ConnectionView) (more : List ℕ) (xs : List Answer) (given next' rest : List ℕ) (closed : Bool) → new.limits ≡ middle.limits
       → (g : GoesOn s middle None more xs given rest closed) → GoesOn s new new.ended more g.0 next' g.1 closed
       → GoesOn s new new.ended more xs (given ++ next') rest closed

@@ -1,5 +1,5 @@
 -- A connection whose bytes were taken piece by piece.
-use Rattle.std.proofs.Common.{◌≡◌, ℕ, ◌⊎◌, inl, inr, Bool, List, [], ◌∷◌, ◌++◌, Option, None, Some, refl, sym, ap, ◌∙◌, subst, append_assoc, append-nil}
+use Rattle.std.proofs.Common.{false, ◌≡◌, ℕ, ◌⊎◌, inl, inr, Bool, List, [], ◌∷◌, ◌++◌, Option, None, Some, refl, sym, ap, ◌∙◌, subst, append_assoc, append-nil}
 use Rattle.std.specs.Prelude.{MatchOption}
 use Rattle.std.proofs.lemmas.List.{append_cancel_left}
 use Rattle.web_request.specs.Feed.{Feed}
@@ -88,7 +88,7 @@ module _ {S L D C V E Y U W : Type 0} (s : Setting S L D C V E Y U W) where
     left_marks more = mark.Piece more ∷ []
 
     abbrev feed_of : List ℕ → Feed
-    feed_of more = record { marks = Some (left_marks more); faults = 0; stalls = 0; given = 0; answers = 0 }
+    feed_of more = record { marks = Some (left_marks more); faults = 0; stalls = 0; given = 0; answers = 0; lacked = false }
 
     so_far : (more : List ℕ) → SoFar s limits (all_marks more) (feed_of more) new [] given
     so_far more = record {
@@ -142,7 +142,7 @@ module _ {S L D C V E Y U W : Type 0} (s : Setting S L D C V E Y U W) where
 
     -- as over a source of one piece, which is all that comes
     abbrev end_feed : Feed
-    end_feed = record { marks = Some []; faults = 0; stalls = 0; given = 0; answers = 0 }
+    end_feed = record { marks = Some []; faults = 0; stalls = 0; given = 0; answers = 0; lacked = false }
 
     all_so_far : SoFar s limits (mark.Piece (joined pieces) ∷ []) end_feed new [] given
     all_so_far = record {

@@ -18,7 +18,7 @@ use Rattle.web_http1.specs.Answers.{Answer, IsAnswerTo, answer_bytes, refusal_by
 use Rattle.web_http1.specs.Connections.{AllOpen, ConnectionView, IsOwn, StepsTo, WaitsForMore}
 use Rattle.web_http1.specs.Connections.{ended_at, open_at}
 
--- how many of n bytes may still be answered, behind all steps and behind one
+-- how many of n bytes may still be answered, after all steps and after one
 abbrev pub open_left : Left → ℕ → ℕ
 open_left (remains.Open p) n = n
 open_left (remains.Ended e) n = 0
@@ -45,7 +45,7 @@ RefusedWith w (ended.Refused v) before behind = (v ≡ w) × (behind ≡ before 
 RefusedWith w ended.SourceFault before behind = ⊥
 RefusedWith w ended.NoMemory before behind = behind ≡ before
 
--- More bytes have to come behind those that are skipped, without which the others read the same.
+-- More bytes have to come after those that are skipped, without which the others read the same.
 abbrev pub WaitsBehind : Limits → List ℕ → Turned → Type 0
 WaitsBehind limits rest (turned.Goes used) = ⊥
 WaitsBehind limits rest (turned.Waits skipped p) =
@@ -53,7 +53,7 @@ WaitsBehind limits rest (turned.Waits skipped p) =
 WaitsBehind limits rest (turned.Ended end) = ⊥
 
 module _ {S L D C V E Y U W : Type 0} (s : Setting S L D C V E Y U W) where
-  -- the message was answered: the connection goes on behind it, or is closed by its reply
+  -- the message was answered: the connection goes on after it, or is closed by its reply
   abbrev pub IsServed : Message → List ℕ → List ℕ → Turned → Type 0
   IsServed m before behind (turned.Goes used) =
       (used ≡ m.used) × IsReplied s m before behind (Ok false)
@@ -82,7 +82,7 @@ module _ {S L D C V E Y U W : Type 0} (s : Setting S L D C V E Y U W) where
   IsAnsweredRest limits old new before behind (remains.Ended end) =
       IsOwn end × StepsTo s (open_at limits old) (ended_at limits new end) before behind
 
--- the connection with these bytes behind those that are left
+-- the connection with these bytes after those that are left
 abbrev pub with_piece : ConnectionView → List ℕ → ConnectionView
 with_piece c piece = record { limits = c.limits; left = c.left ++ piece; ended = c.ended }
 

@@ -17,7 +17,7 @@ module _ {S L D C V E Y U W : Type 0} (s : Setting S L D C V E Y U W) (limits : 
       ⊎ ((result ≡ ended.NoMemory)
       × (front : List ℕ) × (back : List ℕ) × (text ≡ front ++ back) × (behind ≡ before ++ front))
 
-  -- Reading failed behind the bytes: those answers of them were written of which the connection
+  -- Reading failed after the bytes: those answers of them were written of which the connection
   -- ends so, where there are some; or an allocation failed.
   abbrev pub AnswersUpToFault : List ℕ → Ended → List ℕ → List ℕ → Type 0
   AnswersUpToFault bytes result before behind =

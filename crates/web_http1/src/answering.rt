@@ -38,13 +38,13 @@ pub(crate) struct Rooms {
 pub(crate) enum Turned {
     /// The reply to a message of so many bytes was written.
     Goes(usize),
-    /// More bytes have to come, behind so many bytes that are no more needed.
+    /// More bytes have to come, after so many bytes that are no more needed.
     Waits(usize, Progress),
     /// The connection ended.
     Ended(Ended),
 }
 
-/// Whether a connection is open behind its answers.
+/// Whether a connection is open after its answers.
 #[derive(Drop)]
 pub(crate) enum Left {
     /// So much of the next message was read.

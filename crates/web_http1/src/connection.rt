@@ -34,7 +34,7 @@ pub struct Connection {
     buffer: Vec<u8>,
     /// The bytes before this place were answered, or are no more needed.
     start: usize,
-    /// How far those behind it were read.
+    /// How far those after it were read.
     progress: Progress,
     ended: Option<Ended>,
     rooms: Rooms,
@@ -94,7 +94,7 @@ impl Connection {
         self.ended
     }
 
-    /// How many bytes are kept: those that came behind the last message that was answered, of empty
+    /// How many bytes are kept: those that came after the last message that was answered, of empty
     /// lines alone no more than a head may have. Those of a message that is not whole are kept as
     /// they came. A loop may end a connection that keeps too many by `finish`.
     pub fn kept(&self) -> usize
@@ -138,9 +138,10 @@ impl Connection {
     }
 
     /// Writes the reply to each message that is whole, in their order, and the reply of a refusal
-    /// that no byte that follows can lift. It ends behind a reply that closes, and behind a
-    /// refusal. Where an allocation failed it ends too, with `Ended::NoMemory`. Of empty lines
-    /// before a head no more are kept than a head may have.
+    /// that no byte that follows can lift; that of a head may come later, at the latest by
+    /// `finish`. It ends after a reply that closes, and after a refusal. Where an allocation
+    /// failed it ends too, with `Ended::NoMemory`. Of empty lines before a head no more are kept
+    /// than a head may have.
     pub fn answer<A: App, Args: FromRequest<A>, H: Handler<Args>>(
         &mut self,
         alloc: Global,

@@ -13,7 +13,7 @@ use web_reply::Responder;
 use web_request::App;
 use web_worker::{Handler, Serves};
 
-/// A connection took pieces by `Connection::feed`, and behind each `Connection::answer` was called.
+/// A connection took pieces by `Connection::feed`, and after each `Connection::answer` was called.
 /// What was written by then is a prefix of the answers of all bytes that came and may follow. It
 /// has the reply to each message that is whole by then. With what `Connection::finish` writes it is
 /// the answers of all bytes, or a prefix of them where an allocation failed.

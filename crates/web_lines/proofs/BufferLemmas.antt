@@ -1,4 +1,4 @@
--- What is buffered behind a turn, and the size of the last piece.
+-- What is buffered after a turn, and the size of the last piece.
 use Rattle.std.proofs.Common.{◌≡◌, ℕ, ◌+◌, List, [], ◌∷◌, ◌++◌, Option, refl, sym, ◌∙◌, ap, length, arith, append_assoc}
 use Rattle.std.specs.Prelude.{None, Some}
 use Rattle.web_request.specs.declared.source.Mark.{Mark}

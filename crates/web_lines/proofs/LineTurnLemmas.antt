@@ -7,8 +7,8 @@ use Rattle.web_request.specs.declared.source.Mark.{Mark}
 use Rattle.web_request.specs.declared.source.Mark.TheVariants.{Piece, Stall, Fault}
 use Rattle.web_request.specs.Feed.{Takes, TakesLast, NoneLeft}
 use Rattle.web_body.specs.declared.message_body.PayloadError.TheVariants.{Io}
-use Rattle.web_body.specs.declared.lines_error.ReadlinesError.{ReadlinesError}
-use Rattle.web_body.specs.declared.lines_error.ReadlinesError.TheVariants as lines
+use Rattle.web_body.specs.declared.errors.lines_error.ReadlinesError.{ReadlinesError}
+use Rattle.web_body.specs.declared.errors.lines_error.ReadlinesError.TheVariants as lines
 use Rattle.web_body.specs.Collector.{StallsNext}
 use Rattle.web_lines.specs.Lines.{Answer, AtEnd, line_answers, text_answer}
 use Rattle.web_lines.specs.LineSchedules.{error_due, line_due, nothing_due, one_later, schedule}
@@ -17,7 +17,7 @@ use Rattle.web_lines.proofs.LineCutLemmas.{GivesError, first_due}
 use Rattle.web_lines.proofs.LineLemmas.{fits, one_line}
 use Rattle.web_lines.proofs.ScheduleLemmas.{schedule_piece, schedule_stall}
 
--- ---- the end of a body behind the front of a line
+-- ---- the end of a body after the front of a line
 
 fault_answer : (limit : ℕ) (came : List ℕ) → IsUnfinished limit came → line_answers limit true came ≡ record { known = AtEnd; answer = Err (lines.Payload Io) } ∷ []
 fault_answer limit [] on = refl

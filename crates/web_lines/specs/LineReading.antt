@@ -6,13 +6,13 @@ use Rattle.web_texts.specs.Counts.{Rose}
 use Rattle.web_texts.specs.declared.errors.ContentTypeError.{ContentTypeError}
 use Rattle.web_request.specs.Feed.{Feed}
 use Rattle.web_body.specs.declared.message_body.PayloadError.TheVariants.{Io}
-use Rattle.web_body.specs.declared.lines_error.ReadlinesError.{ReadlinesError}
-use Rattle.web_body.specs.declared.lines_error.ReadlinesError.TheVariants as lines
+use Rattle.web_body.specs.declared.errors.lines_error.ReadlinesError.{ReadlinesError}
+use Rattle.web_body.specs.declared.errors.lines_error.ReadlinesError.TheVariants as lines
 use Rattle.web_body.specs.declared.payload.Payload.{Payload}
 use Rattle.web_body.specs.declared.payload.Payload.TheVariants as kind
 use Rattle.web_body.specs.declared.poll.Step.{Step}
 use Rattle.web_body.specs.declared.poll.Step.TheVariants as step
-use Rattle.web_body.specs.PollSteps.{IsPending, NeverNoMemory, OnPending}
+use Rattle.web_body.specs.PollSteps.{IsPending, NeverNoMemory, OnPending, UnlessNoMemory}
 use Rattle.web_body.specs.Collector.{StallsNext}
 use Rattle.web_body.specs.MessageBody.{default_limit}
 use Rattle.web_body.specs.Payload.{KeepsPayload, bytes_between, payload_feed}
@@ -149,8 +149,8 @@ OnEnd (step.Ready None) P = P
 OnEnd (step.Ready (Some answer)) P = ⊤
 OnEnd step.NoMemory P = ⊤
 
--- The bytes that are left behind a result, where so many came before and so many in this poll:
--- those that were not returned, and none behind an error, the end and want of memory.
+-- The bytes that are left after a result, where so many came before and so many in this poll:
+-- those that were not returned, and none after an error, the end and want of memory.
 abbrev pub Buffers : Step (Option Answer) → ℕ → ℕ → List ℕ → Type 0
 Buffers step.Pending came gave left = length left ≡ came + gave
 Buffers (step.Ready None) came gave left = left ≡ []
@@ -177,6 +177,8 @@ pub record ReadsLine {S : Type 0} (feed : S → Feed) (old : LineReader S) (s : 
   pub ended : OnEnd s ((payload_feed feed new.payload).answers ≡ 0)
   pub unfailed : OnEnd s
       ((payload_feed feed new.payload).faults ≡ (payload_feed feed old.payload).faults)
+  pub lacked : UnlessNoMemory s
+      ((payload_feed feed new.payload).lacked ≡ (payload_feed feed old.payload).lacked)
   pub buffers : Buffers s (length old.came) (bytes_between feed old.payload new.payload) new.came
   pub dropped : (IsReading new.progress → ⊥) → new.came ≡ []
   pub within : length new.came ≤ new.limit + new.last

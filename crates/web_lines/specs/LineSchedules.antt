@@ -3,7 +3,7 @@ use Rattle.std.specs.Prelude.{ℕ, zero, suc, ◌-◌, ◌++◌, List, [], ◌�
 use Rattle.web_request.specs.declared.source.Mark.{Mark}
 use Rattle.web_request.specs.declared.source.Mark.TheVariants.{Piece, Stall, Fault}
 use Rattle.web_request.specs.Body.{ends_in_fault, piece_bytes, stalls}
-use Rattle.web_body.specs.declared.lines_error.ReadlinesError.{ReadlinesError}
+use Rattle.web_body.specs.declared.errors.lines_error.ReadlinesError.{ReadlinesError}
 use Rattle.web_lines.specs.Lines.{AfterBytes, Answer, AtEnd, LineAnswer, Moment, line_answers}
 
 -- the stalls before so many bytes came
@@ -53,7 +53,7 @@ schedule limit came m =
 abbrev pub nothing_due : Schedule
 nothing_due = record { answers = []; ends = 0 }
 
--- an error is answered now, and nothing behind it
+-- an error is answered now, and nothing after it
 abbrev pub error_due : ReadlinesError → Schedule
 error_due error = record {
   answers = record { delay = 0; answer = Err error } ∷ [];

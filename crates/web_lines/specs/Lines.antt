@@ -5,9 +5,10 @@ use Rattle.std.specs.List.{list_any}
 use Rattle.std.specs.Str.{is_utf8}
 use Rattle.web_texts.specs.Bytes.{is_newline}
 use Rattle.web_body.specs.declared.message_body.PayloadError.TheVariants.{Io}
-use Rattle.web_body.specs.declared.lines_error.ReadlinesError.{ReadlinesError}
-use Rattle.web_body.specs.declared.lines_error.ReadlinesError.TheVariants.{EncodingError}
-use Rattle.web_body.specs.declared.lines_error.ReadlinesError.TheVariants.{LimitOverflow, Payload}
+use Rattle.web_body.specs.declared.errors.lines_error.ReadlinesError.{ReadlinesError}
+use Rattle.web_body.specs.declared.errors.lines_error.ReadlinesError.TheVariants.{EncodingError}
+use Rattle.web_body.specs.declared.errors.lines_error.ReadlinesError.TheVariants.{LimitOverflow}
+use Rattle.web_body.specs.declared.errors.lines_error.ReadlinesError.TheVariants.{Payload}
 
 abbrev pub onto_line : ℕ → List (List ℕ) → List (List ℕ)
 onto_line b [] = (b ∷ []) ∷ []
@@ -62,7 +63,7 @@ rest_answer limit fault start line =
       answer = if fault then Err (Payload Io) else text_answer line;
     }
 
--- of a fault behind the last newline
+-- of a fault after the last newline
 abbrev pub fault_answers : Bool → List LineAnswer
 fault_answers true = record { known = AtEnd; answer = Err (Payload Io) } ∷ []
 fault_answers false = []

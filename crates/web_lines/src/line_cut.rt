@@ -25,7 +25,7 @@ pub enum LineCut {
     NoMemory,
 }
 
-/// Takes the first line of what is held, the front of a line, and of the piece behind it. It
+/// Takes the first line of what is held, the front of a line, and of the piece after it. It
 /// allocates only where there is a line.
 pub fn cut_line(alloc: Global, held: &mut Vec<u8>, piece: &mut Bytes, limit: usize) -> LineCut
     requires unfinished { IsUnfinished limit held.old.items }
@@ -83,7 +83,7 @@ pub fn next_cut(
     }
 }
 
-/// Takes what is held and the bytes behind it as a line.
+/// Takes what is held and the bytes after it as a line.
 pub fn take_line(alloc: Global, held: &mut Vec<u8>, end: &[u8]) -> LineCut
     ensures { TakesLine (held.old.items ++ end.now) result held.new.items }
 {
@@ -103,7 +103,7 @@ fn as_line(line: Vec<u8>) -> LineCut
     }
 }
 
-/// Holds the piece too, and puts the next one behind it.
+/// Holds the piece too, and puts the next one after it.
 pub fn hold_piece(held: &mut Vec<u8>, piece: &mut Bytes, next: Bytes) -> Result<(), NoMemory>
     ensures held { OnOk result (held.new.items ≡ held.old.items ++ piece.old) }
     ensures piece { OnOk result (piece.new ≡ next) }

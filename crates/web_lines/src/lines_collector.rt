@@ -5,7 +5,7 @@ ghost use Rattle.web_texts.specs.Counts.{Rose};
 ghost use Rattle.web_request.specs.MessageFields.{encoding_of, first_content_type};
 ghost use Rattle.web_body.specs.Collector.{StallsNext};
 ghost use Rattle.web_body.specs.Payload.{KeepsPayload, bytes_between, payload_feed};
-ghost use Rattle.web_body.specs.PollSteps.{IsPending, NeverNoMemory, OnPending};
+ghost use Rattle.web_body.specs.PollSteps.{IsPending, NeverNoMemory, OnPending, UnlessNoMemory};
 ghost use Rattle.web_lines.specs.LineCuts.{IsSearched, IsUnfinished, TakesLine};
 ghost use Rattle.web_lines.specs.LineReading.{Buffers, IsReading, IsUnpolled, OnEnd, OnFault};
 ghost use Rattle.web_lines.specs.LastPieces.{LastTaken};
@@ -15,7 +15,7 @@ ghost use Rattle.web_body.specs.MessageBody.{default_limit};
 ghost use Rattle.web_lines.specs.LineReading.{new_reader, progress_after};
 ghost use Rattle.web_lines.specs.LineReading.{schedule_of, taken_from, work_left};
 ghost use Rattle.web_lines.specs.NextLines.{BuffersLine, LastLine, MayGoOn, NextLine};
-ghost use Rattle.web_body.specs.declared.lines_error.ReadlinesError.TheVariants as readlines;
+ghost use Rattle.web_body.specs.declared.errors.lines_error.ReadlinesError.TheVariants as readlines;
 ghost use Rattle.web_body.specs.declared.poll.Step.TheVariants.{Ready};
 ghost use Rattle.web_lines.specs.declared.lines_collector.Progress.TheVariants.{Over, Reading};
 
@@ -162,7 +162,7 @@ fn last_line(alloc: Global, held: &mut Vec<u8>, piece: &mut Bytes) -> LineStep
     }
 }
 
-/// Takes what is held and the piece behind it as a line.
+/// Takes what is held and the piece after it as a line.
 fn take_rest(alloc: Global, held: &mut Vec<u8>, piece: &mut Bytes) -> LineCut
     ensures taken { TakesLine (held.old.items ++ piece.old) result held.new.items }
     ensures piece { piece.new ≡ [] }
@@ -244,7 +244,7 @@ impl<S: Source> Readlines<S> {
     /// error, and where a poll before lacked memory. An error ends the lines, and what came of its
     /// line is dropped. Returns `Pending` where the payload stalls before the line is known, and
     /// `NoMemory` where allocation failed: it allocates where it returns a line or refuses one that
-    /// is not UTF-8, and where a piece comes behind the front of a line. With each line less work
+    /// is not UTF-8, and where a piece comes after the front of a line. With each line less work
     /// is left, so that a loop over lines ends.
     pub fn poll_next(&mut self, alloc: Global) -> Step<Option<Result<Text, ReadlinesError>>>
         ensures gives { StepGives
@@ -267,6 +267,8 @@ impl<S: Source> Readlines<S> {
             ((payload_feed S.feed self.new.payload).answers ≡ 0) }
         ensures unfailed { OnEnd result ((payload_feed S.feed self.new.payload).faults
             ≡ (payload_feed S.feed self.old.payload).faults) }
+        ensures lacked { UnlessNoMemory result ((payload_feed S.feed self.new.payload).lacked
+            ≡ (payload_feed S.feed self.old.payload).lacked) }
         ensures buffers { Buffers result (length self.old.came)
             (bytes_between S.feed self.old.payload self.new.payload) self.new.came }
         ensures dropped { (IsReading self.new.progress → ⊥) → self.new.came ≡ [] }
@@ -294,7 +296,7 @@ impl<S: Source> Readlines<S> {
         }
     }
 
-    /// Reads on to the next line. What came is dropped behind an error.
+    /// Reads on to the next line. What came is dropped after an error.
     fn read_on(&mut self, alloc: Global) -> Step<Option<Result<Text, ReadlinesError>>>
         requires reading { self.old.progress ≡ Reading }
         ensures { ReadsLine S.feed self.old result self.new }

@@ -20,7 +20,7 @@ use Rattle.web_messages.specs.Heads.{Begins}
 use Rattle.web_messages.specs.NextMessage.{IsNext, framing_in, message_of}
 use Rattle.web_messages.specs.Sameness.{SameAhead}
 
--- the first bytes are CR or LF, and each head in the bytes ends behind those that were searched
+-- the first bytes are CR or LF, and each head in the bytes ends after those that were searched
 pub record IsSearch (bytes : List ℕ) (s : Search) : Type 0 where
   pub blank : BeginsBlank bytes s.blank
   pub inside : s.searched ≤ length bytes

@@ -62,7 +62,7 @@ impl Progress {
     }
 
     /// Forgets the first of the bytes CR and LF before a head, where they are more than a head may
-    /// have: whatever follows, the bytes behind them read the same. Returns how many these are.
+    /// have: whatever follows, the bytes after them read the same. Returns how many these are.
     pub fn skip_blank(&mut self, limits: &Limits) -> usize
         ensures { (bytes : List ℕ) → IsProgress limits.now bytes self.old
             → IsNext limits.now bytes (next_at_end self.old (length bytes))
@@ -149,7 +149,7 @@ fn read_chunked_on(
     }
 }
 
-/// Begins the body behind a head.
+/// Begins the body after a head.
 fn read_body(
     alloc: Global,
     limits: &Limits,
@@ -189,7 +189,7 @@ fn has_no_head(limits: &Limits, bytes: &[u8], blank: usize, searched: usize) -> 
     !has_empty_line(bytes, searched.max(blank))
 }
 
-/// Looks on for a head, and begins the body behind it.
+/// Looks on for a head, and begins the body after it.
 fn read_head_on(
     alloc: Global,
     limits: &Limits,
@@ -198,7 +198,8 @@ fn read_head_on(
     room: &mut HeadRoom,
 ) -> Result<Step, NoMemory>
     requires { IsSearch bytes.now search }
-    ensures { IfOk result (ReadsOn limits.now bytes.now) }
+    ensures next { IfOk result (ReadsOn limits.now bytes.now) }
+    ensures keys { room.new.keys ≡ room.old.keys }
 {
     let blank = blank_front(bytes, search.blank);
     let progress = Progress::Head(Search {
@@ -218,9 +219,9 @@ fn read_head_on(
     }
 }
 
-/// Reads on in the next message, of which so much was read, when more bytes came behind those at
+/// Reads on in the next message, of which so much was read, when more bytes came after those at
 /// hand then. `bytes` are all from the first of the message on. A head is parsed once it has an
-/// empty line behind it, or as many bytes as it may have; the bytes of a body are read once.
+/// empty line after it, or as many bytes as it may have; the bytes of a body are read once.
 /// `NoMemory` where an allocation failed.
 pub fn read_on(
     alloc: Global,
@@ -230,7 +231,8 @@ pub fn read_on(
     room: &mut HeadRoom,
 ) -> Result<Step, NoMemory>
     requires { IsProgress limits.now bytes.now progress }
-    ensures { IfOk result (ReadsOn limits.now bytes.now) }
+    ensures next { IfOk result (ReadsOn limits.now bytes.now) }
+    ensures keys { room.new.keys ≡ room.old.keys }
 {
     match progress {
         Progress::Head(search) => read_head_on(alloc, limits, bytes, search, room),
@@ -249,7 +251,8 @@ pub fn read_last(
     room: &mut HeadRoom,
 ) -> Result<Next, NoMemory>
     requires { IsProgress limits.now bytes.now progress }
-    ensures { IfOk result (IsNext limits.now bytes.now) }
+    ensures next { IfOk result (IsNext limits.now bytes.now) }
+    ensures keys { room.new.keys ≡ room.old.keys }
 {
     match read_on(alloc, limits, bytes, progress, room)? {
         Step::Message(head, body, used) => {

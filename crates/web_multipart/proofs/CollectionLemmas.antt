@@ -2,10 +2,15 @@
 use Rattle.std.proofs.Common.{◌≡◌, ℕ, suc, List, [], ◌∷◌, ◌++◌, Option, None, Some, Ok, Err, refl, sym, ◌∙◌, ap, map, append_assoc}
 use Rattle.std.specs.Prelude.{IfSome, Result, option_map}
 use Rattle.std.proofs.lemmas.List.{append-nil}
-use Rattle.web_parts.specs.declared.part.Part.{Part}
+use Rattle.web_request.specs.declared.source.Mark.{Mark}
+use Rattle.web_body.specs.PollSteps.{UnlessNoMemory}
+use Rattle.web_body.specs.declared.poll.Step.{Step}
+use Rattle.web_body.specs.declared.poll.Step.TheVariants as step
+use Rattle.web_multipart_parts.specs.declared.part.Part.{Part}
 use Rattle.web_reply.specs.Replies.{Fault}
 use Rattle.web_multipart_stream.specs.MultipartErrors.{multipart_fault}
 use Rattle.web_multipart_stream.specs.PartSchedules.{Closed, Due, Failed, Outcome, Schedule, ended, later, one_later as schedule_later, part_due}
+use Rattle.web_multipart_stream.specs.PartStreams.{KeepsStall}
 use Rattle.web_multipart_stream.specs.ScheduleLaws.{parts_of_schedule}
 use Rattle.web_multipart_stream.specs.declared.error.MultipartError.{MultipartError}
 use Rattle.web_multipart.specs.Collections.{AllowsParts, Collection, EndsNow, collection, one_later, result_of}
@@ -51,3 +56,15 @@ failed_allowed (Some c) parts error x is same = (sym is.0, same ∙ sym (failed_
 pub later_allowed : (old new : Option Collection) → old ≡ option_map one_later new → (n : ℕ) (x : Result (List Part) Fault) → AllowsParts new n x → AllowsParts old (suc n) x
 later_allowed old None is n x allowed = rw is tt
 later_allowed old (Some c) is n x allowed = rw is (ap suc allowed.0, allowed.1)
+
+-- ---- what holds of each result holds of this one
+
+pub unless_no_memory : {T : Type 0} (s : Step T) (P : Type 0) → P → UnlessNoMemory s P
+unless_no_memory step.Pending P p = p
+unless_no_memory (step.Ready x) P p = p
+unless_no_memory step.NoMemory P p = tt
+
+pub stall_kept : {T : Type 0} (s : Step T) (old new : Option (List Mark)) → new ≡ old → KeepsStall s old new
+stall_kept step.Pending old new is = tt
+stall_kept (step.Ready x) old new is = is
+stall_kept step.NoMemory old new is = is

@@ -8,7 +8,7 @@ use Rattle.web_request.specs.Feed.{Feed}
 use Rattle.web_body.specs.declared.payload.Payload.{Payload}
 use Rattle.web_body.specs.declared.payload.Payload.TheVariants as kind
 use Rattle.web_body.specs.Payload.{payload_feed}
-use Rattle.web_parts.specs.PartReading.{parts_left}
+use Rattle.web_multipart_parts.specs.PartReading.{parts_left}
 use Rattle.web_extract.specs.Extracts.{Extracts}
 use Rattle.web_extract.specs.ListResults.{Exactly}
 use Rattle.web_multipart_stream.specs.FormBoundaries.{boundary_of}

@@ -6,7 +6,7 @@ use Rattle.web_request.specs.Feed.{Feed}
 use Rattle.web_body.specs.PollSteps.{GivesSome, MatchStep}
 use Rattle.web_body.specs.declared.poll.Step.{Step}
 use Rattle.web_body.specs.declared.poll.Step.TheVariants as step
-use Rattle.web_parts.specs.declared.part.Part.{Part}
+use Rattle.web_multipart_parts.specs.declared.part.Part.{Part}
 use Rattle.web_reply.specs.Replies.{Fault}
 use Rattle.web_multipart_stream.specs.MultipartErrors.{multipart_fault}
 use Rattle.web_multipart_stream.specs.PartSchedules.{Closed, Failed, Outcome, Schedule}

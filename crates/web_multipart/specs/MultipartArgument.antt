@@ -3,7 +3,7 @@ use Rattle.std.specs.Prelude.{◌≡◌, ℕ, List, [], Result, min, refl}
 use Rattle.http_header.specs.FieldValue.{FieldValue}
 use Rattle.http_header.specs.HeaderMap.{Entries}
 use Rattle.web_request.specs.declared.source.Mark.{Mark}
-use Rattle.web_parts.specs.declared.part.Part.{Part}
+use Rattle.web_multipart_parts.specs.declared.part.Part.{Part}
 use Rattle.web_reply.specs.Replies.{Fault}
 use Rattle.web_extract.specs.Extracts.{AllowsSome}
 use Rattle.web_extract.specs.ListResults.{DelayedResult}

@@ -31,7 +31,7 @@ pub struct Multipart<const PART: usize> {
 
 impl<const PART: usize> Model for Multipart<PART> {
     ghost use Rattle.std.specs.Prelude.{◌≤◌, List, length};
-    ghost use Rattle.web_parts.specs.declared.part.Part.{Part as Seen};
+    ghost use Rattle.web_multipart_parts.specs.declared.part.Part.{Part as Seen};
 
     ghost Value = { List Seen };
 

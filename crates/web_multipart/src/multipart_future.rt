@@ -1,6 +1,10 @@
 //! The future of the parts of a body.
 ghost use Rattle.std.specs.Prelude.{◌≡◌, ◌+◌, ◌≤◌, [], false, IfOk, length};
-ghost use Rattle.web_parts.specs.PartReading.{parts_left};
+ghost use Rattle.web_body.specs.Collector.{StallsNext};
+ghost use Rattle.web_body.specs.Payload.{payload_feed};
+ghost use Rattle.web_body.specs.PollSteps.{UnlessNoMemory};
+ghost use Rattle.web_multipart_parts.specs.PartReading.{parts_left};
+ghost use Rattle.web_multipart_stream.specs.PartStreams.{IsReading, KeepsStall};
 ghost use Rattle.web_multipart.specs.Collections.{Collects, RefusesBy, collection_of};
 
 use crate::multipart::Multipart;
@@ -25,7 +29,7 @@ pub struct MultipartExtractFut<S, const PART: usize> {
 
 impl<S, const PART: usize> Model for MultipartExtractFut<S, PART> {
     ghost use Rattle.std.specs.Prelude.{◌+◌, ◌≤◌, length};
-    ghost use Rattle.web_parts.specs.PartReading.{parts_left};
+    ghost use Rattle.web_multipart_parts.specs.PartReading.{parts_left};
     ghost use Rattle.web_multipart.specs.Collections.{PartsFuture};
 
     ghost Value = { PartsFuture S };
@@ -39,7 +43,7 @@ impl<S, const PART: usize> Model for MultipartExtractFut<S, PART> {
     ghost invariant = { λ f. length f.parts.items + parts_left f.stream.reader ≤ 64 };
 }
 
-/// Takes the parts of a stream until it stalls or ends: `Ready(Ok(()))` behind the last one.
+/// Takes the parts of a stream until it stalls or ends: `Ready(Ok(()))` after the last one.
 fn take_parts<S: Source>(
     alloc: Global,
     stream: &mut MultipartStream<S>,
@@ -48,6 +52,13 @@ fn take_parts<S: Source>(
     requires few { length parts.old.items + parts_left stream.old.reader ≤ 64 }
     ensures collects { Collects (collection_of S.feed stream.old parts.old.items)
         result parts.new.items (collection_of S.feed stream.new parts.new.items) }
+    ensures lacked { IsReading stream.old.progress
+        → UnlessNoMemory result ((payload_feed S.feed stream.new.payload).lacked
+        ≡ (payload_feed S.feed stream.old.payload).lacked) }
+    ensures stalled { IsReading stream.old.progress
+        → StallsNext (payload_feed S.feed stream.old.payload).marks → KeepsStall result
+        (payload_feed S.feed stream.old.payload).marks
+        (payload_feed S.feed stream.new.payload).marks }
     ensures few { length parts.new.items + parts_left stream.new.reader ≤ 64 }
 {
     'polls: loop {
@@ -88,6 +99,12 @@ impl<S: Source, const PART: usize> MultipartExtractFut<S, PART> {
 }
 
 impl<S: Source, const PART: usize> Poll for MultipartExtractFut<S, PART> {
+    ghost use Rattle.std.specs.Prelude.{◌≡◌, false};
+    ghost use Rattle.web_body.specs.Collector.{StallsNext};
+    ghost use Rattle.web_body.specs.Payload.{payload_feed};
+    ghost use Rattle.web_body.specs.PollSteps.{Ends, IfReady, NeverNoMemory, Shifts};
+    ghost use Rattle.web_body.specs.PollSteps.{UnlessNoMemory};
+    ghost use Rattle.web_multipart_stream.specs.PartStreams.{IsReading, KeepsStall};
     ghost use Rattle.web_multipart.specs.Collections.{parts_gives, parts_some};
 
     type Output = Result<Multipart<PART>, Error>;
@@ -102,7 +119,20 @@ impl<S: Source, const PART: usize> Poll for MultipartExtractFut<S, PART> {
         self.is_finished
     }
 
-    fn poll(&mut self, alloc: Global) -> Step<Result<Multipart<PART>, Error>> {
+    fn poll(&mut self, alloc: Global) -> Step<Result<Multipart<PART>, Error>>
+        requires unfinished { self.old.is_finished ≡ false }
+        ensures ends { Ends result self.new.is_finished }
+        ensures value { IfReady result (parts_gives S.feed self.old 0) }
+        ensures shift { Shifts result (parts_gives S.feed self.old) (parts_gives S.feed self.new) }
+        ensures memory { ⊥ → NeverNoMemory result }
+        ensures lacked { IsReading self.old.stream.progress
+            → UnlessNoMemory result ((payload_feed S.feed self.new.stream.payload).lacked
+            ≡ (payload_feed S.feed self.old.stream.payload).lacked) }
+        ensures stalled { IsReading self.old.stream.progress
+            → StallsNext (payload_feed S.feed self.old.stream.payload).marks → KeepsStall result
+            (payload_feed S.feed self.old.stream.payload).marks
+            (payload_feed S.feed self.new.stream.payload).marks }
+    {
         match take_parts(alloc, &mut self.stream, &mut self.parts) {
             Step::Pending => Step::Pending,
             Step::Ready(Ok(())) => {

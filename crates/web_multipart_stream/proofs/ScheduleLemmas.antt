@@ -4,10 +4,10 @@ use Rattle.std.specs.List.{AllByRecursion}
 use Rattle.web_request.specs.declared.source.Mark.{Mark}
 use Rattle.web_request.specs.declared.source.Mark.TheVariants.{Piece, Stall, Fault}
 use Rattle.web_request.specs.Body.{ends_in_fault, piece_bytes}
-use Rattle.web_parts.specs.Parts.{Closes, CutOff, Ending, Fails, Found, Parts, behind, later_ending, later_found, part_then}
-use Rattle.web_parts.specs.PartReading.{GivesEnd, GivesPart, GoesOn, IsLaterEnding, IsLaterFound, Reader, Waits, parts_with}
-use Rattle.web_parts.specs.declared.part.Part.{Part}
-use Rattle.web_parts.specs.declared.part.PartError.{PartError}
+use Rattle.web_multipart_parts.specs.Parts.{Closes, CutOff, Ending, Fails, Found, Parts, behind, later_ending, later_found, part_then}
+use Rattle.web_multipart_parts.specs.PartReading.{GivesEnd, GivesPart, GoesOn, IsLaterEnding, IsLaterFound, Reader, Waits, parts_with}
+use Rattle.web_multipart_parts.specs.declared.part.Part.{Part}
+use Rattle.web_multipart_parts.specs.declared.part.PartError.{PartError}
 use Rattle.web_body.specs.declared.message_body.PayloadError.TheVariants.{Io}
 use Rattle.web_body.specs.Cuttings.{SameBody}
 use Rattle.web_lines.specs.LineSchedules.{stalls_before}

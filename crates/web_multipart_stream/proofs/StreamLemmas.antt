@@ -7,7 +7,7 @@ use Rattle.web_request.specs.declared.source.Mark.{Mark}
 use Rattle.web_request.specs.Feed.{Feed}
 use Rattle.web_body.specs.declared.payload.Payload.{Payload}
 use Rattle.web_body.specs.Payload.{payload_feed}
-use Rattle.web_parts.specs.PartReading.{new_reader}
+use Rattle.web_multipart_parts.specs.PartReading.{new_reader}
 use Rattle.web_multipart_stream.specs.FormBoundaries.{boundary_of}
 use Rattle.web_multipart_stream.specs.PartSchedules.{Schedule, schedule}
 use Rattle.web_multipart_stream.specs.PartStreams.{schedule_of}

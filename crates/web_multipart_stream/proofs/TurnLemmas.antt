@@ -1,5 +1,5 @@
 -- What the turns of a payload mean for the parts that are due.
-use Rattle.std.proofs.Common.{◌≡◌, ◌<◌, ◌≤◌, ◌+◌, ℕ, List, Option, None, Some, refl, sym, ◌∙◌, ap, length, subst, arith, length-append}
+use Rattle.std.proofs.Common.{◌≡◌, ◌<◌, ◌≤◌, ◌+◌, ℕ, List, [], ◌∷◌, Option, None, Some, refl, sym, ◌∙◌, ap, length, subst, arith, length-append}
 use Rattle.std.specs.Prelude.{IfSome, option_map}
 use Rattle.web_texts.specs.Counts.{Rose}
 use Rattle.web_request.specs.declared.source.Mark.{Mark}
@@ -10,17 +10,19 @@ use Rattle.web_body.specs.declared.message_body.PayloadError.TheVariants as payl
 use Rattle.web_body.specs.declared.message_body.PayloadError.TheVariants.{Io}
 use Rattle.web_body.specs.declared.payload.Payload.{Payload}
 use Rattle.web_body.specs.declared.payload.Payload.TheVariants as kind
+use Rattle.web_body.specs.Collector.{StallsNext}
 use Rattle.web_body.specs.Payload.{GivesBytes, KeepsPayload, payload_feed}
 use Rattle.web_lines.specs.LastPieces.{LastTaken}
 use Rattle.web_lines.proofs.BufferLemmas.{none_taken, takes_fault as fault_taken, takes_none as none_more_taken, takes_piece as piece_taken, takes_stall as stall_taken, takes_untold as untold_taken}
-use Rattle.web_parts.specs.Parts.{Closes, Fails as Refuses}
-use Rattle.web_parts.specs.PartReading.{GivesEnd, GivesPart, GoesOn, Reader, Waits, parts_left, wait_size}
-use Rattle.web_parts.specs.declared.part.Part.{Part}
-use Rattle.web_parts.specs.declared.part.PartError.{PartError}
-use Rattle.web_parts.specs.declared.part.PartError.TheVariants as part_error
+use Rattle.web_multipart_parts.specs.Parts.{Closes, Fails as Refuses}
+use Rattle.web_multipart_parts.specs.PartReading.{GivesEnd, GivesPart, GoesOn, Reader, Waits, parts_left, wait_size}
+use Rattle.web_multipart_parts.specs.declared.part.Part.{Part}
+use Rattle.web_multipart_parts.specs.declared.part.PartError.{PartError}
+use Rattle.web_multipart_parts.specs.declared.part.PartError.TheVariants as part_error
 use Rattle.web_multipart_stream.specs.MultipartErrors.{IfIo, multipart_error}
 use Rattle.web_multipart_stream.specs.PartSchedules.{Closed, Failed, Schedule, ended, fed, one_later, part_due, schedule}
-use Rattle.web_multipart_stream.specs.PartTurns.{NextPart}
+use Rattle.web_multipart_stream.specs.PartTurns.{NextPart, NoPieceNext}
+use Rattle.web_multipart_parts.specs.Settled.{IsSettled}
 use Rattle.web_multipart_stream.specs.declared.error.MultipartError.{MultipartError}
 use Rattle.web_multipart_stream.specs.declared.error.MultipartError.TheVariants as multipart
 use Rattle.web_multipart_stream.specs.declared.stream.PartTurn.TheVariants as turn
@@ -100,6 +102,52 @@ module _ {S : Type 0} (feed : S → Feed) where
       let g2 = l.given in
       record { faults = omega (arith, f1, f2); stalls = omega (arith, s1, s2); given = omega (arith, g1, g2) }
 
+-- ---- a stall that is next
+
+stall_piece : (a b new : Option (List Mark)) (piece : List ℕ) → StallsNext a → b ≡ a → Takes (Piece piece) b new → ⊥
+stall_piece (Some (Stall ∷ m)) (Some k) new piece next is t = let e : k ≡ Stall ∷ m = cc is in cc (e, t.1)
+stall_piece (Some (Stall ∷ m)) None new piece next is t = cc is
+stall_piece (Some (Piece x ∷ m)) b new piece next is t = next
+stall_piece (Some (Fault ∷ m)) b new piece next is t = next
+stall_piece (Some []) b new piece next is t = next
+stall_piece None b new piece next is t = next
+
+stall_fault : (a b new : Option (List Mark)) → StallsNext a → b ≡ a → TakesLast Fault b new → ⊥
+stall_fault (Some (Stall ∷ m)) (Some k) new next is t = let e : k ≡ Stall ∷ m = cc is in cc (e, t.0)
+stall_fault (Some (Stall ∷ m)) None new next is t = cc is
+stall_fault (Some (Piece x ∷ m)) b new next is t = next
+stall_fault (Some (Fault ∷ m)) b new next is t = next
+stall_fault (Some []) b new next is t = next
+stall_fault None b new next is t = next
+
+stall_end : (a b new : Option (List Mark)) → StallsNext a → b ≡ a → NoneLeft b new → ⊥
+stall_end (Some (Stall ∷ m)) (Some k) new next is t = let e : k ≡ Stall ∷ m = cc is in cc (e, t.0)
+stall_end (Some (Stall ∷ m)) None new next is t = cc is
+stall_end (Some (Piece x ∷ m)) b new next is t = next
+stall_end (Some (Fault ∷ m)) b new next is t = next
+stall_end (Some []) b new next is t = next
+stall_end None b new next is t = next
+
+stall_untold : (a b : Option (List Mark)) → StallsNext a → b ≡ a → b ≡ None → ⊥
+stall_untold (Some (Stall ∷ m)) b next is none = cc (is, none)
+stall_untold (Some (Piece x ∷ m)) b next is none = next
+stall_untold (Some (Fault ∷ m)) b next is none = next
+stall_untold (Some []) b next is none = next
+stall_untold None b next is none = next
+
+-- ---- no piece that is next
+
+piece_none : (b new : Option (List Mark)) (piece : List ℕ) → Takes (Piece piece) b new → NoPieceNext b → ⊥
+piece_none None new piece t none = none
+piece_none (Some []) new piece t none = cc (t.1)
+piece_none (Some (Piece x ∷ m)) new piece t none = none
+piece_none (Some (Stall ∷ m)) new piece t none = cc (t.1)
+piece_none (Some (Fault ∷ m)) new piece t none = cc (t.1)
+
+untold_none : (b : Option (List Mark)) → b ≡ None → NoPieceNext b → ⊥
+untold_none None is none = none
+untold_none (Some m) is none = absurd (cc is)
+
 -- ---- what a loop over turns keeps
 
 pub record ReadsOn {S : Type 0} (feed : S → Feed) (p : Payload S) (r : Reader) (first : ℕ) (q : Payload S) (s : Reader) (last : ℕ) : Type 0 where
@@ -109,6 +157,9 @@ pub record ReadsOn {S : Type 0} (feed : S → Feed) (p : Payload S) (r : Reader)
   pub small : length s.came < wait_size s.form + last
   pub fewer : parts_left s ≤ parts_left r
   pub faults : (payload_feed feed q).faults ≡ (payload_feed feed p).faults
+  pub lacked : (payload_feed feed q).lacked ≡ (payload_feed feed p).lacked
+  pub stalled : StallsNext (payload_feed feed p).marks → (payload_feed feed q).marks ≡ (payload_feed feed p).marks
+  pub memory : IsSettled r → NoPieceNext (payload_feed feed p).marks → IsSettled s × NoPieceNext (payload_feed feed q).marks
   pub stalls : (payload_feed feed p).stalls ≤ (payload_feed feed q).stalls
   pub taken : LastTaken (payload_feed feed p).marks first (payload_feed feed q).marks last
 
@@ -146,6 +197,9 @@ module _ {S : Type 0} (feed : S → Feed) (p : Payload S) (r : Reader) (first : 
     small = small;
     fewer = omega arith;
     faults = refl;
+    lacked = refl;
+    stalled = λ next. refl;
+    memory = λ settled none. (settled, none);
     stalls = omega arith;
     taken = none_taken (payload_feed feed p).marks first;
   }
@@ -166,6 +220,10 @@ module _ {S : Type 0} (feed : S → Feed) (p : Payload S) (r : Reader) (first : 
           fewer = omega (arith, one, two);
           rose = tt;
           failed = tt;
+          lacked = on.lacked;
+          stalled = on.stalled;
+          memory = λ settled none. tt;
+          settled = tt;
           last = on.taken;
         }
 
@@ -188,6 +246,10 @@ module _ {S : Type 0} (feed : S → Feed) (p : Payload S) (r : Reader) (first : 
         fewer = still_fewer;
         rose = tt;
         failed = tt;
+        lacked = on.lacked;
+        stalled = on.stalled;
+        memory = λ settled none. tt;
+        settled = tt;
         last = on.taken;
       }
 
@@ -200,11 +262,15 @@ module _ {S : Type 0} (feed : S → Feed) (p : Payload S) (r : Reader) (first : 
         fewer = still_fewer;
         rose = tt;
         failed = no_io error _;
+        lacked = on.lacked;
+        stalled = on.stalled;
+        memory = λ settled none. tt;
+        settled = tt;
         last = on.taken;
       })
 
-      pub takes_no_memory : NextPart feed p r first turn.NoMemory q new last
-      takes_no_memory = record {
+      pub takes_no_memory : (IsSettled s → ⊥) → NextPart feed p r first turn.NoMemory q new last
+      takes_no_memory quiet = record {
         payload = on.payload;
         form = new_form ∙ on.form;
         gives = tt;
@@ -212,6 +278,10 @@ module _ {S : Type 0} (feed : S → Feed) (p : Payload S) (r : Reader) (first : 
         fewer = still_fewer;
         rose = tt;
         failed = tt;
+        lacked = tt;
+        stalled = on.stalled;
+        memory = λ settled none. absurd (quiet (on.memory settled none).0);
+        settled = tt;
         last = on.taken;
       }
 
@@ -248,12 +318,15 @@ module _ {S : Type 0} (feed : S → Feed) (p : Payload S) (r : Reader) (first : 
             small = omega (arith, short, length-append new.came piece);
             fewer = goes_fewer;
             faults = f1 ∙ f0;
+            lacked = g.lacked ∙ on.lacked;
+            stalled = λ next. absurd (stall_piece _ _ _ piece next (on.stalled next) g.takes);
+            memory = λ settled none. absurd (piece_none _ _ piece g.takes (on.memory settled none).1);
             stalls = omega (arith, s1, s0);
             taken = piece_taken _ _ _ _ _ piece on.taken g.takes;
           })
 
-      pub takes_stall : (t : Payload S) → Stalls (payload_feed feed q) (payload_feed feed t) → GivesBytes feed q 0 t → NextPart feed p r first turn.Pending t new last
-      takes_stall t g gave =
+      pub takes_stall : IsSettled new → (t : Payload S) → Stalls (payload_feed feed q) (payload_feed feed t) → GivesBytes feed q 0 t → NextPart feed p r first turn.Pending t new last
+      takes_stall now t g gave =
           let f = g.faults in
           record {
             payload = keeps_then t 0 gave (omega (arith, f)) g.stalls;
@@ -263,6 +336,10 @@ module _ {S : Type 0} (feed : S → Feed) (p : Payload S) (r : Reader) (first : 
             fewer = none_more;
             rose = rose_on (payload_feed feed p).stalls (payload_feed feed q).stalls (payload_feed feed t).stalls on.stalls g.rose;
             failed = tt;
+            lacked = g.lacked ∙ on.lacked;
+            stalled = λ next. tt;
+            memory = λ settled none. tt;
+            settled = now;
             last = stall_taken _ _ _ _ _ on.taken g.takes;
           }
 
@@ -275,6 +352,10 @@ module _ {S : Type 0} (feed : S → Feed) (p : Payload S) (r : Reader) (first : 
         fewer = none_more;
         rose = tt;
         failed = subst (λ (n : ℕ). Rose n (payload_feed feed t).faults) on.faults g.rose;
+        lacked = g.lacked ∙ on.lacked;
+        stalled = λ next. absurd (stall_fault _ _ _ next (on.stalled next) g.takes);
+        memory = λ settled none. tt;
+        settled = tt;
         last = fault_taken _ _ _ _ _ on.taken g.takes;
       }
 
@@ -289,6 +370,10 @@ module _ {S : Type 0} (feed : S → Feed) (p : Payload S) (r : Reader) (first : 
             fewer = none_more;
             rose = tt;
             failed = tt;
+            lacked = g.lacked ∙ on.lacked;
+            stalled = λ next. absurd (stall_end _ _ _ next (on.stalled next) g.left);
+            memory = λ settled none. tt;
+            settled = tt;
             last = none_more_taken _ _ _ _ _ on.taken g.left;
           }
 
@@ -303,6 +388,10 @@ module _ {S : Type 0} (feed : S → Feed) (p : Payload S) (r : Reader) (first : 
             fewer = none_more;
             rose = tt;
             failed = tt;
+            lacked = tt;
+            stalled = λ next. absurd (stall_untold _ _ next (on.stalled next) g.untold);
+            memory = λ settled none. absurd (untold_none _ g.untold (on.memory settled none).1);
+            settled = tt;
             last = untold_taken _ _ _ _ _ on.taken g.untold g.marks;
           }
 
@@ -319,5 +408,9 @@ module _ {S : Type 0} (feed : S → Feed) (p : Payload S) (r : Reader) (first : 
             fewer = none_more;
             rose = tt;
             failed = tt;
+            lacked = tt;
+            stalled = λ next. absurd (stall_piece _ _ _ piece next (on.stalled next) g.takes);
+            memory = λ settled none. absurd (piece_none _ _ piece g.takes (on.memory settled none).1);
+            settled = tt;
             last = piece_taken _ _ _ _ _ piece on.taken g.takes;
           })

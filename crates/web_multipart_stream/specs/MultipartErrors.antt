@@ -2,11 +2,11 @@
 use Rattle.std.specs.Prelude.{ℕ, List, codes, ⊤}
 use Rattle.web_body.specs.declared.message_body.PayloadError.TheVariants.{Io}
 use Rattle.web_body.specs.ErrorTexts.{payload_error_text}
-use Rattle.web_parts.specs.declared.part.PartError.{PartError}
-use Rattle.web_parts.specs.declared.part.PartError.TheVariants as part_error
+use Rattle.web_multipart_parts.specs.declared.part.PartError.{PartError}
+use Rattle.web_multipart_parts.specs.declared.part.PartError.TheVariants as part_error
 use Rattle.web_reply.specs.Causes.{payload_status}
 use Rattle.web_reply.specs.Replies.{Fault, fault_of}
-use Rattle.web_reply.specs.declared.cause.Cause.TheVariants.{Custom}
+use Rattle.web_reply.specs.declared.errors.cause.Cause.TheVariants.{Custom}
 use Rattle.web_multipart_stream.specs.declared.error.MultipartError.{MultipartError}
 use Rattle.web_multipart_stream.specs.declared.error.MultipartError.TheVariants as multipart
 

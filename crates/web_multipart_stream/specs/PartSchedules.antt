@@ -5,9 +5,9 @@ use Rattle.web_request.specs.declared.source.Mark.{Mark}
 use Rattle.web_request.specs.Body.{ends_in_fault, piece_bytes, stalls}
 use Rattle.web_body.specs.declared.message_body.PayloadError.TheVariants.{Io}
 use Rattle.web_lines.specs.LineSchedules.{stalls_before}
-use Rattle.web_parts.specs.Parts.{Closes, CutOff, Ending, Fails, Found, Parts}
-use Rattle.web_parts.specs.PartReading.{Reader, parts_with}
-use Rattle.web_parts.specs.declared.part.Part.{Part}
+use Rattle.web_multipart_parts.specs.Parts.{Closes, CutOff, Ending, Fails, Found, Parts}
+use Rattle.web_multipart_parts.specs.PartReading.{Reader, parts_with}
+use Rattle.web_multipart_parts.specs.declared.part.Part.{Part}
 use Rattle.web_multipart_stream.specs.MultipartErrors.{multipart_error}
 use Rattle.web_multipart_stream.specs.declared.error.MultipartError.{MultipartError}
 use Rattle.web_multipart_stream.specs.declared.error.MultipartError.TheVariants as multipart

@@ -1,16 +1,21 @@
 -- What a poll of a stream of parts gives.
-use Rattle.std.specs.Prelude.{◌≡◌, ℕ, ◌+◌, ◌<◌, ◌≤◌, length, Result, Ok, Err, Option, None, Some}
+use Rattle.std.specs.Prelude.{◌≡◌, ℕ, ◌+◌, ◌<◌, ◌≤◌, List, length, Result, Ok, Err, Option, None}
+use Rattle.std.specs.Prelude.{Some}
 use Rattle.std.specs.Prelude.{IfSome, ⊤}
 use Rattle.std.specs.Option.{option_map}
 use Rattle.web_texts.specs.Counts.{Rose}
 use Rattle.web_request.specs.Feed.{Feed}
+use Rattle.web_request.specs.declared.source.Mark.{Mark}
+use Rattle.web_body.specs.Collector.{StallsNext}
 use Rattle.web_body.specs.Payload.{KeepsPayload, payload_feed}
-use Rattle.web_body.specs.PollSteps.{OnPending}
+use Rattle.web_body.specs.PollSteps.{NeverNoMemory, OnPending, UnlessNoMemory}
+use Rattle.web_multipart_parts.specs.Settled.{IsSettled}
+use Rattle.web_multipart_stream.specs.PartTurns.{NoPieceNext}
 use Rattle.web_body.specs.declared.poll.Step.{Step}
 use Rattle.web_body.specs.declared.poll.Step.TheVariants as step
 use Rattle.web_lines.specs.LastPieces.{LastTaken}
-use Rattle.web_parts.specs.PartReading.{parts_left, wait_size}
-use Rattle.web_parts.specs.declared.part.Part.{Part}
+use Rattle.web_multipart_parts.specs.PartReading.{parts_left, wait_size}
+use Rattle.web_multipart_parts.specs.declared.part.Part.{Part}
 use Rattle.web_multipart_stream.specs.PartSchedules.{Closed, Failed, Schedule, ended, one_later}
 use Rattle.web_multipart_stream.specs.PartSchedules.{part_due, schedule}
 use Rattle.web_multipart_stream.specs.MultipartErrors.{IfIo}
@@ -69,6 +74,12 @@ parts_given (step.Ready (Some (Ok part))) = 1
 parts_given (step.Ready (Some (Err error))) = 0
 parts_given step.NoMemory = 0
 
+-- it stalled, or the stall is still next
+abbrev pub KeepsStall : {T : Type 0} → Step T → Option (List Mark) → Option (List Mark) → Type 0
+KeepsStall step.Pending old new = ⊤
+KeepsStall (step.Ready answer) old new = new ≡ old
+KeepsStall step.NoMemory old new = new ≡ old
+
 -- a poll of a stream that reads, by its result
 pub record ReadsPart {S : Type 0} (feed : S → Feed) (old : StreamView S)
     (s : Step (Option Answer)) (new : StreamView S) : Type 0 where
@@ -80,6 +91,13 @@ pub record ReadsPart {S : Type 0} (feed : S → Feed) (old : StreamView S)
       (Rose (payload_feed feed old.payload).stalls (payload_feed feed new.payload).stalls)
   pub fault : OnFault s
       (Rose (payload_feed feed old.payload).faults (payload_feed feed new.payload).faults)
+  pub lacked : UnlessNoMemory s
+      ((payload_feed feed new.payload).lacked ≡ (payload_feed feed old.payload).lacked)
+  pub stalled : StallsNext (payload_feed feed old.payload).marks
+      → KeepsStall s (payload_feed feed old.payload).marks (payload_feed feed new.payload).marks
+  pub settled : OnPending s (IsSettled new.reader)
+  pub memory : IsSettled old.reader → NoPieceNext (payload_feed feed old.payload).marks
+      → NeverNoMemory s
   pub fewer : parts_given s + parts_left new.reader ≤ parts_left old.reader
   pub within : length new.reader.came < wait_size new.reader.form + new.last
   pub last : LastTaken

@@ -3,10 +3,10 @@ use Rattle.std.specs.Prelude.{◌≡◌, ℕ, List, [], ◌∷◌, map}
 use Rattle.web_request.specs.declared.source.Mark.{Mark}
 use Rattle.web_request.specs.declared.source.Mark.TheVariants.{Piece, Stall, Fault}
 use Rattle.web_body.specs.declared.message_body.PayloadError.TheVariants.{Io}
-use Rattle.web_parts.specs.Parts.{Closes, Fails}
-use Rattle.web_parts.specs.PartReading.{GivesEnd, GivesPart, GoesOn, Reader, Waits}
-use Rattle.web_parts.specs.declared.part.Part.{Part}
-use Rattle.web_parts.specs.declared.part.PartError.{PartError}
+use Rattle.web_multipart_parts.specs.Parts.{Closes, Fails}
+use Rattle.web_multipart_parts.specs.PartReading.{GivesEnd, GivesPart, GoesOn, Reader, Waits}
+use Rattle.web_multipart_parts.specs.declared.part.Part.{Part}
+use Rattle.web_multipart_parts.specs.declared.part.PartError.{PartError}
 use Rattle.web_multipart_stream.specs.MultipartErrors.{multipart_error}
 use Rattle.web_multipart_stream.specs.PartSchedules.{Closed, Failed, Schedule, ended, fed}
 use Rattle.web_multipart_stream.specs.PartSchedules.{one_later, part_due, schedule}

@@ -7,7 +7,7 @@ use Rattle.web_body.specs.HeadTests.{content_encoding, is_coded_of}
 use Rattle.web_body.specs.declared.message_body.PayloadError.TheVariants.{UnsupportedEncoding}
 use Rattle.web_body.specs.declared.payload.Payload.{Payload}
 use Rattle.web_body.specs.declared.payload.Payload.TheVariants as kind
-use Rattle.web_parts.specs.PartReading.{Reader, new_reader}
+use Rattle.web_multipart_parts.specs.PartReading.{Reader, new_reader}
 use Rattle.web_multipart_stream.specs.FormBoundaries.{boundary_of}
 use Rattle.web_multipart_stream.specs.PartSchedules.{Failed, Schedule, ended, schedule}
 use Rattle.web_multipart_stream.specs.MultipartErrors.{IfIo}

@@ -1,14 +1,14 @@
 //! Why the parts of a body end.
 ghost use Rattle.std.specs.Prelude.{◌≡◌, IfOk};
 ghost use Rattle.web_reply.specs.Replies.{fault_of};
-ghost use Rattle.web_reply.specs.declared.cause.Cause.TheVariants.{Custom};
+ghost use Rattle.web_reply.specs.declared.errors.cause.Cause.TheVariants.{Custom};
 ghost use Rattle.web_multipart_stream.specs.MultipartErrors.{multipart_fault, multipart_status};
 
 use http::StatusCode;
 use std::alloc::Global;
 use std::fmt;
 use web_body::PayloadError;
-use web_parts::PartError;
+use web_multipart_parts::PartError;
 use web_reply::{Cause, Error, ResponseError};
 use web_texts::{NoMemory, Text};
 

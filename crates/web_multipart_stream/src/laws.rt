@@ -3,7 +3,7 @@
 ghost use Rattle.std.specs.Prelude.{List};
 ghost use Rattle.web_request.specs.declared.source.Mark.{Mark};
 ghost use Rattle.web_body.specs.Cuttings.{SameBody};
-ghost use Rattle.web_parts.specs.PartReading.{Reader};
+ghost use Rattle.web_multipart_parts.specs.PartReading.{Reader};
 ghost use Rattle.web_multipart_stream.specs.PartSchedules.{schedule};
 ghost use Rattle.web_multipart_stream.specs.ScheduleLaws.{SameParts, ScheduleLaws};
 

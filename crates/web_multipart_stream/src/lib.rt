@@ -9,4 +9,4 @@ mod stream;
 pub use error::MultipartError;
 pub use laws::{cutting_law, schedule_laws};
 pub use stream::MultipartStream;
-pub use web_parts::Part;
+pub use web_multipart_parts::Part;

@@ -5,14 +5,17 @@ ghost use Rattle.std.specs.Option.{option_map};
 ghost use Rattle.web_texts.specs.Counts.{Rose};
 ghost use Rattle.web_request.specs.MessageFields.{mime_type_of};
 ghost use Rattle.web_body.specs.Payload.{KeepsPayload, payload_feed};
-ghost use Rattle.web_body.specs.PollSteps.{OnPending};
+ghost use Rattle.web_body.specs.PollSteps.{NeverNoMemory, OnPending, UnlessNoMemory};
+ghost use Rattle.web_multipart_parts.specs.Settled.{IsSettled};
+ghost use Rattle.web_body.specs.Collector.{StallsNext};
 ghost use Rattle.web_body.specs.declared.poll.Step.TheVariants.{Ready};
 ghost use Rattle.web_lines.specs.LastPieces.{LastTaken};
-ghost use Rattle.web_parts.specs.PartReading.{parts_left, wait_size};
+ghost use Rattle.web_multipart_parts.specs.PartReading.{parts_left, wait_size};
 ghost use Rattle.web_multipart_stream.specs.FormBoundaries.{boundary_of, readable};
-ghost use Rattle.web_multipart_stream.specs.PartStreams.{IsReading, OnFault, PollGives, ReadsPart};
+ghost use Rattle.web_multipart_stream.specs.PartStreams.{IsReading, KeepsStall, OnFault, PollGives};
+ghost use Rattle.web_multipart_stream.specs.PartStreams.{ReadsPart};
 ghost use Rattle.web_multipart_stream.specs.PartStreams.{parts_given, progress_after, schedule_of};
-ghost use Rattle.web_multipart_stream.specs.PartTurns.{NextPart};
+ghost use Rattle.web_multipart_stream.specs.PartTurns.{NextPart, NoPieceNext};
 ghost use Rattle.web_multipart_stream.specs.StreamViews.{IsHeadRefusal, body_schedule, fresh};
 ghost use Rattle.web_multipart_stream.specs.StreamViews.{left_by, new_stream, stream_by};
 ghost use Rattle.web_multipart_stream.specs.declared.stream.Progress.TheVariants.{Over, Reading};
@@ -22,7 +25,7 @@ use crate::error::MultipartError;
 use std::alloc::Global;
 use std::marker::Model;
 use web_body::{Payload, PayloadError, Step, is_coded};
-use web_parts::{Part, PartReader, PartStep};
+use web_multipart_parts::{Part, PartReader, PartStep};
 use web_request::{App, HttpMessage, HttpRequest, Source, Turn};
 use web_texts::{Fail, Mime, NoMemory};
 
@@ -50,7 +53,7 @@ pub enum PartTurn {
 /// The parts of a body of `multipart/form-data` (RFC 7578), one by one and each under a limit.
 ///
 /// What it returns is the same for every cutting of the body into pieces, and comes as soon as the
-/// bytes that show it came: a part with the boundary behind it, an error with the byte that is
+/// bytes that show it came: a part with the boundary after it, an error with the byte that is
 /// wrong. The parts before an error are returned before it. Nothing follows the end or the first
 /// error. Contracts see the payload that is left, the bytes that came and were not read yet, how
 /// they are read, and the size of the last piece.
@@ -65,7 +68,7 @@ pub struct MultipartStream<S> {
 
 impl<S> Model for MultipartStream<S> {
     ghost use Rattle.std.specs.Prelude.{◌+◌, ◌<◌, length};
-    ghost use Rattle.web_parts.specs.PartReading.{wait_size};
+    ghost use Rattle.web_multipart_parts.specs.PartReading.{wait_size};
     ghost use Rattle.web_multipart_stream.specs.StreamViews.{IsHeadRefusal, StreamView};
 
     ghost Value = { StreamView S };
@@ -260,6 +263,16 @@ impl<S: Source> MultipartStream<S> {
         ensures fault { OnFault result (Rose
             (payload_feed S.feed self.old.payload).faults
             (payload_feed S.feed self.new.payload).faults) }
+        ensures lacked { IsReading self.old.progress
+            → UnlessNoMemory result ((payload_feed S.feed self.new.payload).lacked
+            ≡ (payload_feed S.feed self.old.payload).lacked) }
+        ensures stalled { IsReading self.old.progress
+            → StallsNext (payload_feed S.feed self.old.payload).marks → KeepsStall result
+            (payload_feed S.feed self.old.payload).marks
+            (payload_feed S.feed self.new.payload).marks }
+        ensures settled { OnPending result (IsSettled self.new.reader) }
+        ensures memory { IsReading self.old.progress → IsSettled self.old.reader
+            → NoPieceNext (payload_feed S.feed self.old.payload).marks → NeverNoMemory result }
         ensures fewer { parts_given result + parts_left self.new.reader
             ≤ parts_left self.old.reader }
         ensures within { length self.new.reader.came

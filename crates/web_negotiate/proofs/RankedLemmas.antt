@@ -4,7 +4,7 @@ use Rattle.std.specs.Prelude.{⊤}
 use Rattle.std.specs.Ordering.{is_lt, nat_cmp}
 use Rattle.std.specs.List.Sorted.{IsSortedBy, ties}
 use Rattle.std.proofs.lemmas.Bool.Decides.{nat_tests}
-use Rattle.web_texts.specs.declared.quality_item.QualityItem.{QualityItem}
+use Rattle.web_texts.specs.declared.media.quality_item.QualityItem.{QualityItem}
 use Rattle.web_negotiate.specs.Rankings.{above, IsRanked, IsRanking, ranked_by, with_item}
 use Rattle.web_negotiate.proofs.RankingLemmas.{at_most, not_less, tied, equal_where}
 
@@ -55,7 +55,7 @@ module _ {X : Type 0} (rank : X → ℕ) where
   AllLe n [] = ⊤
   AllLe n (y ∷ ys) = (rank y ≤ n) × AllLe n ys
 
-  -- no item is exceeded by one behind it
+  -- no item is exceeded by one after it
   Falls : List X → Type 0
   Falls [] = ⊤
   Falls (y ∷ ys) = AllLe (rank y) ys × Falls ys

@@ -4,7 +4,7 @@ use Rattle.std.specs.Ordering.{is_lt, nat_cmp}
 use Rattle.std.specs.List.Sorted.{IsPermutation, IsSortedBy, ties}
 use Rattle.std.proofs.lemmas.List.Sorted.{IsPermutation-map, length_permutation}
 use Rattle.std.proofs.lemmas.Bool.Decides.{nat_tests}
-use Rattle.web_texts.specs.declared.quality_item.QualityItem.{QualityItem}
+use Rattle.web_texts.specs.declared.media.quality_item.QualityItem.{QualityItem}
 use Rattle.web_negotiate.specs.ChoiceLaws.{HasWanted}
 use Rattle.web_negotiate.specs.Rankings.{above, IsRanked, IsRanking, IsFirst, IsGreatest, IsPreference, or_otherwise}
 

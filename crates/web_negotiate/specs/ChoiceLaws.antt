@@ -2,8 +2,8 @@
 use Rattle.std.specs.Prelude.{◌≡◌, ◌<◌, ℕ, List, length, map, slice_index_or}
 use Rattle.std.specs.List.Sorted.{IsPermutation}
 use Rattle.web_texts.specs.MediaTypes.{MediaType}
-use Rattle.web_texts.specs.declared.quality_item.QualityItem.{QualityItem}
-use Rattle.web_headers.specs.declared.preferences.Preference.TheVariants as preference
+use Rattle.web_texts.specs.declared.media.quality_item.QualityItem.{QualityItem}
+use Rattle.web_headers.specs.declared.accepts.preferences.Preference.TheVariants as preference
 use Rattle.web_negotiate.specs.LanguageChoices.{Language, IsLanguageRanking, IsLanguagePreference}
 use Rattle.web_negotiate.specs.MediaChoices.{IsMediaRanking, media_rank}
 use Rattle.web_negotiate.specs.Rankings.{quality_rank, ranked_by}

@@ -8,9 +8,9 @@ use Rattle.web_headers.specs.Preferences.{preferred_item}
 use Rattle.web_headers.specs.declared.codings.ContentEncoding.TheVariants as coding
 use Rattle.web_headers.specs.declared.codings.Encoding.{Encoding}
 use Rattle.web_headers.specs.declared.codings.Encoding.TheVariants as encoding
-use Rattle.web_headers.specs.declared.preferences.Preference.{Preference}
-use Rattle.web_headers.specs.declared.preferences.Preference.TheVariants as preference
-use Rattle.web_texts.specs.declared.quality_item.QualityItem.{QualityItem}
+use Rattle.web_headers.specs.declared.accepts.preferences.Preference.{Preference}
+use Rattle.web_headers.specs.declared.accepts.preferences.Preference.TheVariants as preference
+use Rattle.web_texts.specs.declared.media.quality_item.QualityItem.{QualityItem}
 use Rattle.web_negotiate.specs.Rankings.{IsRanking, IsGreatest}
 
 abbrev pub Coding : Type 0

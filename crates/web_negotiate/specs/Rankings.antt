@@ -3,7 +3,7 @@ use Rattle.std.specs.Prelude.{◌≡◌, ◌<◌, ◌≤◌, ℕ, Bool, List, []
 use Rattle.std.specs.Prelude.{Option, None, Some, if◌then◌else◌}
 use Rattle.std.specs.Ordering.{is_lt, nat_cmp}
 use Rattle.std.specs.List.Sorted.{IsPermutation, IsSortedBy, IsStableBy}
-use Rattle.web_texts.specs.declared.quality_item.QualityItem.{QualityItem}
+use Rattle.web_texts.specs.declared.media.quality_item.QualityItem.{QualityItem}
 
 -- x is to stand before y
 abbrev pub above : {X : Type 0} → (X → ℕ) → X → X → Bool

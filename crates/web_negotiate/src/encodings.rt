@@ -2,7 +2,7 @@
 ghost use Rattle.std.specs.Prelude.{◌≡◌, ◌⊎◌, List, [], IfOk, IsOk};
 ghost use Rattle.std.specs.List.{list_any};
 ghost use Rattle.web_headers.specs.declared.codings.Encoding.{Encoding as AnyEncoding};
-ghost use Rattle.web_texts.specs.declared.quality_item.QualityItem.{QualityItem as Weighted};
+ghost use Rattle.web_texts.specs.declared.media.quality_item.QualityItem.{QualityItem as Weighted};
 ghost use Rattle.web_negotiate.specs.EncodingChoices as spec;
 ghost use Rattle.web_negotiate.specs.EncodingChoices.{Coding, IsCodingPreference};
 ghost use Rattle.web_negotiate.specs.EncodingChoices.{IsCodingRanking, IsNegotiated};

@@ -1,6 +1,6 @@
 //! Choices among the languages of Accept-Language.
 ghost use Rattle.std.specs.Prelude.{◌≡◌, List, [], IfOk, IsOk};
-ghost use Rattle.web_texts.specs.declared.quality_item.QualityItem.{QualityItem as Weighted};
+ghost use Rattle.web_texts.specs.declared.media.quality_item.QualityItem.{QualityItem as Weighted};
 ghost use Rattle.web_negotiate.specs.LanguageChoices.{Language, IsLanguagePreference};
 ghost use Rattle.web_negotiate.specs.LanguageChoices.{IsLanguageRanking};
 

@@ -2,7 +2,7 @@
 ghost use Rattle.std.specs.Prelude.{◌≡◌, [], true, List, Some, IfOk, IsOk, map};
 ghost use Rattle.std.specs.Option.{is_some};
 ghost use Rattle.web_texts.specs.MediaTypes.{MediaType, media_type_of};
-ghost use Rattle.web_texts.specs.declared.quality_item.QualityItem.{QualityItem as Weighted};
+ghost use Rattle.web_texts.specs.declared.media.quality_item.QualityItem.{QualityItem as Weighted};
 ghost use Rattle.web_negotiate.specs.MediaChoices.{any_media_type, media_class as class_of};
 ghost use Rattle.web_negotiate.specs.MediaChoices.{IsMediaPreference, IsMediaRanking};
 

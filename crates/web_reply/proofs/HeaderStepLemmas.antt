@@ -13,7 +13,7 @@ use Rattle.http_header.specs.Places.{IsAbsent, IsAt}
 use Rattle.http_header.proofs.PlacesLemmas.{index_of_cases}
 use Rattle.web_reply.specs.HeaderSteps.{Headers, is_field_value, is_full_of_values, named, place, refuses_append, refuses_insert, valued}
 use Rattle.web_reply.specs.declared.header_setting.Placing.TheVariants.{Replace, Append}
-use Rattle.web_reply.specs.declared.cause.HttpError.TheVariants.{Name, Value, MaxSize}
+use Rattle.web_reply.specs.declared.errors.cause.HttpError.TheVariants.{Name, Value, MaxSize}
 
 module _ {P : Type 0} (b : Bool) (decides : Decides b P) where
   pub is_true : P → b ≡ true

@@ -3,27 +3,28 @@ use Rattle.std.specs.Prelude.{ℕ, List, codes}
 use Rattle.web_texts.specs.ContentTypeTexts.{content_type_error_text}
 use Rattle.web_body.specs.declared.message_body.PayloadError.{PayloadError}
 use Rattle.web_body.specs.declared.message_body.PayloadError.TheVariants as payload
-use Rattle.web_body.specs.declared.json_error.JsonPayloadError.{JsonPayloadError}
-use Rattle.web_body.specs.declared.json_error.JsonPayloadError.TheVariants as json
-use Rattle.web_body.specs.declared.form_error.UrlencodedError.{UrlencodedError}
-use Rattle.web_body.specs.declared.form_error.UrlencodedError.TheVariants as form
+use Rattle.web_body.specs.declared.errors.json_error.JsonPayloadError.{JsonPayloadError}
+use Rattle.web_body.specs.declared.errors.json_error.JsonPayloadError.TheVariants as json
+use Rattle.web_body.specs.declared.errors.form_error.UrlencodedError.{UrlencodedError}
+use Rattle.web_body.specs.declared.errors.form_error.UrlencodedError.TheVariants as form
 use Rattle.web_body.specs.ErrorTexts.{payload_error_text, json_error_text, form_error_text}
 use Rattle.web_body.specs.ErrorTexts.{path_error_text, query_error_text}
-use Rattle.web_body.specs.declared.lines_error.ReadlinesError.{ReadlinesError}
-use Rattle.web_body.specs.declared.lines_error.ReadlinesError.TheVariants as lines
+use Rattle.web_body.specs.declared.errors.lines_error.ReadlinesError.{ReadlinesError}
+use Rattle.web_body.specs.declared.errors.lines_error.ReadlinesError.TheVariants as lines
 use Rattle.web_body.specs.LinesErrorTexts.{lines_error_text}
-use Rattle.web_values.specs.FaultTexts.{json_fault_text}
+use Rattle.web_codec.specs.FaultTexts.{json_fault_text}
 use Rattle.web_reply.specs.SeveralCauses.{several_status, several_text}
-use Rattle.web_reply.specs.declared.cause.Cause.{Cause}
-use Rattle.web_reply.specs.declared.cause.Cause.TheVariants.{Payload, Http, Utf8, Io, Custom}
-use Rattle.web_reply.specs.declared.cause.Cause.TheVariants.{ContentType, Parse, HeaderValue}
-use Rattle.web_reply.specs.declared.cause.Cause.TheVariants.{Json, Form, Read, JsonText, Write}
-use Rattle.web_reply.specs.declared.cause.Cause.TheVariants.{Path, Query, Lines, MissingPeer}
-use Rattle.web_reply.specs.declared.cause.Cause.TheVariants.{Several}
-use Rattle.web_reply.specs.declared.cause.HttpError.{HttpError}
-use Rattle.web_reply.specs.declared.cause.HttpError.TheVariants.{Name, Value, MaxSize}
-use Rattle.web_reply.specs.declared.cause.IoKind.{IoKind}
-use Rattle.web_reply.specs.declared.cause.IoKind.TheVariants as kind
+use Rattle.web_reply.specs.declared.errors.cause.Cause.{Cause}
+use Rattle.web_reply.specs.declared.errors.cause.Cause.TheVariants.{Payload, Http, Utf8, Io, Custom}
+use Rattle.web_reply.specs.declared.errors.cause.Cause.TheVariants.{ContentType, Parse, HeaderValue}
+use Rattle.web_reply.specs.declared.errors.cause.Cause.TheVariants.{Json, Form, Read, JsonText}
+use Rattle.web_reply.specs.declared.errors.cause.Cause.TheVariants.{Write}
+use Rattle.web_reply.specs.declared.errors.cause.Cause.TheVariants.{Path, Query, Lines, MissingPeer}
+use Rattle.web_reply.specs.declared.errors.cause.Cause.TheVariants.{Several}
+use Rattle.web_reply.specs.declared.errors.cause.HttpError.{HttpError}
+use Rattle.web_reply.specs.declared.errors.cause.HttpError.TheVariants.{Name, Value, MaxSize}
+use Rattle.web_reply.specs.declared.errors.cause.IoKind.{IoKind}
+use Rattle.web_reply.specs.declared.errors.cause.IoKind.TheVariants as kind
 
 abbrev pub http_text : HttpError → List ℕ
 http_text Name = codes "invalid header name"

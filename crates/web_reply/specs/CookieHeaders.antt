@@ -3,7 +3,7 @@ use Rattle.std.specs.Prelude.{ℕ, List, Result, codes}
 use Rattle.http_header.specs.FieldValue.{FieldValue, plain_value}
 use Rattle.web_cookies.specs.CookieFields.{CookieFields}
 use Rattle.web_cookies.specs.CookieTexts.{cookie_text}
-use Rattle.web_reply.specs.declared.cause.HttpError.{HttpError}
+use Rattle.web_reply.specs.declared.errors.cause.HttpError.{HttpError}
 use Rattle.web_reply.specs.HeaderSteps.{valued}
 
 -- Set-Cookie with the text of a cookie, or the refusal of that text

@@ -11,8 +11,8 @@ use Rattle.web_reply.specs.declared.header_setting.Placing.{Placing}
 use Rattle.web_reply.specs.declared.header_setting.Placing.TheVariants.{Replace, Append}
 use Rattle.web_texts.specs.declared.memory.Fail.{Fail}
 use Rattle.web_texts.specs.declared.memory.Fail.TheVariants as fail
-use Rattle.web_reply.specs.declared.cause.HttpError.{HttpError}
-use Rattle.web_reply.specs.declared.cause.HttpError.TheVariants.{Name, Value, MaxSize}
+use Rattle.web_reply.specs.declared.errors.cause.HttpError.{HttpError}
+use Rattle.web_reply.specs.declared.errors.cause.HttpError.TheVariants.{Name, Value, MaxSize}
 
 -- the names of headers, each with its values
 abbrev pub Headers : Type 0
@@ -36,7 +36,7 @@ refuses_insert m name = is_none (index_of m name) && is_full_of_names m
 abbrev pub refuses_append : Headers → List ℕ → Bool
 refuses_append m name = is_full_of_values m || refuses_insert m name
 
--- the header in place of those of its name, or behind them
+-- the header in place of those of its name, or after them
 abbrev pub place : Placing → List ℕ → FieldValue → Headers → Result Headers HttpError
 place Replace name value m =
     if refuses_insert m name then Err MaxSize else Ok (insert m name value)
@@ -51,7 +51,7 @@ valued name value = if is_field_value value.bytes then Ok (name, value) else Err
 abbrev pub named : List ℕ → FieldValue → Result (List ℕ × FieldValue) HttpError
 named name value = if is_field_name name then valued (lowercase name) value else Err Name
 
--- the header, where it is none that was refused, in place of those of its name, or behind them
+-- the header, where it is none that was refused, in place of those of its name, or after them
 abbrev pub place_one : Placing → Result (List ℕ × FieldValue) HttpError
     → Headers → Result Headers HttpError
 place_one placing (Ok header) m = place placing header.0 header.1 m

@@ -6,10 +6,10 @@ use Rattle.web_reply.specs.Replies.{Fault, Reply, bare_reply, default_reply, err
 use Rattle.web_reply.specs.Replies.{plain_reply}
 use Rattle.web_reply.specs.declared.body.WholeBody.{WholeBody}
 use Rattle.web_reply.specs.declared.body.WholeBody.TheVariants as whole
-use Rattle.web_reply.specs.declared.cause.Cause.{Cause}
-use Rattle.web_reply.specs.declared.cause.Cause.TheVariants.{Custom}
-use Rattle.web_reply.specs.declared.prepared.Prepared.{Prepared}
-use Rattle.web_reply.specs.declared.prepared.Prepared.TheVariants.{Never, Held, Given}
+use Rattle.web_reply.specs.declared.errors.cause.Cause.{Cause}
+use Rattle.web_reply.specs.declared.errors.cause.Cause.TheVariants.{Custom}
+use Rattle.web_reply.specs.declared.errors.prepared.Prepared.{Prepared}
+use Rattle.web_reply.specs.declared.errors.prepared.Prepared.TheVariants.{Never, Held, Given}
 
 -- a value that prints, the status of its reply, and the reply that was prepared
 pub record Internal (T : Type 0) : Type 0 where

@@ -2,9 +2,9 @@
 use Rattle.std.specs.Prelude.{List, [], ◌∷◌, flat_map, Option, None, Some}
 use Rattle.web_reply.specs.Causes.{cause_status, cause_text}
 use Rattle.web_reply.specs.Replies.{Fault, fault_of}
-use Rattle.web_reply.specs.declared.cause.Cause.{Cause}
-use Rattle.web_reply.specs.declared.cause.Cause.TheVariants.{Several}
-use Rattle.web_reply.specs.declared.several.Member.{Member}
+use Rattle.web_reply.specs.declared.errors.cause.Cause.{Cause}
+use Rattle.web_reply.specs.declared.errors.cause.Cause.TheVariants.{Several}
+use Rattle.web_reply.specs.declared.errors.several.Member.{Member}
 
 -- a cause as one refusal: its status and its text
 abbrev pub as_member : Cause → Member

@@ -1,6 +1,6 @@
 -- Replies that were prepared, and are given once.
-use Rattle.web_reply.specs.declared.prepared.Prepared.{Prepared}
-use Rattle.web_reply.specs.declared.prepared.Prepared.TheVariants.{Never, Held, Given}
+use Rattle.web_reply.specs.declared.errors.prepared.Prepared.{Prepared}
+use Rattle.web_reply.specs.declared.errors.prepared.Prepared.TheVariants.{Never, Held, Given}
 
 -- the same state of a reply that is seen by f
 abbrev pub prepared_map : {R T : Type 0} → (R → T) → Prepared R → Prepared T

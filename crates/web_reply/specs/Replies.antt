@@ -6,10 +6,10 @@ use Rattle.web_reply.specs.ResponseHeads.{new_head, typed_head}
 use Rattle.web_reply.specs.PreparedReplies.{once_given}
 use Rattle.web_reply.specs.declared.body.WholeBody.{WholeBody}
 use Rattle.web_reply.specs.declared.body.WholeBody.TheVariants as whole
-use Rattle.web_reply.specs.declared.cause.Cause.{Cause}
+use Rattle.web_reply.specs.declared.errors.cause.Cause.{Cause}
 use Rattle.web_reply.specs.declared.head.ResponseHead.{ResponseHead}
-use Rattle.web_reply.specs.declared.prepared.Prepared.{Prepared}
-use Rattle.web_reply.specs.declared.prepared.Prepared.TheVariants.{Never, Held, Given}
+use Rattle.web_reply.specs.declared.errors.prepared.Prepared.{Prepared}
+use Rattle.web_reply.specs.declared.errors.prepared.Prepared.TheVariants.{Never, Held, Given}
 
 -- A response: its head, its body and the cause that it keeps. Its headers are the list of the
 -- names, each with the list of its values.

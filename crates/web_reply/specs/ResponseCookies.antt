@@ -17,7 +17,7 @@ use Rattle.web_cookies.specs.CookieRemoval.{IsRemoval}
 use Rattle.web_reply.specs.CookieHeaders.{cookie_header}
 use Rattle.web_reply.specs.HeaderSteps.{Headers, place_one}
 use Rattle.web_reply.specs.Replies.{Reply}
-use Rattle.web_reply.specs.declared.cause.HttpError.{HttpError}
+use Rattle.web_reply.specs.declared.errors.cause.HttpError.{HttpError}
 use Rattle.web_reply.specs.declared.header_setting.Placing.TheVariants.{Append}
 
 -- the cookie that a value says, percent-decoded, where it is header text that says one
@@ -35,7 +35,7 @@ abbrev pub cookies_left : List FieldValue → List CookieFields
 cookies_left [] = []
 cookies_left (value ∷ more) = before (header_text_of value.bytes) (cookies_left more)
 
--- what is found first among values, and the values behind it
+-- what is found first among values, and the values after it
 abbrev pub NextCookie :
     List FieldValue → Option (Result CookieFields NoMemory) → List FieldValue → Type 0
 NextCookie old None new = cookies_left old ≡ []
@@ -77,7 +77,7 @@ abbrev pub cookie_entries : List FieldValue → Headers
 cookie_entries [] = []
 cookie_entries (value ∷ more) = (codes "set-cookie", value ∷ more) ∷ []
 
--- the headers without their Set-Cookie, and behind them one with these values
+-- the headers without their Set-Cookie, and after them one with these values
 abbrev pub with_cookies : Headers → List FieldValue → Headers
 with_cookies m values = remove m (codes "set-cookie") ++ cookie_entries values
 

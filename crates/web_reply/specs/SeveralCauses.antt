@@ -1,7 +1,7 @@
 -- The status and the text of several refusals.
 use Rattle.std.specs.Prelude.{ℕ, List, [], ◌∷◌, flat_map}
 use Rattle.std.specs.List.{join_by}
-use Rattle.web_reply.specs.declared.several.Member.{Member}
+use Rattle.web_reply.specs.declared.errors.several.Member.{Member}
 
 -- the status of the first; several are never none, of which the definition has to name some status
 abbrev pub several_status : List Member → ℕ

@@ -27,7 +27,7 @@ pub enum WholeBody {
 }
 
 /// The common form of every body: bytes in memory, or a payload that is still to be read. A payload
-/// stands behind a `Box`, so that a response without one stays small.
+/// is in a `Box`, so that a response without one stays small.
 #[derive(Drop)]
 pub enum BoxBody<S> {
     Empty,

@@ -2,7 +2,7 @@
 ghost use Rattle.std.specs.Prelude.{◌≡◌, IfOk};
 ghost use Rattle.web_reply.specs.CookieHeaders.{cookie_header};
 
-use crate::cause::HttpError;
+use crate::errors::cause::HttpError;
 use crate::header_setting::valued;
 use http_header::{HeaderName, HeaderValue, SET_COOKIE};
 use std::alloc::Global;

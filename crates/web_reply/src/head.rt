@@ -84,15 +84,6 @@ pub(crate) fn copy_headers(
     Ok(headers.clone()?)
 }
 
-fn copy_reason(alloc: Global, reason: &Option<Reason>) -> Result<Option<Reason>, NoMemory>
-    ensures { IfOk result (λ copy. copy ≡ reason.now) }
-{
-    match reason {
-        Some(reason) => Ok(Some(reason.duplicate(alloc)?)),
-        None => Ok(None),
-    }
-}
-
 impl Duplicate for ResponseHead {
     fn duplicate(&self, alloc: Global) -> Result<ResponseHead, NoMemory> {
         let headers = copy_headers(&self.headers)?;
@@ -102,7 +93,7 @@ impl Duplicate for ResponseHead {
             connection: self.connection,
             no_chunking: self.no_chunking,
             headers,
-            reason: copy_reason(alloc, &self.reason)?,
+            reason: self.reason.duplicate(alloc)?,
         })
     }
 }

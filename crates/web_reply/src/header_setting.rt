@@ -4,18 +4,17 @@ ghost use Rattle.http_header.specs.HeaderMap.{pairs};
 ghost use Rattle.web_reply.specs.HeaderSteps.{AllStepTo, StepsTo, named, place};
 ghost use Rattle.web_reply.specs.HeaderSteps.{place_each, place_one, valued};
 
-use crate::cause::HttpError;
+use crate::errors::cause::HttpError;
 use http_header::{HeaderMap, HeaderMapError, HeaderName, HeaderNameError, HeaderValue};
 use std::alloc::Global;
-use web_headers::TryIntoHeaderValue;
-use web_texts::{Fail, NoMemory};
+use web_texts::{Fail, NoMemory, TryIntoHeaderValue};
 
 /// Where a header goes.
 #[derive(Clone, Copy, Debug, PartialEq, Eq)]
 pub enum Placing {
     /// In place of all those of its name.
     Replace,
-    /// Behind those of its name.
+    /// After those of its name.
     Append,
 }
 
@@ -51,7 +50,7 @@ fn replace(
     }
 }
 
-/// Puts a header behind those of its name.
+/// Puts a header after those of its name.
 fn append(
     headers: &mut HeaderMap<HeaderValue>,
     name: HeaderName,

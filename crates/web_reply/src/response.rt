@@ -9,8 +9,8 @@ ghost use Rattle.web_reply.specs.BodyMaps.{MapsBody};
 ghost use Rattle.web_reply.specs.Replies.{bare_reply, error_reply, plain_reply, with_body};
 
 use crate::body::{BoxBody, EitherBody, MessageBody, WholeBody};
-use crate::cause::Cause;
-use crate::error::Error;
+use crate::errors::cause::Cause;
+use crate::errors::error::Error;
 use crate::head::{ConnectionType, ResponseHead};
 use http::{StatusCode, Version};
 use http_header::{HeaderMap, HeaderValue};
@@ -22,7 +22,7 @@ use web_texts::{Duplicate, NoMemory};
 
 /// A response: a head, a body and, for the reply to an error, the cause.
 ///
-/// The cause stands behind an `Rc`, since few responses have one, and copies share it.
+/// The cause is in an `Rc`, since few responses have one, and copies share it.
 #[derive(Drop)]
 pub struct HttpResponse<B> {
     head: ResponseHead,

@@ -10,8 +10,8 @@ ghost use Rattle.web_reply.specs.ResponseCookies.{HasCookies, NextCookie};
 ghost use Rattle.web_reply.specs.ResponseCookies.{deleted_count, deletes};
 ghost use Rattle.web_reply.specs.ResponseCookies.{kept_cookies, with_cookies};
 
-use crate::cause::HttpError;
 use crate::cookie_setting::cookie_header;
+use crate::errors::cause::HttpError;
 use crate::head::copy_headers;
 use crate::header_setting::{Placing, place_one};
 use crate::response::HttpResponse;
@@ -165,7 +165,7 @@ impl<B> HttpResponse<B> {
         }
     }
 
-    /// Sets a cookie, behind those that the response sets already. Returns `Value` where its text
+    /// Sets a cookie, after those that the response sets already. Returns `Value` where its text
     /// may stand in no header (RFC 9110, section 5.5), and `MaxSize` where the headers have no room
     /// for it; the response is then unchanged, and so it is where allocation fails.
     pub fn add_cookie(&mut self, alloc: Global, cookie: &Cookie) -> Result<(), Fail<HttpError>>

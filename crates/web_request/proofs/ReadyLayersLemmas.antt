@@ -1,4 +1,4 @@
--- Layers stay ready where more that are ready stand behind them.
+-- Layers stay ready where more that are ready stand after them.
 use Rattle.std.proofs.Common.{suc, List, [], ◌∷◌, ◌++◌, ◌≡◌, refl, sym, ◌∙◌, ap, subst, arith}
 use Rattle.std.specs.Prelude.{Option, None, Some}
 use Rattle.std.specs.declared.rc.Rc.{Rc}

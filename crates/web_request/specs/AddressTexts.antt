@@ -1,9 +1,9 @@
 -- The texts of addresses (RFC 5952).
 use Rattle.std.specs.Prelude.{ℕ, ◌++◌, List, codes, decimal}
 use Rattle.std.specs.Net.Text.{ipv4_text, ipv6_text}
-use Rattle.web_request.specs.declared.address.IpAddr.{IpAddr}
-use Rattle.web_request.specs.declared.address.IpAddr.TheVariants.{V4, V6}
-use Rattle.web_request.specs.declared.address.SocketAddr.{SocketAddr}
+use Rattle.web_request.specs.declared.peers.address.IpAddr.{IpAddr}
+use Rattle.web_request.specs.declared.peers.address.IpAddr.TheVariants.{V4, V6}
+use Rattle.web_request.specs.declared.peers.address.SocketAddr.{SocketAddr}
 
 abbrev pub ip_text : IpAddr → List ℕ
 ip_text (V4 bytes) = ipv4_text bytes

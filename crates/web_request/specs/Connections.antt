@@ -1,7 +1,7 @@
 -- Where a request came from and was sent to.
 use Rattle.std.specs.Prelude.{ℕ, List, Option}
 use Rattle.std.specs.Option.{option_map, option_or}
-use Rattle.web_connection.specs.Origins.{client_of, host_of, scheme_of}
+use Rattle.web_forwarded.specs.Origins.{client_of, host_of, scheme_of}
 use Rattle.web_request.specs.declared.config.AppConfig.{AppConfig}
 use Rattle.web_request.specs.AddressTexts.{ip_text}
 use Rattle.web_request.specs.Head.{Head}

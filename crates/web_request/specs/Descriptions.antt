@@ -1,6 +1,6 @@
 -- What a log says of a request.
 use Rattle.std.specs.Prelude.{ℕ, List}
-use Rattle.web_describe.specs.LogEntries.{Logged}
+use Rattle.web_request_log.specs.LogEntries.{Logged}
 use Rattle.web_request.specs.Head.{head_path, head_query}
 use Rattle.web_request.specs.Request.{Request}
 

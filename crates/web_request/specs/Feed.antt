@@ -1,5 +1,6 @@
 -- The state of a source as contracts see it, and how each result of `next` changes it.
 use Rattle.std.specs.Prelude.{◌≡◌, ℕ, ◌<◌, ◌≤◌, List, [], ◌∷◌, length, Option, None, Some}
+use Rattle.std.specs.Prelude.{Bool, true}
 use Rattle.web_texts.specs.Counts.{Rose}
 use Rattle.web_request.specs.declared.source.Mark.{Mark}
 use Rattle.web_request.specs.declared.source.Mark.TheVariants as mark
@@ -15,6 +16,8 @@ pub record Feed : Type 0 where
   pub given : ℕ
   -- how many more results it can return before the end
   pub answers : ℕ
+  -- whether it lacked memory for a piece, which is lost
+  pub lacked : Bool
 
 -- where the marks are stated, x is the first, and is taken
 abbrev pub Takes : Mark → Option (List Mark) → Option (List Mark) → Type 0
@@ -37,6 +40,7 @@ pub record GivesPiece (b : List ℕ) (old new : Feed) : Type 0 where
   pub stalls : old.stalls ≤ new.stalls
   pub answers : new.answers < old.answers
   pub takes : Takes (mark.Piece b) old.marks new.marks
+  pub lacked : new.lacked ≡ old.lacked
 
 pub record Stalls (old new : Feed) : Type 0 where
   pub faults : new.faults ≡ old.faults
@@ -44,6 +48,7 @@ pub record Stalls (old new : Feed) : Type 0 where
   pub stalls : old.stalls ≤ new.stalls
   pub answers : new.answers < old.answers
   pub takes : Takes mark.Stall old.marks new.marks
+  pub lacked : new.lacked ≡ old.lacked
 
 pub record Fails (old new : Feed) : Type 0 where
   pub rose : Rose old.faults new.faults
@@ -52,12 +57,14 @@ pub record Fails (old new : Feed) : Type 0 where
   pub answers : new.answers < old.answers
   pub last : new.answers ≡ 0
   pub takes : TakesLast mark.Fault old.marks new.marks
+  pub lacked : new.lacked ≡ old.lacked
 
 pub record Ends (old new : Feed) : Type 0 where
   pub faults : new.faults ≡ old.faults
   pub stalls : old.stalls ≤ new.stalls
   pub last : new.answers ≡ 0
   pub left : NoneLeft old.marks new.marks
+  pub lacked : new.lacked ≡ old.lacked
 
 pub record LacksMemory (old new : Feed) : Type 0 where
   pub faults : new.faults ≡ old.faults
@@ -66,6 +73,7 @@ pub record LacksMemory (old new : Feed) : Type 0 where
   pub last : new.answers ≡ 0
   pub untold : old.marks ≡ None
   pub marks : new.marks ≡ None
+  pub lacked : new.lacked ≡ true
 
 -- what each result of `next` says
 abbrev pub Next : Turn → Feed → Feed → Type 0

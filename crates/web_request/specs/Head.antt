@@ -7,7 +7,7 @@ use Rattle.http_header.specs.HeaderMap.{Entries}
 use Rattle.http_uri.specs.Grammar.{path_of, query_of}
 use Rattle.http_uri.specs.declared.uri.Uri.{Uri}
 use Rattle.http_uri.specs.Uri.{uri_authority, uri_data, uri_scheme}
-use Rattle.web_request.specs.declared.address.SocketAddr.{SocketAddr}
+use Rattle.web_request.specs.declared.peers.address.SocketAddr.{SocketAddr}
 use Rattle.web_request.specs.declared.head.RequestHead.{RequestHead}
 
 pub record Head : Type 0 where

@@ -10,7 +10,7 @@ use Rattle.web_cookies.specs.declared.cookie_parse_error.CookieParseError.{Cooki
 use Rattle.web_texts.specs.Pairs.{Pair}
 use Rattle.web_cookies.specs.CookieFields.{CookieFields, cookie_of_pair}
 use Rattle.web_cookies.specs.HeaderCookies.{cookies_said}
-use Rattle.web_request.specs.declared.kept_values.ComputedValues.{ComputedValues}
+use Rattle.web_request.specs.declared.records.kept_values.ComputedValues.{ComputedValues}
 use Rattle.web_request.specs.Connections.{Connection, connection_of}
 use Rattle.web_request.specs.Request.{Kept, Record, nothing_kept}
 

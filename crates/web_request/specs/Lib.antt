@@ -15,3 +15,4 @@ pub mod KeptRecords
 pub mod Body
 pub mod Feed
 pub mod Reading
+pub mod NetAddresses

@@ -1,7 +1,9 @@
 -- A pool of records as contracts see it, and its state after each call.
 use Rattle.std.specs.Prelude.{ℕ, ◌≡◌, ◌+◌, ◌-◌, List, [], ◌∷◌, ◌++◌, None, Bool, true, false}
-use Rattle.std.specs.Prelude.{◌&&◌, if◌then◌else◌, length, nat_lt, slice_index_or, take}
+use Rattle.std.specs.Prelude.{◌&&◌, if◌then◌else◌, length, nat_lt, slice_index_or, take, codes}
+use Rattle.http.specs.declared.version.TheConstants.Version.{HTTP_11}
 use Rattle.web_request.specs.declared.config.AppConfig.{AppConfig}
+use Rattle.web_request.specs.Head.{Head}
 use Rattle.web_request.specs.Request.{Parts, Record, nothing_kept}
 
 pub record Pool (L : Type 0) : Type 0 where
@@ -76,9 +78,21 @@ new_record root config serial p = record {
   kept = nothing_kept;
 }
 
--- Nothing of an earlier request is left but its head and the configuration. The next request
--- replaces both.
+-- the head of a record that holds no request
+abbrev pub empty_head : Head
+empty_head = record {
+  scheme = None;
+  authority = None;
+  target = codes "/";
+  method = codes "GET";
+  version = HTTP_11;
+  headers = [];
+  peer = None;
+}
+
+-- Nothing of an earlier request is left but the configuration, which the next request replaces.
 pub record Clean {L D C : Type 0} (r : Record L D C) : Type 0 where
+  pub head : r.request.head ≡ empty_head
   pub params : r.request.params ≡ []
   pub layers : r.request.layers ≡ []
   pub conn : r.request.conn ≡ None

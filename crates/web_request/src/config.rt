@@ -1,6 +1,6 @@
 //! The configuration of a worker.
 
-use crate::address::SocketAddr;
+use crate::peers::address::SocketAddr;
 use web_texts::Text;
 
 /// The settings of a worker that its requests see.

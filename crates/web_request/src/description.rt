@@ -1,16 +1,16 @@
 //! The text of a request for logs.
 ghost use Rattle.std.specs.Prelude.{◌≡◌, IfOk, codes};
-ghost use Rattle.web_describe.specs.LogEntries.{log_text};
+ghost use Rattle.web_request_log.specs.LogEntries.{log_text};
 ghost use Rattle.web_request.specs.Descriptions.{logged};
 
 use crate::app::App;
 use crate::request::HttpRequest;
 use std::alloc::Global;
-use web_describe::{LogEntry, describe};
+use web_request_log::{LogEntry, describe};
 use web_texts::{NoMemory, Text};
 
 impl<A: App> HttpRequest<A> {
-    /// The text of the request for logs, by `web_describe::describe`: without the values of
+    /// The text of the request for logs, by `web_request_log::describe`: without the values of
     /// Authorization, Proxy-Authorization and Cookie. Returns `NoMemory` where allocation failed.
     pub fn describe(&self, alloc: Global) -> Result<Text, NoMemory>
         ensures { IfOk result (λ text.

@@ -2,7 +2,7 @@
 ghost use Rattle.std.specs.Prelude.{◌≡◌};
 ghost use Rattle.web_request.specs.Head.{head_view};
 
-use crate::address::SocketAddr;
+use crate::peers::address::SocketAddr;
 use http::{Method, Version};
 use http_header::{HeaderMap, HeaderValue};
 use http_uri::Uri;

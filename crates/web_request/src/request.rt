@@ -1,5 +1,6 @@
 //! Requests.
-ghost use Rattle.std.specs.Prelude.{◌≡◌, ◌++◌, ◌∷◌, [], IfErr, IfOk, IfSome, OnErr, OnOk};
+ghost use Rattle.std.specs.Prelude.{◌≡◌, ◌++◌, ◌∷◌, [], IfErr, IfOk, IfSome, IsTrue, None};
+ghost use Rattle.std.specs.Prelude.{OnErr, OnOk};
 ghost use Rattle.std.specs.Prelude.{option_copied};
 ghost use Rattle.std.specs.Option.{option_and_then};
 ghost use Rattle.std.specs.Borrow.{Lends, LendsSoOk, sem};
@@ -11,22 +12,22 @@ ghost use Rattle.web_request.specs.Request.{nothing_kept};
 ghost use Rattle.web_request.specs.contracts.head.RequestHead.{the_row as head_row};
 ghost use Rattle.web_request.specs.contracts.request.HttpRequest.{the_row};
 
-use crate::address::SocketAddr;
 use crate::app::App;
 use crate::config::AppConfig;
-use crate::copies::{copied_data, copied_pairs, shared_again, shared_layers};
 use crate::head::RequestHead;
-use crate::kept_values::KeptValues;
 use crate::layers::{ConfigChoice, HeldValue, Holds, OwnConfig, SharedConfig, Wanted};
-use crate::parts::RequestParts;
-use crate::reuse::{move_into, put_head};
+use crate::peers::address::SocketAddr;
+use crate::records::copies::{copied_pairs, shared_again, shared_layers};
+use crate::records::kept_values::KeptValues;
+use crate::records::parts::RequestParts;
+use crate::records::reuse::{empty_head, move_into, put_head, reset_head};
 use http::{Method, Version};
 use http_header::{HeaderMap, HeaderValue};
 use http_uri::Uri;
 use std::alloc::Global;
 use std::marker::Model;
 use std::rc::Rc;
-use web_texts::{NoMemory, Pair};
+use web_texts::{Duplicate, NoMemory, Pair};
 
 /// A request in a record of an `HttpRequestPool`.
 ///
@@ -237,19 +238,36 @@ impl<A: App> HttpRequest<A> {
         ensures serial { IfOk result (λ copy. copy.serial ≡ self.now.serial) }
         ensures kept { IfOk result (λ copy. copy.kept ≡ nothing_kept) }
     {
+        let params = copied_pairs(alloc, self.params.as_slice())?;
+        let local = self.local.duplicate(alloc)?;
+        let mut copy = self.shared(alloc)?;
+        copy.params = params;
+        copy.local = local;
+        Ok(copy)
+    }
+
+    /// The same head, layers, data of the connection and settings under the same number, without
+    /// parameters and data of the request.
+    fn shared(&self, alloc: Global) -> Result<HttpRequest<A>, NoMemory>
+        ensures { IfOk result (λ copy. copy ≡ record {
+          request = record self.now.request { params = []; local = None };
+          serial = self.now.serial;
+          kept = nothing_kept;
+        }) }
+    {
         let root = shared_again(&self.root)?;
         let layers = shared_layers(&self.layers)?;
         let conn = shared_again(&self.conn)?;
-        let params = copied_pairs(alloc, self.params.as_slice())?;
-        let local = copied_data(alloc, &self.local)?;
+        let head = self.head.clone()?;
+        let config = self.config.clone()?;
         Ok(HttpRequest {
-            head: self.head.clone()?,
-            params,
+            head,
+            params: Vec::new(alloc),
             root,
             layers,
             conn,
-            local,
-            config: self.config.clone()?,
+            local: None,
+            config,
             serial: self.serial,
             kept: KeptValues::none(),
         })
@@ -342,9 +360,10 @@ impl<A: App> HttpRequest<A> {
         })
     }
 
-    /// Drops what the request left, and keeps the capacity of its lists.
-    pub(crate) fn clean(&mut self)
-        ensures clean { Clean self.new }
+    /// Drops what the request left, and keeps the capacity of its lists. Returns whether the head
+    /// went too, which stays where a duplicate shares it.
+    pub(crate) fn clean(&mut self) -> bool
+        ensures clean { IsTrue result → Clean self.new }
         ensures serial { self.new.serial ≡ self.old.serial }
     {
         self.params.clear();
@@ -353,21 +372,24 @@ impl<A: App> HttpRequest<A> {
         self.conn = None;
         self.local = None;
         self.kept = KeptValues::none();
+        let head = empty_head(*self.params.allocator());
+        reset_head(&mut self.head, head)
     }
 
-    /// Puts a request of these parts into a clean record. Where an allocation failed, returns the
-    /// parts and leaves the record clean.
+    /// Puts a request of these parts into a clean record, which gets this number. Where an
+    /// allocation failed, returns the parts and leaves the record clean.
     pub(crate) fn fill(
         &mut self,
         alloc: Global,
         root: &Rc<A::Layer>,
         config: &Rc<AppConfig>,
+        serial: u64,
         parts: RequestParts<A>,
     ) -> Result<(), (NoMemory, RequestParts<A>)>
         requires clean { Clean self.old }
         requires ready { A.Layer.ready root.now.value }
         ensures ok { OnOk result
-            (self.new ≡ new_record root.now.value config.now.value self.old.serial parts) }
+            (self.new ≡ new_record root.now.value config.now.value serial parts) }
         ensures back { IfErr result (λ e. e.1 ≡ parts) }
         ensures kept { OnErr result (self.new ≡ self.old) }
     {
@@ -409,6 +431,7 @@ impl<A: App> HttpRequest<A> {
         self.conn = conn;
         self.local = local;
         self.config = config;
+        self.serial = serial;
         Ok(())
     }
 }

@@ -4,7 +4,7 @@ ghost use Rattle.std.specs.Borrow.{Lends, LendsBoth, LendsSoOk, sem};
 ghost use Rattle.std.specs.contracts.option.Option.{the_row as option_row};
 ghost use Rattle.http_header.specs.contracts.map.HeaderMap.{the_row as map_row};
 ghost use Rattle.http_header.specs.contracts.value.HeaderValue.{the_row as value_row};
-ghost use Rattle.web_describe.specs.LogEntries.{log_text};
+ghost use Rattle.web_request_log.specs.LogEntries.{log_text};
 ghost use Rattle.web_request.specs.Descriptions.{logged};
 ghost use Rattle.web_request.specs.Head.{head_view};
 ghost use Rattle.web_request.specs.contracts.head.RequestHead.{the_row as head_row};
@@ -213,7 +213,7 @@ impl<A: App> ServiceRequest<A> {
         self.request.add_layer(layer)
     }
 
-    /// The text of the request for logs, by `web_describe::describe`: without the values of
+    /// The text of the request for logs, by `web_request_log::describe`: without the values of
     /// Authorization, Proxy-Authorization and Cookie. Returns `NoMemory` where allocation failed.
     pub fn describe(&self, alloc: Global) -> Result<Text, NoMemory>
         ensures { IfOk result (λ text.

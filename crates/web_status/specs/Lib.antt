@@ -1,1 +1,2 @@
+pub mod JsonErrors
 pub mod StatusNames

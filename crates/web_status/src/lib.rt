@@ -1,8 +1,9 @@
-//! Builders of responses, and errors, by the names of statuses.
+//! Builders of responses, and errors, by the names of statuses, and refusals as JSON.
 #![tactic(auto)]
 
 mod http_codes;
 mod internal;
+mod json_errors;
 pub mod prelude;
 
 pub use internal::{
@@ -18,3 +19,4 @@ pub use internal::{
     ErrorUnprocessableEntity, ErrorUnsupportedMediaType, ErrorUpgradeRequired, ErrorUriTooLong,
     ErrorVariantAlsoNegotiates,
 };
+pub use json_errors::{JsonErrors, UnprocessableJson, json_error, json_error_reply};

@@ -7,8 +7,8 @@ use Rattle.http_uri.specs.Uri.{SpellsNone}
 use Rattle.web_texts.specs.Pairs.{Pair}
 use Rattle.web_body.specs.declared.payload.Payload.TheVariants as payload
 use Rattle.web_request.specs.Head.{Head}
-use Rattle.web_request.specs.declared.address.SocketAddr.{SocketAddr}
-use Rattle.web_reply.specs.declared.cause.HttpError.{HttpError}
+use Rattle.web_request.specs.declared.peers.address.SocketAddr.{SocketAddr}
+use Rattle.web_reply.specs.declared.errors.cause.HttpError.{HttpError}
 use Rattle.web_reply.specs.declared.header_setting.Placing.TheVariants.{Append}
 use Rattle.web_reply.specs.HeaderSteps.{Headers, named, place_one}
 use Rattle.web_worker.specs.Exchanges.{ExchangeView}
@@ -47,7 +47,7 @@ with_headers sent (Ok headers) =
     Ok (record sent { head = record sent.head { headers = headers } })
 with_headers sent (Err e) = Err (Header e)
 
--- one more header behind those of its name, or why it is refused
+-- one more header after those of its name, or why it is refused
 abbrev pub with_header :
     List ℕ → List ℕ → Result Sent TestError → Result Sent TestError
 with_header name value (Ok sent) =

@@ -1,7 +1,7 @@
 -- The worker of a test, and its plan.
 use Rattle.std.specs.Prelude.{ℕ, List, [], ◌∷◌, replicate, false, codes}
 use Rattle.web_request.specs.Pool.{Pool, new_pool}
-use Rattle.web_request.specs.declared.address.IpAddr.TheVariants.{V4}
+use Rattle.web_request.specs.declared.peers.address.IpAddr.TheVariants.{V4}
 use Rattle.web_request.specs.declared.config.AppConfig.{AppConfig}
 
 abbrev pub test_config : AppConfig

@@ -174,7 +174,7 @@ impl TestRequest {
         TestRequest::new(alloc, Method::POST, target)
     }
 
-    /// Adds a header behind those of its name.
+    /// Adds a header after those of its name.
     pub fn header(self, name: &str, value: &str) -> TestRequest
         ensures { ComesTo (with_header name.now value.now self) result }
     {

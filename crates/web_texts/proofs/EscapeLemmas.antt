@@ -19,7 +19,7 @@ unescaped_none (b ∷ rest) none =
     let parts = or_false (b == 92) (list_any is_backslash rest) none in
     unescaped_step b rest parts.0 ∙ ap (λ l. b ∷ l) (unescaped_none rest parts.1)
 
--- behind a backslash
+-- after a backslash
 abbrev behind : List ℕ → List ℕ
 behind [] = []
 behind (c ∷ rest) = c ∷ unescaped rest
@@ -31,7 +31,7 @@ unescaped_at (b ∷ before) after none =
     let parts = or_false (b == 92) (list_any is_backslash before) none in
     unescaped_step b (before ++ 92 ∷ after) parts.0 ∙ ap (λ l. b ∷ l) (unescaped_at before after parts.1)
 
--- behind a backslash a byte that is none is as any other
+-- after a backslash a byte that is none is as any other
 behind_other : (after : List ℕ) → (get_or after 0 0 == 92) ≡ false → behind after ≡ unescaped after
 behind_other [] other = refl
 behind_other (c ∷ after) other = sym (unescaped_step c after other)

@@ -10,7 +10,7 @@ pub or_false : (a b : Bool) → (a || b) ≡ false → (a ≡ false) × (b ≡ f
 or_false true b e = absurd (cc)
 or_false false b e = (refl, e)
 
--- where none before passes, the first that passes stands behind them
+-- where none before passes, the first that passes stands after them
 pub stop : {X : Type 0} (p : X → Bool) (xs : List X) (x : X) (ys : List X) → list_any p xs ≡ false → p x ≡ true → prefix_len (λ y. not (p y)) (xs ++ x ∷ ys) ≡ length xs
 stop p [] x ys none e = rw e refl
 stop p (z ∷ xs) x ys none e =
@@ -23,7 +23,7 @@ list_any-reverse p (x ∷ xs) none =
     let parts = or_false (p x) (list_any p xs) none in
     rw (reverse-append (x ∷ []) xs, list_any-append, list_any-reverse p xs parts.1, parts.0) refl
 
--- what stands behind the last one that passes
+-- what stands after the last one that passes
 pub after_last_at : {X : Type 0} (p : X → Bool) (front : List X) (x : X) (rest : List X) → p x ≡ true → list_any p rest ≡ false → after_last p (front ++ x ∷ rest) ≡ rest
 after_last_at p front x rest e none =
     let back : reverse (front ++ x ∷ rest) ≡ reverse rest ++ x ∷ reverse front =

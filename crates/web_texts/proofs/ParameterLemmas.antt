@@ -8,7 +8,7 @@ use Rattle.web_texts.specs.Pieces.{pieces, IsFirstPiece}
 use Rattle.web_texts.specs.QuotedText.{is_closed}
 use Rattle.web_texts.specs.ParameterPlaces.{semicolons}
 use Rattle.web_texts.specs.MediaTypes.{parameter_of, and_parameters, parameters_of, with_parameters, media_type_of_pieces, media_type_of}
-use Rattle.web_texts.specs.declared.parameters.Place.TheVariants.{Outside}
+use Rattle.web_texts.specs.declared.grammar.parameters.Place.TheVariants.{Outside}
 use Rattle.web_texts.proofs.PieceLemmas.{IsCons, pieces_cons}
 use Rattle.web_texts.proofs.TestLemmas.{and_right}
 
@@ -43,7 +43,7 @@ first_parameter text piece behind cut = rw cut (parameters_more piece (pieces se
 pub pieces_more : (essence : List ℕ) (ps : List (List ℕ)) → IsCons ps → media_type_of_pieces (essence ∷ ps) ≡ option_and_then (with_parameters (without_end essence)) (parameters_of ps)
 pieces_more essence ps (first, more, is) = rw is refl
 
--- there are pieces behind the essence
+-- there are pieces after the essence
 pub behind_essence : (text essence : List ℕ) (behind : Bor (List ℕ)) → IsFirstPiece semicolons text essence (Some behind)
     → media_type_of text ≡ option_and_then (with_parameters (without_end essence)) (parameters_of (pieces semicolons Outside behind.now))
 behind_essence text essence behind cut =

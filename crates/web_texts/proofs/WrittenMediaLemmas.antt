@@ -16,7 +16,7 @@ use Rattle.web_texts.specs.Tokens.{is_token, is_token_byte}
 use Rattle.web_texts.specs.MediaTypes.{is_slash, media_type_of, of_essence, parameter_of, parameters_of}
 use Rattle.web_texts.specs.WrittenMediaTypes.{AreKeptParameters, ArePlain, IsKept, IsKeptParameter, ParameterThen, unquoted}
 use Rattle.web_texts.specs.Pairs.{Pair}
-use Rattle.web_texts.specs.declared.parameters.Place.TheVariants.{Outside}
+use Rattle.web_texts.specs.declared.grammar.parameters.Place.TheVariants.{Outside}
 use Rattle.web_texts.proofs.EssenceLemmas.{slash_back}
 use Rattle.web_texts.proofs.KeptMediaLemmas.{differs, kept_essence, token_bytes}
 use Rattle.web_texts.proofs.LastCutLemmas.{list_any-reverse, or_false}
@@ -34,7 +34,7 @@ spaced_parts : (text front named all : List ℕ) → text ≡ 59 ∷ front → n
 spaced_parts text front named all is_text is (inl e) = inl (is_text ∙ ap (λ l. 59 ∷ l) (e ∙ is))
 spaced_parts text front named all is_text is (inr e) = inr (is_text ∙ ap (λ l. 59 ∷ l) (e ∙ ap (λ l. 32 ∷ l) is))
 
--- the parts of a parameter, one behind another
+-- the parts of a parameter, one after another
 pub parameter_is : (p : Pair) (text front named equals value rest : List ℕ) → is_token p.value ≡ true → text ≡ 59 ∷ front
     → (front ≡ named) ⊎ (front ≡ 32 ∷ named) → named ≡ p.name ++ equals → equals ≡ 61 ∷ value → value ≡ p.value ++ rest → ParameterThen p text rest
 parameter_is p text front named equals value rest token is_text spaced is_named is_equals is_value =
@@ -126,7 +126,7 @@ no_space_front text none = rw (nothing_first is_blank text none) refl
 some_bytes : (front : List ℕ) (mark : ℕ) (rest : List ℕ) → is_empty (front ++ mark ∷ rest) ≡ false
 some_bytes front mark rest = grind (arith, nat_tests, length-append front (mark ∷ rest))
 
--- Parameters, read: there are none, or they stand behind a semicolon.
+-- Parameters, read: there are none, or they stand after a semicolon.
 abbrev AreRead : List Pair → List ℕ → Type 0
 AreRead [] text = text ≡ []
 AreRead (p ∷ more) text = (behind : List ℕ) × (text ≡ 59 ∷ behind) × (parameters_of (pieces semicolons Outside behind) ≡ Some (p ∷ more))

@@ -9,7 +9,7 @@ use Rattle.std.specs.Str.{str_to_ascii_uppercase}
 use Rattle.percent_encoding.specs.Percent.{percent_decode, percent_encode_byte}
 use Rattle.web_texts.specs.Cut.{split_once}
 use Rattle.web_texts.specs.LanguageTags.{language_tag_of}
-use Rattle.web_texts.specs.declared.extended_value.ExtendedValue.{ExtendedValue}
+use Rattle.web_texts.specs.declared.grammar.extended_value.ExtendedValue.{ExtendedValue}
 
 -- no language, or a language tag
 abbrev pub optional_tag_of : List ℕ → Option (Option (List ℕ))

@@ -24,3 +24,4 @@ pub mod TextParts
 pub mod TextReaders
 pub mod Tokens
 pub mod WrittenMediaTypes
+pub mod HeaderValues

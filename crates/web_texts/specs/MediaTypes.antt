@@ -17,7 +17,7 @@ use Rattle.web_texts.specs.ParameterPlaces.{semicolons}
 use Rattle.web_texts.specs.Pairs.{Pair, pair_eq}
 use Rattle.web_texts.specs.declared.memory.Fail.{Fail}
 use Rattle.web_texts.specs.declared.memory.Fail.TheVariants as fail
-use Rattle.web_texts.specs.declared.parameters.Place.TheVariants.{Outside}
+use Rattle.web_texts.specs.declared.grammar.parameters.Place.TheVariants.{Outside}
 
 pub record MediaType : Type 0 where
   pub type_ : List ℕ
@@ -57,8 +57,8 @@ parameter_of piece =
 abbrev pub and_parameters : Option Pair → Option (List Pair) → Option (List Pair)
 and_parameters first more = option_and_then (λ p. option_map (λ ps. p ∷ ps) more) first
 
--- The parameters of the pieces behind the first. Blanks may stand round a semicolon, and nothing
--- behind the last one.
+-- The parameters of the pieces after the first. Blanks may stand round a semicolon, and nothing
+-- after the last one.
 abbrev pub parameters_of : List (List ℕ) → Option (List Pair)
 parameters_of [] = Some []
 parameters_of (last ∷ []) =
@@ -111,7 +111,7 @@ media_type_of_pieces (essence ∷ []) = with_parameters essence []
 media_type_of_pieces (essence ∷ next ∷ more) =
     option_and_then (with_parameters (without_end essence)) (parameters_of (next ∷ more))
 
--- the media type of a text: a type, a slash, a subtype, and parameters behind semicolons
+-- the media type of a text: a type, a slash, a subtype, and parameters after semicolons
 abbrev pub media_type_of : List ℕ → Option MediaType
 media_type_of text = media_type_of_pieces (pieces semicolons Outside text)
 
@@ -119,7 +119,7 @@ abbrev pub suffix_text : Option (List ℕ) → List ℕ
 suffix_text None = []
 suffix_text (Some suffix) = 43 ∷ suffix
 
--- the type, a slash, the subtype and, behind a plus sign, the suffix
+-- the type, a slash, the subtype and, after a plus sign, the suffix
 abbrev pub essence_of : MediaType → List ℕ
 essence_of m = m.type_ ++ 47 ∷ (m.subtype ++ suffix_text m.suffix)
 

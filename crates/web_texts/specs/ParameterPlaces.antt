@@ -1,8 +1,8 @@
 -- The places of a media type at which a semicolon ends a piece, and those at which it does not.
 use Rattle.std.specs.Prelude.{ℕ, ◌==◌, Bool, true, false, if◌then◌else◌}
 use Rattle.web_texts.specs.Pieces.{Rule}
-use Rattle.web_texts.specs.declared.parameters.Place.{Place}
-use Rattle.web_texts.specs.declared.parameters.Place.TheVariants.{Outside, Quoted, Escaped}
+use Rattle.web_texts.specs.declared.grammar.parameters.Place.{Place}
+use Rattle.web_texts.specs.declared.grammar.parameters.Place.TheVariants.{Outside, Quoted, Escaped}
 
 -- A double quote begins and ends quoted text, in which a backslash keeps the next byte.
 abbrev pub place_behind : Place → ℕ → Place

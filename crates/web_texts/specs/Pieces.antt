@@ -4,7 +4,7 @@ use Rattle.std.specs.Prelude.{slice_index, Option, None, Some, if◌then◌else�
 use Rattle.std.specs.Borrow.{Bor}
 use Rattle.std.specs.List.{onto_first}
 
--- The mark; the modes in which it cuts; the mode behind a byte; and the mode in which each piece
+-- The mark; the modes in which it cuts; the mode after a byte; and the mode in which each piece
 -- starts.
 pub record Rule (M : Type 0) : Type 0 where
   pub mark : ℕ
@@ -33,7 +33,7 @@ abbrev pub pieces_behind : {M : Type 0} → Rule M → Option (Bor (List ℕ)) �
 pieces_behind rule None = []
 pieces_behind rule (Some rest) = pieces rule rule.start rest.now
 
--- the first piece, and what stands behind its mark, if it has one
+-- the first piece, and what stands after its mark, if it has one
 abbrev pub IsFirstPiece : {M : Type 0} → Rule M → List ℕ → List ℕ → Option (Bor (List ℕ)) → Type 0
 IsFirstPiece rule text piece behind =
     pieces rule rule.start text ≡ piece ∷ pieces_behind rule behind

@@ -5,7 +5,7 @@ use Rattle.std.specs.Option.{option_map, option_and_then}
 use Rattle.web_texts.specs.Blanks.{trimmed}
 use Rattle.web_texts.specs.Cut.{split_at_last}
 use Rattle.web_texts.specs.QualityValues.{quality_of, weight_text}
-use Rattle.web_texts.specs.declared.quality_item.QualityItem.{QualityItem}
+use Rattle.web_texts.specs.declared.media.quality_item.QualityItem.{QualityItem}
 
 abbrev pub with_quality : {T : Type 0} → ℕ → Option T → Option (QualityItem T)
 with_quality n item = option_map (λ x. record { item = x; quality = n }) item
@@ -15,7 +15,7 @@ abbrev pub is_weight : List ℕ → Bool
 is_weight (a ∷ b ∷ rest) = (a == 113 || a == 81) && b == 61
 is_weight short = false
 
--- Where the part behind the last semicolon is no weight, the whole text is the item's. A part of
+-- Where the part after the last semicolon is no weight, the whole text is the item's. A part of
 -- fewer than two bytes is refused, which the RFC does not say.
 abbrev pub item_before : {T : Type 0} → (List ℕ → Option T) → List ℕ → List ℕ → List ℕ
     → Option (QualityItem T)
@@ -30,7 +30,7 @@ abbrev pub parts_item : {T : Type 0} → (List ℕ → Option T) → List ℕ
 parts_item read text None = with_quality 1000 (read text)
 parts_item read text (Some parts) = item_before read text parts.0 (trimmed parts.1)
 
--- Only the part behind the last semicolon is looked at for a quality. The RFC lets extensions
+-- Only the part after the last semicolon is looked at for a quality. The RFC lets extensions
 -- follow the quality, which was dropped from it later.
 abbrev pub quality_item_of : {T : Type 0} → (List ℕ → Option T) → List ℕ → Option (QualityItem T)
 quality_item_of read text = parts_item read text (split_at_last 59 text)

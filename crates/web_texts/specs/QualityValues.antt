@@ -32,7 +32,7 @@ fraction_text n =
     else if n % 10 == 0 then (48 + n / 100) ∷ (48 + n / 10 % 10) ∷ []
     else (48 + n / 100) ∷ (48 + n / 10 % 10) ∷ (48 + n % 10) ∷ []
 
--- what is printed behind an item
+-- what is printed after an item
 abbrev pub weight_text : ℕ → List ℕ
 weight_text n =
     if n == 1000 then []

@@ -1,4 +1,4 @@
--- Quoted text, behind its opening quote. A backslash keeps the next byte.
+-- Quoted text, after its opening quote. A backslash keeps the next byte.
 use Rattle.std.specs.Prelude.{ℕ, ◌==◌, Bool, false, not, ◌&&◌, List, [], ◌∷◌, if◌then◌else◌}
 
 -- the one quote that no backslash keeps is the last byte

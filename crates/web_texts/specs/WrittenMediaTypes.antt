@@ -22,7 +22,7 @@ pub record IsKept (essence : List ℕ) (params : List Pair) : Type 0 where
   pub reads : with_parameters essence params ≡ Some (of_essence essence params)
   pub each : AreKeptParameters params
 
--- a parameter behind a semicolon and at most one space, without quotes, and then this rest
+-- a parameter after a semicolon and at most one space, without quotes, and then this rest
 pub record ParameterThen (p : Pair) (text rest : List ℕ) : Type 0 where
   pub token : is_token p.value ≡ true
   pub parts : (text ≡ 59 ∷ (unquoted p ++ rest)) ⊎ (text ≡ 59 ∷ 32 ∷ (unquoted p ++ rest))

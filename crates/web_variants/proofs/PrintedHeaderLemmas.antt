@@ -8,7 +8,7 @@ use Rattle.web_texts.specs.MediaTypeTexts.{media_type_text}
 use Rattle.web_texts.specs.declared.memory.Fail.{Fail}
 use Rattle.web_texts.specs.declared.memory.Fail.TheVariants as fail
 use Rattle.web_headers.specs.Codings.{encoding_text}
-use Rattle.web_headers.specs.TypedHeaders.{GivesValue}
+use Rattle.web_texts.specs.HeaderValues.{GivesValue}
 use Rattle.web_headers.specs.declared.codings.ContentEncoding.TheVariants as coding
 use Rattle.web_headers.specs.declared.codings.Encoding.{Encoding}
 use Rattle.web_headers.specs.declared.codings.Encoding.TheVariants as encoding

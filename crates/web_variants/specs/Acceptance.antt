@@ -9,13 +9,13 @@ use Rattle.http_header.specs.FieldValue.{FieldValue}
 use Rattle.http_header.specs.HeaderMap.{Entries, get_all}
 use Rattle.web_texts.specs.HeaderTexts.{value_bytes}
 use Rattle.web_texts.specs.MediaTypes.{MediaType, essence_of, media_type_eq}
-use Rattle.web_texts.specs.declared.quality_item.QualityItem.{QualityItem}
+use Rattle.web_texts.specs.declared.media.quality_item.QualityItem.{QualityItem}
 use Rattle.web_headers.specs.ListHeaders.{accept_encoding_of, accept_language_of, accept_of}
 use Rattle.web_headers.specs.declared.codings.ContentEncoding.TheVariants as coding
 use Rattle.web_headers.specs.declared.codings.Encoding.{Encoding}
 use Rattle.web_headers.specs.declared.codings.Encoding.TheVariants as encoding
-use Rattle.web_headers.specs.declared.preferences.Preference.{Preference}
-use Rattle.web_headers.specs.declared.preferences.Preference.TheVariants as preference
+use Rattle.web_headers.specs.declared.accepts.preferences.Preference.{Preference}
+use Rattle.web_headers.specs.declared.accepts.preferences.Preference.TheVariants as preference
 use Rattle.web_negotiate.specs.EncodingChoices.{same_encoding}
 use Rattle.web_variants.specs.FirstGreatest.{first_greatest}
 use Rattle.web_variants.specs.declared.stored_variants.Variant.{Variant}

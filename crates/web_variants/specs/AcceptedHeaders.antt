@@ -2,9 +2,9 @@
 use Rattle.std.specs.Prelude.{ℕ, Bool, true, false, List, [], ◌∷◌, Option}
 use Rattle.std.specs.Option.{option_map}
 use Rattle.http_header.specs.FieldValue.{FieldValue}
-use Rattle.web_headers.specs.declared.accept_encoding.AcceptEncoding.{AcceptEncoding}
-use Rattle.web_headers.specs.declared.accept_header.Accept.{Accept}
-use Rattle.web_headers.specs.declared.accept_language.AcceptLanguage.{AcceptLanguage}
+use Rattle.web_headers.specs.declared.accepts.accept_encoding.AcceptEncoding.{AcceptEncoding}
+use Rattle.web_headers.specs.declared.accepts.accept_header.Accept.{Accept}
+use Rattle.web_headers.specs.declared.accepts.accept_language.AcceptLanguage.{AcceptLanguage}
 use Rattle.web_variants.specs.Acceptance.{Codings, LanguageRanges, MediaRanges, quality_product}
 use Rattle.web_variants.specs.declared.accepted.Accepted.{Accepted}
 use Rattle.web_variants.specs.declared.stored_variants.Variant.{Variant}

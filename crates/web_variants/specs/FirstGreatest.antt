@@ -2,7 +2,7 @@
 use Rattle.std.specs.Prelude.{ℕ, List, [], ◌∷◌, nat_lt}
 use Rattle.std.specs.Prelude.{Option, None, Some, if◌then◌else◌}
 
--- an item whose rank is above zero, unless what was found behind it is greater
+-- an item whose rank is above zero, unless what was found after it is greater
 abbrev pub or_greater : {X : Type 0} → (X → ℕ) → X → Option X → Option X
 or_greater rank x None = if nat_lt 0 (rank x) then Some x else None
 or_greater rank x (Some y) = if nat_lt (rank x) (rank y) then Some y else Some x

@@ -128,7 +128,7 @@ polls_here p k = let h = polls_end p k k in let e : (k == k) ≡ true = grind (a
 pub polls_other : (p : List ℕ) (j k : ℕ) → k ≢ j → poll_count (p ++ j ∷ []) k ≡ poll_count p k
 polls_other p j k ne = let h = polls_end p j k in let e : (j == k) ≡ false = grind (arith, nat_tests) in let r : cond {A = ℕ} (j == k) 1 0 ≡ 0 = rw e refl in omega (arith, h)
 
--- where two lists agree from k on, they agree at k, and behind it
+-- where two lists agree from k on, they agree at k, and after it
 pub agree_behind : {X : Type 0} (xs ys : List X) (k : ℕ) (d : X) → k < length xs → length xs ≡ length ys → drop k xs ≡ drop k ys
     → (get_or xs k d ≡ get_or ys k d) × (drop (k + 1) xs ≡ drop (k + 1) ys)
 agree_behind xs ys k d lt size same =

@@ -2,7 +2,7 @@
 ghost use Rattle.std.specs.Prelude.{◌≡◌, IfOk};
 ghost use Rattle.std.specs.Borrow.{Lends, sem};
 ghost use Rattle.web_request.specs.Pool.{new_pool};
-ghost use Rattle.web_request.specs.contracts.pool.HttpRequestPool.{the_row as pool_row};
+ghost use Rattle.web_request.specs.contracts.records.pool.HttpRequestPool.{the_row as pool_row};
 ghost use Rattle.web_worker.specs.contracts.worker.Worker.{the_row};
 
 use std::alloc::Global;

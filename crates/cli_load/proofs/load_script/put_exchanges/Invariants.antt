@@ -3,7 +3,7 @@ use Rattle.cli_load.specs.Drawing.{state_after}
 use Rattle.cli_load.specs.ScriptTexts.{exchanges_from}
 use Rattle.cli_load.proofs.load_script.put_exchanges.Given as goal
 
--- so many exchanges are written behind the text that was there
+-- so many exchanges are written after the text that was there
 pub record HasWritten (old new : List ℕ) (seed state count : ℕ) : Type 0 where
   pub text : new ≡ old ++ exchanges_from seed count
   pub state_is : state ≡ state_after seed count

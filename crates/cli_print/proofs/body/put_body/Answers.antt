@@ -1,7 +1,7 @@
 use Rattle.std.specs.Prelude.{◌++◌, codes}
 use Rattle.web_body.specs.Payload.{payload_feed}
 use Rattle.cli_print.specs.BodyLines.{mark_lines}
-use Rattle.web_describe.specs.HeaderDescriptions.{newline}
+use Rattle.web_request_log.specs.HeaderDescriptions.{newline}
 use Rattle.cli_print.proofs.TextLinesLemmas.{two_parts}
 use Rattle.cli_print.proofs.body.put_body.Goals as goal
 

@@ -1,5 +1,5 @@
 use Rattle.std.proofs.Common.{◌≡◌, ◌++◌, drop, option_map}
-use Rattle.web_values.specs.FormPairs.{values_of}
+use Rattle.web_codec.specs.FormPairs.{values_of}
 use Rattle.demo_app.proofs.FoundLemmas.{found_list}
 use Rattle.demo_app.proofs.item_pairs.one_value.Given as goal
 

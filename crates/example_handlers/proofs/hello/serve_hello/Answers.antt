@@ -2,8 +2,8 @@ use Rattle.std.proofs.Common.{rules, refl, [], ◌∷◌, ap, ◌∙◌}
 use Rattle.web_body.specs.HeadTests.{refusal_by}
 use Rattle.web_body.specs.MessageBody.{default_limit}
 use Rattle.web_extract.specs.LayerConfigurations.{holds_nothing}
-use Rattle.web_extract.specs.declared.refuse.NoHandler.{NoHandler}
-use Rattle.web_extract.specs.declared.refuse.NoType.{NoType}
+use Rattle.web_extract.specs.declared.config.refuse.NoHandler.{NoHandler}
+use Rattle.web_extract.specs.declared.config.refuse.NoType.{NoType}
 use Rattle.example_handlers.proofs.EchoLemmas.{held}
 use Rattle.example_handlers.proofs.HelloLemmas.{hello_once, on_mapped, only_outcome}
 use Rattle.example_handlers.proofs.hello.serve_hello.Goals as goal

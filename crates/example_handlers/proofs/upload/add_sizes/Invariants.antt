@@ -1,4 +1,4 @@
-use Rattle.web_parts.specs.PartReading.{parts_left}
+use Rattle.web_multipart_parts.specs.PartReading.{parts_left}
 use Rattle.example_handlers.proofs.upload.add_sizes.Given as goal
 
 abbrev pub decreases-parts : goal.decreases-parts

@@ -1,6 +1,6 @@
 use Rattle.web_extract.specs.LayerConfigurations.{form_settings, json_settings}
-use Rattle.web_types.specs.FormArgument.{capped_form}
-use Rattle.web_types.specs.JsonArgument.{capped_json}
+use Rattle.web_extract_body.specs.FormArgument.{capped_form}
+use Rattle.web_extract_body.specs.JsonArgument.{capped_json}
 use Rattle.web_cutting.proofs.CutValuesLemmas.{form_cut, json_cut}
 use Rattle.web_cutting.proofs.value_cutting.value_cutting_law.Goals as goal
 

@@ -1,7 +1,7 @@
 use Rattle.std.proofs.Common.{Err, ap, subst}
 use Rattle.std.specs.Prelude.{IfSome}
 use Rattle.http_header.specs.FieldValue.{plain_value}
-use Rattle.web_headers.specs.TypedHeaders.{GivesValue}
+use Rattle.web_texts.specs.HeaderValues.{GivesValue}
 use Rattle.web_docs.proofs.FieldValueLemmas.{given_value, refused_value}
 use Rattle.web_docs.proofs.stored.field_value.Goals as goal
 

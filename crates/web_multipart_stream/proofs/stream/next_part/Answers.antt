@@ -21,12 +21,12 @@ returns-in-Failed g c =
 pub returns-in-NoMemory : goal.returns-in-NoMemory
 returns-in-NoMemory g c =
     takes_no_memory g.S.Source.feed c.args.payload.now c.args.reader.now c.args.last.now c.turns.payload c.turns.reader c.turns.last c.turns.invariant c.next.new.self
-    c.in-NoMemory.ensures.held c.in-NoMemory.ensures.form c.in-NoMemory.ensures.fewer
+    c.in-NoMemory.ensures.held c.in-NoMemory.ensures.form c.in-NoMemory.ensures.fewer c.in-NoMemory.ensures.memory
 
 pub returns-in-Stall : goal.returns-in-Stall
 returns-in-Stall g c =
     takes_stall g.S.Source.feed c.args.payload.now c.args.reader.now c.args.last.now c.turns.payload c.turns.reader c.turns.last c.turns.invariant
-    c.next.new.self c.in-More.ensures.gives.0 c.in-More.ensures.gives.1 c.poll_next.new.self c.in-Stall.ensures.next c.in-Stall.ensures.gave
+    c.next.new.self c.in-More.ensures.gives.0 c.in-More.ensures.gives.1 c.in-More.ensures.settles c.poll_next.new.self c.in-Stall.ensures.next c.in-Stall.ensures.gave
 
 pub returns-in-Fault : goal.returns-in-Fault
 returns-in-Fault g c =

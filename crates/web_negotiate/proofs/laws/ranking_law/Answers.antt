@@ -2,7 +2,7 @@ use Rattle.web_negotiate.proofs.RankingLemmas.{permuted, preferred_first, otherw
 use Rattle.web_negotiate.proofs.RankedLemmas.{ranking_only}
 use Rattle.web_negotiate.specs.MediaChoices.{media_rank}
 use Rattle.web_negotiate.specs.Rankings.{quality_rank}
-use Rattle.web_headers.specs.declared.preferences.Preference.TheVariants as preference
+use Rattle.web_headers.specs.declared.accepts.preferences.Preference.TheVariants as preference
 use Rattle.web_negotiate.proofs.laws.ranking_law.Goals as goal
 
 pub returns : goal.returns

@@ -1,5 +1,5 @@
 use Rattle.std.proofs.Common.{Err, ap, subst, sym}
-use Rattle.web_headers.specs.TypedHeaders.{GivesValue}
+use Rattle.web_texts.specs.HeaderValues.{GivesValue}
 use Rattle.web_reply.proofs.HeaderStepLemmas.{is_valued, is_not_valued}
 use Rattle.web_reply.proofs.header_setting.valued.Goals as goal
 

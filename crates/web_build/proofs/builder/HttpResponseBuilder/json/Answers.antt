@@ -1,9 +1,9 @@
 use Rattle.std.proofs.Common.{ap, subst}
 use Rattle.std.specs.Prelude.{Ok, Err}
 use Rattle.web_texts.specs.declared.memory.Fail.{Fail}
-use Rattle.web_values.specs.Answers.{Answers}
-use Rattle.web_values.specs.PrintedValues.{PrintsJson}
-use Rattle.web_values.specs.declared.faults.WriteFault.{WriteFault}
+use Rattle.web_codec.specs.Answers.{Answers}
+use Rattle.web_codec.specs.PrintedValues.{PrintsJson}
+use Rattle.web_codec.specs.declared.faults.WriteFault.{WriteFault}
 use Rattle.web_reply.specs.ResponseBodies.{box_plain, whole_plain}
 use Rattle.web_reply.specs.Replies.{Fault, error_reply, plain_reply}
 use Rattle.web_build.proofs.BuiltLemmas.{gives_json, gives_same}

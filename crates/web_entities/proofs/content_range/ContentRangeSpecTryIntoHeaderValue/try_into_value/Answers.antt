@@ -1,6 +1,6 @@
 use Rattle.std.proofs.Common.{sym, ap, subst, ◌∙◌}
 use Rattle.http_header.specs.FieldValue.{plain_value}
-use Rattle.web_headers.specs.TypedHeaders.{GivesValue}
+use Rattle.web_texts.specs.HeaderValues.{GivesValue}
 use Rattle.web_entities.specs.ContentRanges.{content_range_text}
 use Rattle.web_entities.proofs.content_range.ContentRangeSpecTryIntoHeaderValue.try_into_value.Goals as goal
 

@@ -41,7 +41,7 @@ use borrow.Enum.SameAs.{Enum-same}
 use borrow.Tree.ForGood.{begins, ends}
 use borrow.Tree.Place.{View, Bk, mems, cutⱽ, shutⱽ}
 use Rattle.std.proofs.raw_atomic.Walks.{proved}
-use Rattle.web_texts.specs.declared.duplicate.Duplicate as Duplicate
+use Rattle.web_texts.specs.declared.memory.duplicate.Duplicate as Duplicate
 use Rattle.web_request.specs.declared.app.App as App
 use Rattle.web_request.specs.declared.app.AppLayer as AppLayer
 use Rattle.web_request.specs.declared.source.Source as Source

@@ -1,5 +1,0 @@
-use Rattle.web_arguments.proofs.ReadArgumentsLemmas.{only_read}
-use Rattle.web_arguments.proofs.laws.path_law.Goals as goal
-
-pub returns : goal.returns
-returns g c q = only_read _ _ _

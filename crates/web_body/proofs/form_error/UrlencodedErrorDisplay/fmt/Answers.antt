@@ -1,4 +1,0 @@
-use Rattle.web_body.proofs.form_error.UrlencodedErrorDisplay.fmt.Goals as goal
-
-pub returns-in-Overflow-clause-writes : goal.returns-in-Overflow-clause-writes
-returns-in-Overflow-clause-writes g c = rw c.in-Overflow.is c.write.ensures.writes

@@ -1,0 +1,12 @@
+pub mod Answers
+pub mod DataReaders
+pub mod DataWriters
+pub mod DecodedForms
+pub mod DecodedJson
+pub mod FaultTexts
+pub mod FieldReaders
+pub mod FieldWriters
+pub mod FormPairs
+pub mod JsonValues
+pub mod PrintedValues
+pub mod WholeNumbers

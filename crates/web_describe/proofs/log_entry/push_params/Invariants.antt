@@ -1,7 +1,0 @@
-use Rattle.std.proofs.Common.{◌≡◌, ◌++◌, flat_map, string_bytes, take}
-use Rattle.web_describe.specs.LogEntries.{param_line}
-use Rattle.web_describe.proofs.log_entry.push_params.Given as goal
-
-abbrev pub invariant-loop-pair : goal.invariant-loop-pair
-invariant-loop-pair l =
-    string_bytes l.out ≡ string_bytes l.fn.out ++ flat_map param_line (take l.pair-index l.params)

@@ -1,0 +1,6 @@
+use Rattle.web_extract.proofs.DecodedTextsLemmas.{bytes_extracted}
+use Rattle.web_extract.proofs.body.bytes_argument.BytesFromRequest.from_request.Goals as goal
+
+pub returns-clause-extracts : goal.returns-clause-extracts
+returns-clause-extracts g c =
+    bytes_extracted _ _ c.payload_config-config.ensures _ c.required_type.ensures _ c.limit_of.ensures _ _ _ _ c.in_ok-refusal.ensures.value _ c.new.ensures.extracts

@@ -1,0 +1,7 @@
+use Rattle.web_extract.proofs.ExtractsLemmas.{extracts4}
+use Rattle.web_extract.proofs.lists.tuple_four.Tuple4FromRequest.from_request.Goals as goal
+
+pub returns-clause-extracts : goal.returns-clause-extracts
+returns-clause-extracts g c =
+    extracts4 g.A.Error.Into.converts g.B.Error.Into.converts g.C.Error.Into.converts g.D.Error.Into.converts
+    _ _ _ _ _ _ _ _ _ _ _ c.in_ok-first.ensures.extracts c.in_ok-third.ensures.extracts

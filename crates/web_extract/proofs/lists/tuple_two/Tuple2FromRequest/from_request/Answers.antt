@@ -1,0 +1,6 @@
+use Rattle.web_extract.proofs.ExtractsLemmas.{extracts2}
+use Rattle.web_extract.proofs.lists.tuple_two.Tuple2FromRequest.from_request.Goals as goal
+
+pub returns-clause-extracts : goal.returns-clause-extracts
+returns-clause-extracts g c =
+    extracts2 g.A.Error.Into.converts g.B.Error.Into.converts _ _ _ _ _ _ c.in_ok-first.ensures.extracts

@@ -1,5 +1,0 @@
-use Rattle.web_extract.proofs.ExtractsLemmas.{extracts1}
-use Rattle.web_extract.proofs.tuple_one.Tuple1FromRequest.from_request.Goals as goal
-
-pub returns-clause-extracts : goal.returns-clause-extracts
-returns-clause-extracts g c = extracts1 g.A.Error.Into.converts _ _ _ _ c.in_ok-from_request.ensures.extracts

@@ -1,7 +1,0 @@
-use Rattle.web_extract.proofs.ExtractsLemmas.{extracts3}
-use Rattle.web_extract.proofs.tuple_three.Tuple3FromRequest.from_request.Goals as goal
-
-pub returns-clause-extracts : goal.returns-clause-extracts
-returns-clause-extracts g c =
-    extracts3 g.A.Error.Into.converts g.B.Error.Into.converts g.C.Error.Into.converts _ _ _ _ _ _ _ _ _
-    c.in_ok-first.ensures.extracts c.in_ok-second.ensures.extracts

@@ -1,0 +1,14 @@
+use denote.Shadow.{shadow}
+use denote.Text.{Utf8}
+use Rattle.std.proofs.Common.{◌≡◌, length}
+use Rattle.web_texts.specs.Blanks.{without_front}
+use Rattle.web_texts.proofs.grammar.blanks.trim_front.Given as goal
+
+abbrev pub invariant-blanks : goal.invariant-blanks
+invariant-blanks l = record {
+  same : without_front l.rest ≡ without_front l.text;
+  text : shadow (Utf8 l.rest);
+}
+
+abbrev pub decreases-blanks : goal.decreases-blanks
+decreases-blanks l = length l.rest
