@@ -1,5 +1,5 @@
 //! The causes of error replies.
-ghost use Rattle.std.specs.Prelude.{◌≡◌, ◌<◌, ◌++◌, IfOk, OnOk, length};
+ghost use Rattle.std.specs.Prelude.{◌≡◌, ◌<◌, ◌++◌, ◌∷◌, [], IfOk, OnOk, length};
 ghost use Rattle.web_reply.specs.JoinedErrors.{as_member, cause_members};
 
 use crate::errors::error::ResponseError;
@@ -168,8 +168,9 @@ impl Cause {
 
     /// Appends the one refusal of this cause.
     fn append_one(&self, alloc: Global, members: &mut Vec<Member>) -> Result<(), NoMemory>
-        ensures { OnOk result (members.new.items
+        ensures members { OnOk result (members.new.items
             ≡ members.old.items ++ as_member self.now ∷ []) }
+        ensures more { OnOk result (length members.old.items < length members.new.items) }
     {
         let member = self.as_member(alloc)?;
         members.push(member)?;
@@ -179,7 +180,8 @@ impl Cause {
 
 /// Appends several refusals.
 fn append_all(causes: Causes, members: &mut Vec<Member>) -> Result<(), NoMemory>
-    ensures { OnOk result (members.new.items ≡ members.old.items ++ causes.members) }
+    ensures members { OnOk result (members.new.items ≡ members.old.items ++ causes) }
+    ensures more { OnOk result (length members.old.items < length members.new.items) }
 {
     let mut own = causes.into_members();
     members.append(&mut own)?;
