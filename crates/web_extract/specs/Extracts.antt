@@ -10,6 +10,11 @@ Extracts means gives None new = ⊤
 Extracts {T} means gives (Some m) new =
     (rest : List Mark) × (new ≡ Some rest) × ((n : ℕ) (x : T) → gives n x → means m rest n x)
 
+-- the marks of the payload are left, and it gives only what is allowed for them, whatever they are
+abbrev pub ExtractsUnread :
+    {T : Type 0} → (List Mark → List Mark → ℕ → T → Type 0) → (ℕ → T → Type 0) → Type 0
+ExtractsUnread means gives = (m : List Mark) → Extracts means gives (Some m) (Some m)
+
 -- two futures: the second is made with the marks that the first leaves
 abbrev pub ExtractsBoth :
     {T U : Type 0} → (List Mark → List Mark → ℕ → T → Type 0)

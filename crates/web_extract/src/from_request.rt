@@ -4,7 +4,8 @@ ghost use Rattle.web_request.specs.declared.source.Mark.{Mark};
 ghost use Rattle.web_request.specs.Request.{Request};
 ghost use Rattle.web_body.specs.Payload.{payload_feed};
 ghost use Rattle.web_reply.specs.Replies.{Fault};
-ghost use Rattle.web_extract.specs.Extracts.{Extracts, ExtractsEmpty, AllowsSome};
+ghost use Rattle.web_extract.specs.Extracts.{Extracts, ExtractsEmpty, ExtractsUnread};
+ghost use Rattle.web_extract.specs.Extracts.{AllowsSome};
 
 use std::alloc::Global;
 use web_body::{Payload, Poll};
@@ -28,6 +29,11 @@ pub trait FromRequest<A: App>: Sized + Drop {
     /// keeps the default promises nothing.
     ghost needs_no_memory: { Request A.Layer A.Local A.Conn → Type 0 } = { λ _. ⊥ };
 
+    /// The requests whose payload is left as it is and decides nothing of the value, so that over
+    /// every source no other value comes than for that request. A type that keeps the default
+    /// promises nothing.
+    ghost leaves: { Request A.Layer A.Local A.Conn → Type 0 } = { λ _. ⊥ };
+
     /// Begins to extract a value. It takes the payload or leaves it as it is, also where allocation
     /// fails.
     fn from_request(
@@ -41,6 +47,9 @@ pub trait FromRequest<A: App>: Sized + Drop {
             (payload_feed A.Source.feed payload.old).marks
             (payload_feed A.Source.feed payload.new).marks) }
         ensures payload { (payload.new ≡ payload.old) ⊎ (payload.new ≡ Payload.None) }
+        ensures left { leaves req.now.request → payload.new ≡ payload.old }
+        ensures unread { leaves req.now.request
+            → IfOk result (λ f. ExtractsUnread (means req.now.request) (Self.Future.gives f)) }
         ensures memory { needs_no_memory req.now.request → IsOk result };
 
     /// Begins to extract a value from the request alone, with an empty payload.

@@ -61,6 +61,8 @@ impl<A: App, T: FromRequest<A>> FromRequest<A> for Option<T> {
 
     ghost needs_no_memory = { λ q. T.needs_no_memory q };
 
+    ghost leaves = { λ q. T.leaves q };
+
     ghost some = { λ q m. means_option_some (T.means q m) (T.some q m) };
 
     ghost converted = { never_converted };

@@ -66,6 +66,8 @@ where
 
     ghost needs_no_memory = { λ q. T.needs_no_memory q };
 
+    ghost leaves = { λ q. T.leaves q };
+
     ghost some = { λ q m. means_result_some ⟦<T::Error as Into<E>>⟧.converts
         T.Error.IntoSome.converted (T.means q m) (T.some q m) };
 

@@ -27,6 +27,7 @@ impl<T> Header<T> {
 /// Refused with `ParseError::Header` exactly where they say no value of the type: which headers
 /// may be absent is said at their types.
 impl<A: App, T: web_headers::Header + Drop> FromRequest<A> for Header<T> {
+    ghost use Rattle.std.specs.Prelude.{⊤};
     ghost use Rattle.web_extract_head.specs.HeaderArgument.{MeansHeader, header_some};
     ghost use Rattle.web_extract_head.specs.HeaderArgument.{parse_converted, request_values};
 
@@ -36,6 +37,8 @@ impl<A: App, T: web_headers::Header + Drop> FromRequest<A> for Header<T> {
 
     ghost means = { λ q m rest n x.
         MeansHeader (T.says (request_values T.called q)) m rest n x };
+
+    ghost leaves = { λ _. ⊤ };
 
     ghost some = { λ q m. header_some (T.says (request_values T.called q)) m };
 

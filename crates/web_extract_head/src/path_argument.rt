@@ -93,6 +93,7 @@ impl<A: App, T: ReadPairs> FromRequest<A> for Path<T>
 where
     A::Layer: Configs,
 {
+    ghost use Rattle.std.specs.Prelude.{⊤};
     ghost use Rattle.web_extract.specs.LayerConfigurations.{path_settings};
     ghost use Rattle.web_extract.specs.SomeAnswer.{itself};
     ghost use Rattle.web_extract_head.specs.PathArgument.{PathRefused, decoded_parameters};
@@ -107,6 +108,8 @@ where
         (PathRefused A.Layer.OnPath.refuses
         (path_settings A.Layer.Configs.configurations q.layers).handler q.head)
         (T.reads_pairs (decoded_parameters q.params)) m rest n x };
+
+    ghost leaves = { λ _. ⊤ };
 
     ghost some = { λ q m. read_some (λ v. v)
         (PathRefused A.Layer.OnPath.refuses

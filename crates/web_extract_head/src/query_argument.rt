@@ -88,6 +88,7 @@ impl<A: App, T: ReadPairs> FromRequest<A> for Query<T>
 where
     A::Layer: Configs,
 {
+    ghost use Rattle.std.specs.Prelude.{⊤};
     ghost use Rattle.web_codec.specs.FormPairs.{form_pairs};
     ghost use Rattle.web_request.specs.Head.{head_query};
     ghost use Rattle.web_extract.specs.LayerConfigurations.{query_settings};
@@ -103,6 +104,8 @@ where
         (QueryRefused A.Layer.OnQuery.refuses
         (query_settings A.Layer.Configs.configurations q.layers).handler q.head)
         (T.reads_pairs (form_pairs (head_query q.head))) m rest n x };
+
+    ghost leaves = { λ _. ⊤ };
 
     ghost some = { λ q m. read_some (λ v. record { 0 = v })
         (QueryRefused A.Layer.OnQuery.refuses

@@ -18,7 +18,7 @@ use Rattle.web_http1.specs.declared.ended.Ended.TheVariants as ended
 use Rattle.web_http1.specs.Answers.{Answer, AnswersAtFault, Behind, EndsAtEnd, EndsAtFault, MayGoOn, Served, refusal_bytes, replies}
 use Rattle.web_http1.specs.Connections.{AllOpen, ConnectionView, Finishes, FinishesWith, GoesOn, IsOwn, StepsTo, WaitsForMore, open_at}
 use Rattle.web_http1.specs.ConnectionSteps.{with_piece}
-use Rattle.web_http1.specs.Serving.{AnswersAll, AnswersUpToFault, StopsAtFault}
+use Rattle.web_http1.specs.Serving.{AnswersAll, AnswersUpToFault, StopsAtFault, UnlessLacking}
 use Rattle.web_http1.proofs.ConnectionLemmas.{goes_further, open_as}
 
 -- ---- the marks of the source
@@ -317,3 +317,9 @@ open_part (Some x) A B e h = absurd (cc)
 
 pub finishes_open : (c : ConnectionView) (e : Ended) (before behind : List ℕ) → c.ended ≡ None → Finishes c e before behind → FinishesWith c.limits c.left e before behind
 finishes_open c e before behind unended f = open_part c.ended _ _ unended f
+
+pub unless_lacking : (e : Ended) {P : Type 0} → P → UnlessLacking e P
+unless_lacking ended.Closed p = p
+unless_lacking (ended.Refused w) p = p
+unless_lacking ended.SourceFault p = p
+unless_lacking ended.NoMemory p = tt

@@ -32,3 +32,10 @@ StopsAtFault ended.SourceFault old new = Rose old new
 StopsAtFault ended.NoMemory old new = ⊤
 StopsAtFault ended.Closed old new = new ≡ old
 StopsAtFault (ended.Refused w) old new = new ≡ old
+
+-- unless an allocation failed
+abbrev pub UnlessLacking : Ended → Type 0 → Type 0
+UnlessLacking ended.NoMemory P = ⊤
+UnlessLacking ended.SourceFault P = P
+UnlessLacking ended.Closed P = P
+UnlessLacking (ended.Refused w) P = P

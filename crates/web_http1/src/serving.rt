@@ -8,6 +8,7 @@ ghost use Rattle.web_worker.specs.PlanPools.{with_records};
 ghost use Rattle.web_http1.specs.Connections.{open_bytes};
 ghost use Rattle.web_http1.specs.ConnectionSteps.{TakesPiece};
 ghost use Rattle.web_http1.specs.Serving.{AnswersAll, AnswersUpToFault, StopsAtFault};
+ghost use Rattle.web_http1.specs.Serving.{UnlessLacking};
 
 use crate::connection::Connection;
 use crate::ended::Ended;
@@ -52,7 +53,8 @@ where
 ///
 /// Each message becomes an exchange without parameters, layers of its own, connection data, request
 /// data and peer, and is polled until it is answered; a stall of the source is passed over. The
-/// source is read until it ends or fails, or until a reply closes the connection.
+/// source is read until it ends or fails, or until a reply closes the connection. Where the source
+/// lacks memory for a piece, so that bytes are lost, the connection ends in `NoMemory`.
 ///
 /// Its header maps have keys of zero, for senders that do not choose names that collide;
 /// `serve_connection_with` takes keys.
@@ -79,6 +81,8 @@ where
         → AnswersUpToFault (⟦<H as Serves<A, Args>>⟧.setting handler.old worker.old) limits
         (piece_bytes marks) result out.old.items out.new.items }
     ensures faults { StopsAtFault result (S.feed source.old).faults (S.feed source.new).faults }
+    ensures lacked { UnlessLacking result
+        ((S.feed source.new).lacked ≡ (S.feed source.old).lacked) }
     ensures made { worker.new.made
         ≤ worker.old.made + ((S.feed source.new).given - (S.feed source.old).given) }
     ensures kept { worker.new ≡ with_records worker.new.serials worker.new.made worker.old }
@@ -112,6 +116,8 @@ where
         → AnswersUpToFault (⟦<H as Serves<A, Args>>⟧.setting handler.old worker.old) limits
         (piece_bytes marks) result out.old.items out.new.items }
     ensures faults { StopsAtFault result (S.feed source.old).faults (S.feed source.new).faults }
+    ensures lacked { UnlessLacking result
+        ((S.feed source.new).lacked ≡ (S.feed source.old).lacked) }
     ensures made { worker.new.made
         ≤ worker.old.made + ((S.feed source.new).given - (S.feed source.old).given) }
     ensures kept { worker.new ≡ with_records worker.new.serials worker.new.made worker.old }

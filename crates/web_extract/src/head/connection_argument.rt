@@ -9,7 +9,7 @@ use web_request::{App, ConnectionInfo, HttpRequest, NoMemory};
 /// What the head says of the connection, at the first poll. It is computed anew and not kept with
 /// the request. It is never refused, and the payload is left.
 impl<A: App> FromRequest<A> for ConnectionInfo {
-    ghost use Rattle.std.specs.Prelude.{Ok};
+    ghost use Rattle.std.specs.Prelude.{Ok, ⊤};
     ghost use Rattle.web_request.specs.Connections.{connection_of};
     ghost use Rattle.web_extract.specs.HeadArguments.{MeansNow, now_some};
     ghost use Rattle.web_extract.specs.Never.{never_converted};
@@ -20,6 +20,8 @@ impl<A: App> FromRequest<A> for ConnectionInfo {
 
     ghost means = { λ q m rest n x.
         MeansNow (Ok (connection_of q.head q.config)) m rest n x };
+
+    ghost leaves = { λ _. ⊤ };
 
     ghost some = { λ q m. now_some (Ok (connection_of q.head q.config)) m };
 

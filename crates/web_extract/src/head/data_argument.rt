@@ -14,6 +14,7 @@ impl<A: App, T: Drop> FromRequest<A> for Data<T>
 where
     A::Layer: Holds<Data<T>>,
 {
+    ghost use Rattle.std.specs.Prelude.{⊤};
     ghost use Rattle.web_extract.specs.DataArguments.{data_result};
     ghost use Rattle.web_extract.specs.HeadArguments.{MeansNow, now_some};
     ghost use Rattle.web_extract.specs.SomeAnswer.{itself};
@@ -24,6 +25,8 @@ where
 
     ghost means = { λ q m rest n x.
         MeansNow (data_result A.Layer.Holds.held q.layers).result m rest n x };
+
+    ghost leaves = { λ _. ⊤ };
 
     ghost some = { λ q m. now_some (data_result A.Layer.Holds.held q.layers).result m };
 

@@ -9,7 +9,7 @@ use web_request::{App, HttpRequest, NoMemory};
 
 /// A copy of the method, at the first poll. It is never refused, and the payload is left.
 impl<A: App> FromRequest<A> for Method {
-    ghost use Rattle.std.specs.Prelude.{Ok};
+    ghost use Rattle.std.specs.Prelude.{Ok, ⊤};
     ghost use Rattle.web_extract.specs.HeadArguments.{MeansNow, now_some};
     ghost use Rattle.web_extract.specs.Never.{never_converted};
 
@@ -18,6 +18,8 @@ impl<A: App> FromRequest<A> for Method {
     type Future = Ready<Result<Method, Never>>;
 
     ghost means = { λ q m rest n x. MeansNow (Ok q.head.method) m rest n x };
+
+    ghost leaves = { λ _. ⊤ };
 
     ghost some = { λ q m. now_some (Ok q.head.method) m };
 

@@ -20,6 +20,8 @@ impl<A: App> FromRequest<A> for PeerAddr {
 
     ghost needs_no_memory = { λ _. ⊤ };
 
+    ghost leaves = { λ _. ⊤ };
+
     ghost some = { λ q m. now_some (peer_or_missing q.head.peer) m };
 
     ghost converted = { missing_peer_converted };

@@ -8,6 +8,7 @@ use web_request::{App, HttpRequest, NoMemory};
 
 /// The request itself, duplicated, at the first poll. It is never refused, and the payload is left.
 impl<A: App> FromRequest<A> for HttpRequest<A> {
+    ghost use Rattle.std.specs.Prelude.{⊤};
     ghost use Rattle.web_extract.specs.HeadArguments.{AllowsNow, IsRequest, request_some};
     ghost use Rattle.web_extract.specs.SomeAnswer.{itself};
 
@@ -16,6 +17,8 @@ impl<A: App> FromRequest<A> for HttpRequest<A> {
     type Future = Ready<Result<HttpRequest<A>, Error>>;
 
     ghost means = { λ q m rest n x. AllowsNow (IsRequest q) m rest n x };
+
+    ghost leaves = { λ _. ⊤ };
 
     ghost some = { λ q m. request_some q m };
 

@@ -28,6 +28,7 @@ impl<A: App, T: Duplicate> FromRequest<A> for ReqData<T>
 where
     A::Local: Holds<T>,
 {
+    ghost use Rattle.std.specs.Prelude.{⊤};
     ghost use Rattle.web_extract.specs.DataArguments.{request_data_result};
     ghost use Rattle.web_extract.specs.HeadArguments.{MeansNow, now_some};
     ghost use Rattle.web_extract.specs.SomeAnswer.{itself};
@@ -38,6 +39,8 @@ where
 
     ghost means = { λ q m rest n x.
         MeansNow (request_data_result A.Local.Holds.held q.local).result m rest n x };
+
+    ghost leaves = { λ _. ⊤ };
 
     ghost some = { λ q m. now_some (request_data_result A.Local.Holds.held q.local).result m };
 

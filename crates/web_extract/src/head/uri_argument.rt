@@ -9,6 +9,7 @@ use web_request::{App, HttpRequest, NoMemory};
 
 /// A copy of the request target, at the first poll. It is never refused, and the payload is left.
 impl<A: App> FromRequest<A> for Uri {
+    ghost use Rattle.std.specs.Prelude.{⊤};
     ghost use Rattle.web_extract.specs.HeadArguments.{MeansUri, uri_some};
     ghost use Rattle.web_extract.specs.Never.{never, never_converted};
 
@@ -17,6 +18,8 @@ impl<A: App> FromRequest<A> for Uri {
     type Future = Ready<Result<Uri, Never>>;
 
     ghost means = { λ q m rest n x. MeansUri q.head m rest n x };
+
+    ghost leaves = { λ _. ⊤ };
 
     ghost some = { λ q m. uri_some q.head never m };
 

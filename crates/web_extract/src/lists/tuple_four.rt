@@ -99,6 +99,8 @@ impl<
     ghost needs_no_memory = { λ q.
         A.needs_no_memory q × B.needs_no_memory q × C.needs_no_memory q × D.needs_no_memory q };
 
+    ghost leaves = { λ q. A.leaves q × B.leaves q × C.leaves q × D.leaves q };
+
     ghost some = { λ q m. means4_some
         (Member A.Error.converts (A.means q))
         (Member B.Error.converts (B.means q))

@@ -65,6 +65,8 @@ impl<P: App, A: FromRequest<P>> FromRequest<P> for (A,) {
 
     ghost needs_no_memory = { λ q. A.needs_no_memory q };
 
+    ghost leaves = { λ q. A.leaves q };
+
     ghost some = { λ q m. means1_some (Member A.Error.converts (A.means q))
         (member_some A.Error.converts A.converted (A.means q) (A.some q)) m };
 

@@ -78,6 +78,8 @@ impl<P: App, A: FromRequest<P>, B: FromRequest<P>, C: FromRequest<P>> FromReques
     ghost needs_no_memory = { λ q.
         A.needs_no_memory q × B.needs_no_memory q × C.needs_no_memory q };
 
+    ghost leaves = { λ q. A.leaves q × B.leaves q × C.leaves q };
+
     ghost some = { λ q m. means3_some
         (Member A.Error.converts (A.means q))
         (Member B.Error.converts (B.means q))

@@ -4,7 +4,7 @@ ghost use Rattle.web_body.specs.Payload.{payload_feed};
 ghost use Rattle.web_body.specs.PollSteps.{IfReady, IsPending, NeverNoMemory};
 ghost use Rattle.web_reply.specs.JoinedErrors.{join};
 ghost use Rattle.web_extract.specs.CollectedResults.{IsOneRefusal, collected2};
-ghost use Rattle.web_extract.specs.Extracts.{ExtractsBoth};
+ghost use Rattle.web_extract.specs.Extracts.{ExtractsBoth, ExtractsUnread};
 ghost use Rattle.web_extract.specs.Place.{PlaceNeedsNoMemory, place_finished, place_comes};
 
 use crate::from_request::FromRequest;
@@ -113,6 +113,11 @@ pub(crate) fn both<P: App, A: FromRequest<P>, B: FromRequest<P>>(
         (payload_feed P.Source.feed payload.old).marks
         (payload_feed P.Source.feed payload.new).marks) }
     ensures payload { (payload.new ≡ payload.old) ⊎ (payload.new ≡ Payload.None) }
+    ensures left { A.leaves req.now.request × B.leaves req.now.request
+        → payload.new ≡ payload.old }
+    ensures unread { A.leaves req.now.request × B.leaves req.now.request
+        → IfOk result (λ f. ExtractsUnread (A.means req.now.request) (A.Future.gives f.0)
+        × ExtractsUnread (B.means req.now.request) (B.Future.gives f.1)) }
     ensures memory { A.needs_no_memory req.now.request × B.needs_no_memory req.now.request
         → IsOk result }
 {
@@ -135,6 +140,8 @@ impl<P: App, A: FromRequest<P>, B: FromRequest<P>> FromRequest<P> for (A, B) {
         (Member B.Error.converts (B.means q)) m rest n x };
 
     ghost needs_no_memory = { λ q. A.needs_no_memory q × B.needs_no_memory q };
+
+    ghost leaves = { λ q. A.leaves q × B.leaves q };
 
     ghost some = { λ q m. means2_some
         (Member A.Error.converts (A.means q))

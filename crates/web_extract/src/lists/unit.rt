@@ -22,6 +22,8 @@ impl<A: App> FromRequest<A> for () {
 
     ghost needs_no_memory = { λ _. ⊤ };
 
+    ghost leaves = { λ _. ⊤ };
+
     ghost some = { λ q m. unit_some m };
 
     ghost converted = { never_converted };

@@ -7,7 +7,7 @@ use Rattle.web_messages.specs.declared.limits.Limits.{Limits}
 use Rattle.web_http1.specs.Connections.{ConnectionView, FinishesWith, ended_at}
 use Rattle.web_http1.specs.ConnectionSteps.{with_piece}
 use Rattle.web_http1.proofs.ConnectionLemmas.{steps_as}
-use Rattle.web_http1.proofs.ServingLemmas.{ended_all, ended_up_to, failed_up_to, finished, finishes_open, is_faultless, is_faulty, lacks_memory, last_fault, none_after, pieced, stalled, starts, stops_finished, stops_own, waits_empty}
+use Rattle.web_http1.proofs.ServingLemmas.{ended_all, ended_up_to, failed_up_to, finished, finishes_open, is_faultless, is_faulty, lacks_memory, last_fault, none_after, pieced, stalled, starts, stops_finished, stops_own, unless_lacking, waits_empty}
 use Rattle.web_http1.proofs.SettingLemmas.{same_all, same_then}
 use Rattle.web_http1.proofs.serving.serve_connection_with.Goals as goal
 
@@ -25,6 +25,7 @@ turns-init g c =
       made = let none = ap (λ (k : ConnectionView). length k.left) is_new in omega (arith, none);
       kept = refl;
       faults = refl;
+      lacked = refl;
       so_far = λ marks is.
           starts s c.args.limits marks (g.S.Source.feed c.args.source.now) c.with_room-connection.result c.args.out.now.items is
           (ap (λ (k : ConnectionView). k.limits) is_new) (ap (λ (k : ConnectionView). k.left) is_new) (ap (λ (k : ConnectionView). k.ended) is_new);
@@ -71,6 +72,9 @@ returns-in-Some-clause-faults g c =
     let takes = rw c.in-Some.is at c.take_piece-ended.ensures.takes in
     stops_own c.in-Some.ended _ _ takes.0 (c.in-Piece.ensures.next.faults ∙ c.turns.invariant.faults)
 
+pub returns-in-Some-clause-lacked : goal.returns-in-Some-clause-lacked
+returns-in-Some-clause-lacked g c = unless_lacking c.in-Some.ended (c.in-Piece.ensures.next.lacked ∙ c.turns.invariant.lacked)
+
 pub returns-in-Some-clause-made : goal.returns-in-Some-clause-made
 returns-in-Some-clause-made g c =
     let made = c.take_piece-ended.ensures.made in
@@ -102,6 +106,7 @@ turns-preserved-in_default g c =
           omega (arith, made, so_far, given, least);
       kept = c.take_piece-ended.ensures.kept ∙ ap (λ (z : Pool _). with_records c.take_piece-ended.new.worker.serials c.take_piece-ended.new.worker.made z) c.turns.invariant.kept;
       faults = c.in-Piece.ensures.next.faults ∙ c.turns.invariant.faults;
+      lacked = c.in-Piece.ensures.next.lacked ∙ c.turns.invariant.lacked;
       so_far = λ marks is.
           pieced s c.args.limits marks (g.S.Source.feed c.turns.source) (g.S.Source.feed c.next.new.self) c.turns.connection c.args.out.now.items c.turns.out.items c.turns.invariant.unended c.turns.invariant.limits_are (c.turns.invariant.so_far marks is) c.in-Piece.piece c.take_piece-ended.new.connection c.take_piece-ended.new.out.items takes.1 c.in-Piece.ensures.next step;
     }
@@ -126,6 +131,7 @@ turns-preserved-in_default-2 g c =
           omega (arith, made, so_far, given, least);
       kept = c.take_piece-ended.ensures.kept ∙ ap (λ (z : Pool _). with_records c.take_piece-ended.new.worker.serials c.take_piece-ended.new.worker.made z) c.turns.invariant.kept;
       faults = c.in-Piece.ensures.next.faults ∙ c.turns.invariant.faults;
+      lacked = c.in-Piece.ensures.next.lacked ∙ c.turns.invariant.lacked;
       so_far = λ marks is.
           pieced s c.args.limits marks (g.S.Source.feed c.turns.source) (g.S.Source.feed c.next.new.self) c.turns.connection c.args.out.now.items c.turns.out.items c.turns.invariant.unended c.turns.invariant.limits_are (c.turns.invariant.so_far marks is) c.in-Piece.piece c.take_piece-ended.new.connection c.take_piece-ended.new.out.items takes.1 c.in-Piece.ensures.next step;
     }
@@ -146,6 +152,7 @@ turns-preserved g c =
           omega (arith, so_far, given);
       kept = c.turns.invariant.kept;
       faults = c.in-Stall.ensures.next.faults ∙ c.turns.invariant.faults;
+      lacked = c.in-Stall.ensures.next.lacked ∙ c.turns.invariant.lacked;
       so_far = λ marks is. stalled s c.args.limits marks (g.S.Source.feed c.turns.source) (g.S.Source.feed c.next.new.self) c.turns.connection c.args.out.now.items c.turns.out.items c.turns.invariant.unended c.turns.invariant.limits_are (c.turns.invariant.so_far marks is) c.in-Stall.ensures.next;
     }
 
@@ -169,6 +176,9 @@ returns-in-Fault-clause-fault g c = λ marks is yes.
 pub returns-in-Fault-clause-faults : goal.returns-in-Fault-clause-faults
 returns-in-Fault-clause-faults g c =
     subst (λ (n : ℕ). Rose n (g.S.Source.feed c.next.new.self).faults) c.turns.invariant.faults c.in-Fault.ensures.next.rose
+
+pub returns-in-Fault-clause-lacked : goal.returns-in-Fault-clause-lacked
+returns-in-Fault-clause-lacked g c = c.in-Fault.ensures.next.lacked ∙ c.turns.invariant.lacked
 
 pub returns-in-Fault-clause-made : goal.returns-in-Fault-clause-made
 returns-in-Fault-clause-made g c =
@@ -206,6 +216,9 @@ returns-in-End-clause-faults g c =
     let done = finishes_open c.turns.connection c.finish.result c.turns.out.items c.finish.new.out.items c.turns.invariant.unended c.finish.ensures.finishes in
     stops_finished c.turns.connection.limits c.turns.connection.left c.finish.result c.turns.out.items c.finish.new.out.items _ _ done
     (c.in-End.ensures.next.faults ∙ c.turns.invariant.faults)
+
+pub returns-in-End-clause-lacked : goal.returns-in-End-clause-lacked
+returns-in-End-clause-lacked g c = unless_lacking c.finish.result (c.in-End.ensures.next.lacked ∙ c.turns.invariant.lacked)
 
 pub returns-in-End-clause-made : goal.returns-in-End-clause-made
 returns-in-End-clause-made g c =

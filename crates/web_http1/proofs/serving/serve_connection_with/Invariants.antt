@@ -18,6 +18,7 @@ invariant-turns g l = record {
   made : l.worker.made + length l.connection.left ≤ l.fn.worker.made + ((g.S.Source.feed l.source).given - (g.S.Source.feed l.fn.source).given);
   kept : l.worker ≡ with_records l.worker.serials l.worker.made l.fn.worker;
   faults : (g.S.Source.feed l.source).faults ≡ (g.S.Source.feed l.fn.source).faults;
+  lacked : (g.S.Source.feed l.source).lacked ≡ (g.S.Source.feed l.fn.source).lacked;
   so_far : (marks : List Mark) → (g.S.Source.feed l.fn.source).marks ≡ Some marks
       → SoFar (setting_of g.Args.FromRequest.means g.Args.Error.Into.converts (g.H.Handler.answers l.fn.handler) g.H.Output.Responder.responds g.A.Source.Source.feed g.Args.Future.Poll.gives g.H.Future.Poll.gives l.fn.worker) l.fn.limits marks (g.S.Source.feed l.source) l.connection l.fn.out.items l.out.items;
 }

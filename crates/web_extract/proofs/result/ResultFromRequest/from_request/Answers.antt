@@ -3,3 +3,6 @@ use Rattle.web_extract.proofs.result.ResultFromRequest.from_request.Goals as goa
 
 pub returns-in-Ok-clause-extracts : goal.returns-in-Ok-clause-extracts
 returns-in-Ok-clause-extracts g c = extracts_result g.T.Error.Into-2.converts _ _ _ _ c.in-Ok.ensures.extracts
+
+pub returns-in-Ok-clause-unread : goal.returns-in-Ok-clause-unread
+returns-in-Ok-clause-unread g c = λ leaves m. extracts_result g.T.Error.Into-2.converts _ _ _ _ (c.in-Ok.ensures.unread leaves m)

@@ -3,3 +3,6 @@ use Rattle.web_extract.proofs.lists.tuple_one.Tuple1FromRequest.from_request.Goa
 
 pub returns-clause-extracts : goal.returns-clause-extracts
 returns-clause-extracts g c = extracts1 g.A.Error.Into.converts _ _ _ _ c.in_ok-from_request.ensures.extracts
+
+pub returns-clause-unread : goal.returns-clause-unread
+returns-clause-unread g c = λ leaves m. extracts1 g.A.Error.Into.converts _ _ _ _ (c.in_ok-from_request.ensures.unread leaves m)
