@@ -19,7 +19,7 @@ pub use handler::{FnHandler, Handler};
 pub use laws::{distinct_serials_law, isolation_law};
 pub use outcome::Outcome;
 pub use plan_entry::PlanEntry;
-pub use polling::poll_one;
+pub use polling::{poll_flight, poll_one};
 pub use serving::{serve_all, serve_flights};
 pub use setting::Serves;
 pub use worker::Worker;

@@ -5,6 +5,7 @@ ghost use Rattle.web_request.specs.Pool.{Pool, after_start, new_record, next_ser
 ghost use Rattle.web_request.specs.Request.{Record};
 ghost use Rattle.web_worker.specs.Exchanges.{ExchangeView, FlightView, IsUnfinished, flight_view};
 ghost use Rattle.web_worker.specs.Exchanges.{request_of};
+ghost use Rattle.web_worker.specs.Flights.{is_open};
 ghost use Rattle.web_worker.specs.HandlerPromises.{SamePromises};
 ghost use Rattle.web_worker.specs.PollOne.{CallEffectAt, EffectAt, FlightPoll, IsIdle, PollsAt};
 ghost use Rattle.web_worker.specs.PoolSteps.{HeldOrReturned, TakesOrReturns};
@@ -354,4 +355,27 @@ where
         k flights.old flights.new (H.calls handler.old) (H.calls handler.new) }
 {
     poll_at(alloc, &mut worker.pool, handler, flights, k);
+}
+
+/// Polls one flight once, as `poll_one` polls one of a list. An answered one stays as it is.
+pub fn poll_flight<A: App, Args: FromRequest<A>, H: Handler<Args>>(
+    alloc: Global,
+    worker: &mut Worker<A>,
+    handler: &mut H,
+    flight: &mut Flight<A, Args, H>,
+)
+where
+    H::Output: Responder<A>,
+    requires room { worker.old.made + may_make (Some flight.old) < 2 ^ 64 }
+    requires ready { H.ready handler.old }
+    ensures ready { H.ready handler.new }
+    ensures same_promises { SamePromises (H.answers handler.old) (H.answers handler.new) }
+    ensures idle { is_open flight.old ≡ false → handler.new ≡ handler.old }
+    ensures polls { FlightPoll (⟦<H as Serves<A, Args>>⟧.setting handler.old worker.old)
+        flight.old flight.new worker.old worker.new
+        (H.calls handler.old) (H.calls handler.new) }
+{
+    if flight.is_open() {
+        poll_stage(alloc, &mut worker.pool, handler, &mut flight.stage);
+    }
 }
