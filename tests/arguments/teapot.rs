@@ -21,10 +21,6 @@ fn teapot_error<E: fmt::Display>(alloc: Global, fault: &E) -> Result<Error, NoMe
 }
 
 impl Refuse<PathError> for Teapot {
-    ghost use Rattle.std.specs.Prelude.{⊤};
-
-    ghost refuses = { λ handler fault head x. ⊤ };
-
     fn refuse(
         &self,
         alloc: Global,
@@ -36,10 +32,6 @@ impl Refuse<PathError> for Teapot {
 }
 
 impl Refuse<QueryPayloadError> for Teapot {
-    ghost use Rattle.std.specs.Prelude.{⊤};
-
-    ghost refuses = { λ handler fault head x. ⊤ };
-
     fn refuse(
         &self,
         alloc: Global,

@@ -60,15 +60,9 @@ struct LoggingHandler {
 }
 
 impl Handler<Picked> for LoggingHandler {
-    ghost use Rattle.std.specs.Prelude.{None};
-
     type Output = Bytes;
 
     type Future = LoggedFuture;
-
-    ghost answers = { λ h picked n y. ⊤ };
-
-    ghost calls = { λ h. None };
 
     fn call(&mut self, _alloc: Global, picked: Picked) -> Result<LoggedFuture, NoMemory> {
         let label = match picked {

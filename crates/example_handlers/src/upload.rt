@@ -17,7 +17,7 @@ use web_worker::Handler;
 pub struct Upload;
 
 impl Handler<Multipart<65_536>> for Upload {
-    ghost use Rattle.std.specs.Prelude.{◌≡◌, None};
+    ghost use Rattle.std.specs.Prelude.{◌≡◌};
     ghost use Rattle.example_handlers.specs.Uploads.{receipt_of};
 
     type Output = (Text, StatusCode);
@@ -25,8 +25,6 @@ impl Handler<Multipart<65_536>> for Upload {
     type Future = Ready<(Text, StatusCode)>;
 
     ghost answers = { λ h form n y. (n ≡ 0) × (y ≡ receipt_of form) };
-
-    ghost calls = { λ h. None };
 
     fn call(
         &mut self,
@@ -64,15 +62,9 @@ fn receipt(alloc: Global, parts: &[Part]) -> Result<(Text, StatusCode), NoMemory
 pub struct PartByPart;
 
 impl<A: App> Handler<(HttpRequest<A>, Payload<A::Source>)> for PartByPart {
-    ghost use Rattle.std.specs.Prelude.{None, ⊤};
-
     type Output = Result<Text, Error>;
 
     type Future = PartSizes<A::Source>;
-
-    ghost answers = { λ h args n y. ⊤ };
-
-    ghost calls = { λ h. None };
 
     fn call(
         &mut self,

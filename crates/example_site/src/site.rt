@@ -81,15 +81,9 @@ impl Site {
 }
 
 impl Handler<(HttpRequest<Plain>, Payload<Marks>)> for Site {
-    ghost use Rattle.std.specs.Prelude.{None, ⊤};
-
     type Output = Reply;
 
     type Future = Ready<Reply>;
-
-    ghost answers = { λ h args n y. ⊤ };
-
-    ghost calls = { λ h. None };
 
     fn call(
         &mut self,

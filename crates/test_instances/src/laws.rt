@@ -35,15 +35,9 @@ type Arguments = (Bytes, Option<Bytes>);
 struct Empty;
 
 impl<Args: Drop> Handler<Args> for Empty {
-    ghost use Rattle.std.specs.Prelude.{None, ⊤};
-
     type Output = Bytes;
 
     type Future = Ready<Bytes>;
-
-    ghost answers = { λ h args n y. ⊤ };
-
-    ghost calls = { λ h. None };
 
     fn call(&mut self, _alloc: Global, _args: Args) -> Result<Ready<Bytes>, NoMemory> {
         Ok(Ready::new(Bytes::new()))

@@ -163,8 +163,6 @@ impl Handler<Label> for LabelHandler {
 
     type Future = Ready<Bytes>;
 
-    ghost answers = { λ h label n y. ⊤ };
-
     ghost calls = { λ h. Some h.calls.items };
 
     fn call(&mut self, _alloc: Global, label: Label) -> Result<Ready<Bytes>, NoMemory> {

@@ -16,11 +16,12 @@ pub trait Handler<Args> {
     type Future: Poll<Output = Self::Output>;
 
     /// Whether, called with these arguments, it may give this value after this number of polls
-    /// that return `Pending`.
-    ghost answers: { Self → Args → ℕ → Self.Output → Type 0 };
+    /// that return `Pending`. A handler that keeps the default promises nothing.
+    ghost answers: { Self → Args → ℕ → Self.Output → Type 0 } = { λ _ _ _ _. ⊤ };
 
-    /// The arguments that it was called with, the oldest first, where it keeps them.
-    ghost calls: { Self → Option (List Args) };
+    /// The arguments that it was called with, the oldest first, where it keeps them; by default it
+    /// keeps none.
+    ghost calls: { Self → Option (List Args) } = { λ _. None };
 
     /// What it needs in order to be called.
     ghost ready: { Self → Type 0 } = { λ _. ⊤ };

@@ -1,5 +1,5 @@
 //! Handlers of refusals.
-ghost use Rattle.std.specs.Prelude.{◌≡◌, IfOk};
+ghost use Rattle.std.specs.Prelude.{◌≡◌, IfOk, ⊤};
 ghost use Rattle.web_request.specs.Head.{Head, head_view};
 ghost use Rattle.web_reply.specs.Replies.{Fault};
 ghost use Rattle.web_extract.specs.Refusals.{ClosureRefuses, no_refusal};
@@ -16,8 +16,9 @@ pub trait Refuse<E>: Drop {
     ghost ready: { Self → Type 0 } = { λ _. Unit {0} };
 
     /// Whether this error may be answered to a refusal of a request with this head. A handler that
-    /// is a function `f` states `λ h e head x. x ≡ f h e head`.
-    ghost refuses: { Self → E → Head → Fault → Type 0 };
+    /// is a function `f` states `λ h e head x. x ≡ f h e head`. One that keeps the default promises
+    /// nothing.
+    ghost refuses: { Self → E → Head → Fault → Type 0 } = { λ _ _ _ _. ⊤ };
 
     /// The error of a refusal, for a request with this head.
     fn refuse(&self, alloc: Global, fault: E, head: &RequestHead) -> Result<Error, NoMemory>
