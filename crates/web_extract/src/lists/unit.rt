@@ -10,7 +10,7 @@ use web_request::{App, HttpRequest, NoMemory};
 impl<A: App> FromRequest<A> for () {
     ghost use Rattle.std.specs.Prelude.{◌≡◌, IsOk, IfOk, false, is_none, ⊤};
     ghost use Rattle.web_body.specs.Payload.{payload_feed};
-    ghost use Rattle.web_extract.specs.Extracts.{Extracts};
+    ghost use Rattle.web_extract.specs.Extracts.{Extracts, ExtractsUnread};
     ghost use Rattle.web_extract.specs.ReadyFuture.{GivesHeld, MeansUnit, unit_some};
     ghost use Rattle.web_extract.specs.Never.{never_converted};
 
@@ -38,6 +38,8 @@ impl<A: App> FromRequest<A> for () {
             (λ m rest n x. MeansUnit m rest n x) (λ n x. GivesHeld f n x)
             (payload_feed A.Source.feed _payload.old).marks
             (payload_feed A.Source.feed _payload.new).marks) }
+        ensures unread { IfOk result (λ f. ExtractsUnread
+            (λ m rest n x. MeansUnit m rest n x) (λ n x. GivesHeld f n x)) }
         ensures memory { IsOk result }
         ensures kept { _payload.new ≡ _payload.old }
     {

@@ -10,5 +10,9 @@ returns-clause-extracts g c =
 pub returns-clause-unread : goal.returns-clause-unread
 returns-clause-unread g c = λ leaves m.
     let rest = c.in_ok-second.ensures.unread (leaves.1, leaves.2) in
-    extracts3 g.A.Error.Into.converts g.B.Error.Into.converts g.C.Error.Into.converts _ _ _ _ _ _ _ _ _
+    extracts3 g.A.Error.Into.converts g.B.Error.Into.converts g.C.Error.Into.converts
+    (g.A.FromRequest.means c.args.req.now.request) (g.B.FromRequest.means c.args.req.now.request)
+    (g.C.FromRequest.means c.args.req.now.request) (g.A.Future.Poll.gives c.in_ok-first.first)
+    (g.B.Future.Poll.gives c.in_ok-second.second) (g.C.Future.Poll.gives c.in_ok-second.third)
+    (Some m) (Some m) (Some m)
     (c.in_ok-first.ensures.unread leaves.0 m) (Some m, rest.0 m, rest.1 m)

@@ -9,4 +9,7 @@ returns-clause-extracts g c =
 pub returns-clause-unread : goal.returns-clause-unread
 returns-clause-unread g c = λ leaves m.
     let each = c.in_ok-first.ensures.unread leaves in
-    extracts2 g.A.Error.Into.converts g.B.Error.Into.converts _ _ _ _ _ _ (Some m, each.0 m, each.1 m)
+    extracts2 g.A.Error.Into.converts g.B.Error.Into.converts
+    (g.A.FromRequest.means c.args.req.now.request) (g.B.FromRequest.means c.args.req.now.request)
+    (g.A.Future.Poll.gives c.in_ok-first.first) (g.B.Future.Poll.gives c.in_ok-first.second)
+    (Some m) (Some m) (Some m, each.0 m, each.1 m)
