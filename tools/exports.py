@@ -10,11 +10,7 @@ MODULE = re.compile(r"^(?P<how>pub )?mod (?P<name>\w+);", re.M)
 
 def root(crate):
     """The text of a library's lib.rt, or None where the crate is none."""
-    path = os.path.join(repository.TOP, "crates", crate, "src", "lib.rt")
-    if not os.path.exists(path):
-        return None
-    with open(path, encoding="utf-8") as opened:
-        return opened.read()
+    return repository.text_of(f"crates/{crate}/src/lib.rt")
 
 
 def used(text):

@@ -3,7 +3,9 @@
 A group is a folder of tests/, or the folder tests/ of a crate, by the crate's name. Each of its files is a module, which
 sees the others by `crate::`. The tests of a program stand among its own modules, and see these so too. One with a file
 `main.rs` is a program, which reads its file `stdin` and has to write its file `stdout`. A library whose name begins with
-`test_` is a group as well, though it is proved, and `pages` are the examples that stand in pages alone."""
+`test_` is a group as well, though it is proved, and `pages` are the examples that stand in pages alone.
+
+The files of tests/shared are helpers: one that a group names, as `crate::compare`, becomes a module of this group."""
 import os
 import re
 import shutil
@@ -13,12 +15,13 @@ import repository
 import toolchain
 
 PAGES = "pages"
+SHARED = "shared"
 # An attribute of the root of a crate, or its page.
 OF_ROOT = ("#![", "//!")
 
 
 def folders():
-    """The folder of each group whose tests stand in files `.rs`."""
+    """The folder of each group whose tests stand in files `.rs`, and that of the helpers."""
     top = os.path.join(repository.TOP, "tests")
     found = {it: os.path.join(top, it) for it in sorted(os.listdir(top)) if os.path.isdir(os.path.join(top, it))}
     for crate in repository.crates():
@@ -33,6 +36,13 @@ def files(folder):
     return [os.path.join(folder, it) for it in sorted(os.listdir(folder)) if it.endswith(".rs")]
 
 
+def files_of(group):
+    """The paths of the tests of a group, and of the helpers that these name."""
+    own = files(folders()[group])
+    named = {name for path in own for name in re.findall(r"\bcrate::(\w+)", text_of(path))}
+    return own + [path for path in files(folders()[SHARED]) if module(path) in named]
+
+
 def all_files():
     return [path for folder in folders().values() for path in files(folder)]
 
@@ -43,7 +53,7 @@ def proved_crates():
 
 
 def names():
-    return [*folders(), *proved_crates(), PAGES]
+    return [*(it for it in folders() if it != SHARED), *proved_crates(), PAGES]
 
 
 def is_program(name):
@@ -105,7 +115,7 @@ def modules_of(name):
     found = {f"{name}.rt": ""} if name not in repository.crates() else {}
     if name in proved_crates() or name in toolchain.program_crates():
         found.update(crate_modules(name))
-    for path in files(folders()[name]) if name in folders() else []:
+    for path in files_of(name) if name in folders() else []:
         found[f"{name}.rt"] += declaration(path)
         found[f"{name}/{module(path)}.rt"] = text_of(path)
     return {path: re.sub(r"\bcrate::", f"crate::{name}::", text) for path, text in found.items()}
@@ -153,7 +163,7 @@ def write_list(room, listed):
 def write_program(room, name):
     """Writes a copy of all crates with a group that is a program, and returns the folder of its crate."""
     copy_crates(room)
-    sources = {path: text_of(path) for path in files(folders()[name])}
+    sources = {path: text_of(path) for path in files_of(name)}
     for path, text in sources.items():
         write(f"{room}/crates/{name}/src/{module(path)}.rt", text)
     write_list(room, {**repository.listed_crates(), name: libraries_in(sources.values())})

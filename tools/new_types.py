@@ -279,6 +279,22 @@ def names_of(types, part):
     return sorted(found - {""})
 
 
+# The readers that take what stands for a missing member or field.
+WITH_DEFAULT = ("member_or", "field_or")
+
+
+def member_reader(field):
+    """What reads a member of an object."""
+    return "required" if field.default is None else "member_or"
+
+
+def pairs_reader(field):
+    """What reads a field of a form, or all fields of a name."""
+    if inner(field.kind)[0] == "Items":
+        return "all_fields"
+    return "required_field" if field.default is None else "field_or"
+
+
 def is_bounded(field):
     return field.high is not None
 

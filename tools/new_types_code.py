@@ -1,6 +1,6 @@
 """The code of the types that tools/new-type writes, laid out as `rt fmt` lays it out."""
 import new_types
-from new_types import COLUMNS, camel, inner, is_bounded, snake
+from new_types import COLUMNS, camel, is_bounded, snake
 
 # The most columns of arguments, of a chain of calls, and of a list, that `rt fmt` leaves in a line, and those of an item
 # of a list of which several stand in a line.
@@ -94,27 +94,40 @@ def field_lines(field, name, arguments):
     return call(" " * 12, f"{field.name}: ", name, arguments, "?,")
 
 
+def implementation(crate, one, trait, cited, ghosts, prelude=()):
+    """The front of an `impl`: what it cites of the type's specs, and of std's, and what each ghost of the trait is."""
+    lines = [f"impl {trait} for {one.name} {{"]
+    if prelude:
+        lines.append(f"    ghost use Rattle.std.specs.Prelude.{{{', '.join(prelude)}}};")
+    lines += [f"    ghost use Rattle.{crate}.specs.{one.name}.{{{', '.join(cited)}}};", ""]
+    for name, said in ghosts:
+        lines += [f"    ghost {name} = {{ {said} }};", ""]
+    return lines
+
+
+def read_fields(one, read_from, reader):
+    """A value whose fields are read, each by its reader, and the end of the `impl`."""
+    lines = [f"        Ok({one.name} {{"]
+    for field in one.fields:
+        name, arguments = reader(field), ["alloc", read_from, f'"{field.member}"']
+        if name in new_types.WITH_DEFAULT:
+            arguments.append(new_types.default(field)[0])
+        lines += field_lines(field, name, arguments)
+    return [*lines, "        })", "    }", "}", ""]
+
+
 def read_data(crate, one):
-    lines = [f"impl ReadData for {one.name} {{",
-             f"    ghost use Rattle.{crate}.specs.{one.name}.{{{one.module}_of}};", "",
-             f"    ghost read = {{ {one.module}_of }};", "",
+    low = one.module
+    lines = [*implementation(crate, one, "ReadData", [f"{low}_of"], [("read", f"{low}_of")]),
              *signature("    ", "read_data", ["alloc: Global", "value: &Value"], one.name, " {")]
     if one.names:
         return [*lines, "        let Some(name) = value.as_str() else {",
                 '            return Err(ReadFault::refusal(alloc, "no text"));', "        };",
-                f"        named_{one.module}(alloc, name)", "    }", "}", ""]
+                f"        named_{low}(alloc, name)", "    }", "}", ""]
     lines.append("        object(alloc, value)?;")
     if one.deny:
         lines += denied([f'"{field.member}"' for field in one.fields])
-    lines.append(f"        Ok({one.name} {{")
-    for field in one.fields:
-        name = f'"{field.member}"'
-        if field.default is None:
-            lines += field_lines(field, "required", ["alloc", "value", name])
-        else:
-            said = new_types.default(field)[0]
-            lines += field_lines(field, "member_or", ["alloc", "value", name, said])
-    return [*lines, "        })", "    }", "}", ""]
+    return lines + read_fields(one, "value", new_types.member_reader)
 
 
 def denied(members):
@@ -134,9 +147,8 @@ def denied(members):
 
 def write_data(crate, one):
     low = one.module
-    lines = [f"impl WriteData for {one.name} {{",
-             f"    ghost use Rattle.{crate}.specs.{one.name}.{{data_of_{low}, {low}_no_float}};", "",
-             f"    ghost written = {{ data_of_{low} }};", "", f"    ghost no_float = {{ {low}_no_float }};", "",
+    ghosts = [("written", f"data_of_{low}"), ("no_float", f"{low}_no_float")]
+    lines = [*implementation(crate, one, "WriteData", [said for _, said in ghosts], ghosts),
              "    fn write_data(&self, alloc: Global) -> Result<Value, NoMemory> {"]
     if one.names:
         return [*lines, "        Ok(Value::from(String::from_str(alloc, self.as_str())?))", "    }", "}", ""]
@@ -147,28 +159,16 @@ def write_data(crate, one):
 
 def read_pairs(crate, one):
     low = one.module
-    lines = [f"impl ReadPairs for {one.name} {{", "    ghost use Rattle.std.specs.Prelude.{◌≡◌};",
-             f"    ghost use Rattle.{crate}.specs.{one.name}.{{{low}_of_pairs}};", "",
-             f"    ghost reads_pairs = {{ λ pairs x. x ≡ {low}_of_pairs pairs }};", "",
-             *signature("    ", "read_pairs", ["alloc: Global", "pairs: &[Pair]"], one.name, " {"),
-             f"        Ok({one.name} {{"]
-    for field in one.fields:
-        name = f'"{field.member}"'
-        if inner(field.kind)[0] == "Items":
-            lines += field_lines(field, "all_fields", ["alloc", "pairs", name])
-        elif field.default is None:
-            lines += field_lines(field, "required_field", ["alloc", "pairs", name])
-        else:
-            said = new_types.default(field)[0]
-            lines += field_lines(field, "field_or", ["alloc", "pairs", name, said])
-    return [*lines, "        })", "    }", "}", ""]
+    ghosts = [("reads_pairs", f"λ pairs x. x ≡ {low}_of_pairs pairs")]
+    return [*implementation(crate, one, "ReadPairs", [f"{low}_of_pairs"], ghosts, ["◌≡◌"]),
+            *signature("    ", "read_pairs", ["alloc: Global", "pairs: &[Pair]"], one.name, " {"),
+            *read_fields(one, "pairs", new_types.pairs_reader)]
 
 
 def write_pairs(crate, one):
     low = one.module
-    lines = [f"impl WritePairs for {one.name} {{", "    ghost use Rattle.std.specs.Prelude.{◌≡◌, Ok};",
-             f"    ghost use Rattle.{crate}.specs.{one.name}.{{pairs_of_{low}}};", "",
-             f"    ghost writes_pairs = {{ λ x y. y ≡ Ok (pairs_of_{low} x) }};", "",
+    ghosts = [("writes_pairs", f"λ x y. y ≡ Ok (pairs_of_{low} x)")]
+    lines = [*implementation(crate, one, "WritePairs", [f"pairs_of_{low}"], ghosts, ["◌≡◌", "Ok"]),
              "    fn write_pairs(&self, alloc: Global) -> Result<Vec<Pair>, Fail<WriteFault>> {",
              "        let mut pairs = Vec::new(alloc);"]
     for field in one.fields:
@@ -204,14 +204,10 @@ def none_of(one):
 
 def fields_of_names(crate, one):
     low = one.module
-    return [f"impl ReadField for {one.name} {{",
-            f"    ghost use Rattle.{crate}.specs.{one.name}.{{{low}_field}};", "",
-            f"    ghost field = {{ {low}_field }};", "",
+    return [*implementation(crate, one, "ReadField", [f"{low}_field"], [("field", f"{low}_field")]),
             *signature("    ", "read_field", ["alloc: Global", "text: &str"], one.name, " {"),
             f"        named_{low}(alloc, text)", "    }", "}", "",
-            f"impl WriteField for {one.name} {{",
-            f"    ghost use Rattle.{crate}.specs.{one.name}.{{texts_of_{low}}};", "",
-            f"    ghost texts = {{ texts_of_{low} }};", "",
+            *implementation(crate, one, "WriteField", [f"texts_of_{low}"], [("texts", f"texts_of_{low}")]),
             *write_field_head(), "        pairs.push(Pair::new(alloc, name, self.as_str())?)?;", "        Ok(())",
             "    }", "}", ""]
 
@@ -230,13 +226,10 @@ def imports(crate, one):
         texts.append("Pair")
     else:
         codec += ["object"] + ["deny_unknown"] * one.deny
-        codec += ["required" if field.default is None else "member_or" for field in one.fields]
+        codec += map(new_types.member_reader, one.fields)
         texts += [name for name in ("Items", "Text") if name in kinds]
     if one.fields and one.is_flat:
-        codec += ["ReadPairs", "WriteFault", "WriteField", "WritePairs"]
-        for field in one.fields:
-            is_list = inner(field.kind)[0] == "Items"
-            codec.append("all_fields" if is_list else "required_field" if field.default is None else "field_or")
+        codec += ["ReadPairs", "WriteFault", "WriteField", "WritePairs", *map(new_types.pairs_reader, one.fields)]
         texts.append("Pair")
     lines = [f"use crate::{snake(name)}::{name};" for name in one.below]
     lines.append(used("serde_json", ["Value"] if one.names else ["Value", "json"]))

@@ -48,24 +48,13 @@ def in_bounds(one, field, value):
     return f"and_then ({value}) {spec_bound(one, field)}" if is_bounded(field) else value
 
 
-def json_steps(one):
+def read_steps(one, read_from, reader, part):
+    """How each field is read, with its name."""
     for field in one.fields:
-        read, name = term(field.kind, READ), f'(codes "{field.member}")'
-        value = (f"required {read} {name} d" if field.default is None
-                 else f"member_or {read} {name} {new_types.default(field)[1]} d")
-        yield in_bounds(one, field, value), field.name
-
-
-def pair_steps(one):
-    for field in one.fields:
-        outer, of = inner(field.kind)
-        name = f'(codes "{field.member}")'
-        if outer == "Items":
-            value = f"all_fields {term(of, FIELD)} {name} pairs"
-        elif field.default is None:
-            value = f"required_field {term(field.kind, FIELD)} {name} pairs"
-        else:
-            value = f"field_or {term(field.kind, FIELD)} {name} {new_types.default(field)[1]} pairs"
+        by = reader(field)
+        kind = inner(field.kind)[1] if by == "all_fields" else field.kind
+        otherwise = f"{new_types.default(field)[1]} " if by in new_types.WITH_DEFAULT else ""
+        value = f'{by} {term(kind, part)} (codes "{field.member}") {otherwise}{read_from}'
         yield in_bounds(one, field, value), field.name
 
 
@@ -120,7 +109,7 @@ def struct_specs(crate, one):
     for field in one.fields:
         if is_bounded(field):
             lines += bound(one, field)
-    steps = list(json_steps(one))
+    steps = list(read_steps(one, "d", new_types.member_reader, READ))
     if one.deny:
         known = " ∷ ".join(f'codes "{field.member}"' for field in one.fields)
         steps.insert(0, (f"deny_unknown ({known} ∷ []) d", "known"))
@@ -131,8 +120,9 @@ def struct_specs(crate, one):
     lines += ["", f"abbrev pub data_of_{low} : {name} → Data", f"data_of_{low} x =", *written_members(one)]
     lines += law(one)
     if one.is_flat:
+        steps = list(read_steps(one, "pairs", new_types.pairs_reader, FIELD))
         lines += ["", f"abbrev pub {low}_of_pairs : List Pair → Result {name} ReadFault",
-                  f"{low}_of_pairs pairs =", *chain(list(pair_steps(one)), record(one))]
+                  f"{low}_of_pairs pairs =", *chain(steps, record(one))]
         written = [f'named_pairs (codes "{field.member}") ({applied(field.kind, TEXTS, f"x.{field.name}")})'
                    for field in one.fields]
         opened = "(" * (len(written) - 1)

@@ -7,8 +7,25 @@ TOP = os.path.dirname(os.path.dirname(os.path.abspath(__file__)))
 PROGRAM = "rothveng"
 
 
+def text_of(path):
+    """The text of a file of the repository, or None where there is no such file."""
+    path = os.path.join(TOP, path)
+    if not os.path.exists(path):
+        return None
+    with open(path, encoding="utf-8") as opened:
+        return opened.read()
+
+
+def write(path, text):
+    """Writes a file of the repository."""
+    path = os.path.join(TOP, path)
+    os.makedirs(os.path.dirname(path), exist_ok=True)
+    with open(path, "w", encoding="utf-8") as opened:
+        opened.write(text)
+
+
 def proved(crate):
-    """Where a program of this crate lies that is proved. The file beside it, with `.sources` behind its name, names the
+    """Where a program of this crate lies that is proved. The file beside it, with `.sources` after its name, names the
     sources that it was built from, by their digest."""
     return os.path.join(TOP, "crates", crate, "out", crate)
 

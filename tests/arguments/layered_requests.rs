@@ -85,6 +85,14 @@ pub(crate) const fn targeted(target: &'static str) -> Parts {
     }
 }
 
+/// A request for `/path` with these parameters.
+pub(crate) fn with_params(params: &'static [(&'static str, &'static str)]) -> Parts {
+    Parts {
+        params,
+        ..targeted("/path")
+    }
+}
+
 fn pairs(rt: &impl Abort, alloc: Global, params: &[(&str, &str)]) -> Vec<Pair> {
     let mut pairs = Vec::new(alloc);
     for (name, value) in params {

@@ -1,7 +1,7 @@
 //! Items of paths and queries as arguments, with and without a handler of refusals.
 use crate::compare::assert_same;
 use crate::item::Item;
-use crate::layered_requests::{Layer, Layered, Parts, layered_request, targeted};
+use crate::layered_requests::{Layer, Layered, Parts, layered_request, targeted, with_params};
 use crate::outcomes::assert_argument;
 use crate::teapot::Teapot;
 use std::alloc::Global;
@@ -36,14 +36,6 @@ fn assert_parts<T: FromRequest<Layered> + Display>(
 ) {
     let request = layered_request(rt, alloc, parts, layers.0, layers.1);
     assert_argument::<Layered, T>(rt, alloc, &request, expected);
-}
-
-/// A request for `/path` with these parameters.
-fn with_params(params: &'static [(&'static str, &'static str)]) -> Parts {
-    Parts {
-        params,
-        ..targeted("/path")
-    }
 }
 
 #[test]

@@ -1,5 +1,5 @@
 //! Values by the readers of the library, and by serde's derives, as arguments.
-use crate::layered_requests::{Layer, Layered, Parts, layered_request, targeted};
+use crate::layered_requests::{Layer, Layered, Parts, layered_request, targeted, with_params};
 use crate::outcomes::{argument, first_of, outcome};
 use crate::requests::{FORM, JSON, body_request};
 use serde::Deserialize;
@@ -7,6 +7,7 @@ use serde_json::Value;
 use std::alloc::Global;
 use std::process::Abort;
 use web_codec::Typed;
+use web_extract::FromRequest;
 use web_extract_body::{Form, Json};
 use web_extract_head::{Path, Query};
 use web_reply::Error;
@@ -73,37 +74,36 @@ fn items_text(rt: &impl Abort, alloc: Global, items: Option<Items<u8>>) -> Strin
     }
 }
 
-fn assert_body(rt: &impl Abort, alloc: Global, row: &Row) {
+/// Compares what the body of a row is as an argument, by the text of its value.
+fn assert_read<T: FromRequest<Layered>, F: FnOnce(T) -> String + Drop>(
+    rt: &impl Abort,
+    alloc: Global,
+    row: &Row,
+    f: F,
+) {
     let content_type = if row.0 == "form" { FORM } else { JSON };
     let request = body_request(rt, alloc, Layer::new(), [content_type, None]);
+    let (found, _) = first_of::<Layered, T>(rt, alloc, &request, row.1);
+    assert_outcome(rt, alloc, found.map(f), row.2);
+}
+
+fn assert_body(rt: &impl Abort, alloc: Global, row: &Row) {
     match row.0 {
-        "typed" => {
-            let (found, _) = first_of::<Layered, Json<Typed<Named>>>(rt, alloc, &request, row.1);
-            let found = found.map(|json| named_text(rt, alloc, json.into_inner().0));
-            assert_outcome(rt, alloc, found, row.2);
-        }
-        "number" => {
-            let (found, _) = first_of::<Layered, Json<u8>>(rt, alloc, &request, row.1);
-            let found = found.map(|json| number_text(rt, alloc, json.into_inner()));
-            assert_outcome(rt, alloc, found, row.2);
-        }
-        "items" => {
-            let (found, _) = first_of::<Layered, Json<Option<Items<u8>>>>(
-                rt, alloc, &request, row.1,
-            );
-            let found = found.map(|json| items_text(rt, alloc, json.into_inner()));
-            assert_outcome(rt, alloc, found, row.2);
-        }
-        "value" => {
-            let (found, _) = first_of::<Layered, Json<Value>>(rt, alloc, &request, row.1);
-            let found = found.map(|json| json.into_inner().to_string(alloc).expect(rt, "memory"));
-            assert_outcome(rt, alloc, found, row.2);
-        }
-        _ => {
-            let (found, _) = first_of::<Layered, Form<Typed<Named>>>(rt, alloc, &request, row.1);
-            let found = found.map(|form| named_text(rt, alloc, form.into_inner().0));
-            assert_outcome(rt, alloc, found, row.2);
-        }
+        "typed" => assert_read(rt, alloc, row, |json: Json<Typed<Named>>| -> String {
+            named_text(rt, alloc, json.into_inner().0)
+        }),
+        "number" => assert_read(rt, alloc, row, |json: Json<u8>| -> String {
+            number_text(rt, alloc, json.into_inner())
+        }),
+        "items" => assert_read(rt, alloc, row, |json: Json<Option<Items<u8>>>| -> String {
+            items_text(rt, alloc, json.into_inner())
+        }),
+        "value" => assert_read(rt, alloc, row, |json: Json<Value>| -> String {
+            json.into_inner().to_string(alloc).expect(rt, "memory")
+        }),
+        _ => assert_read(rt, alloc, row, |form: Form<Typed<Named>>| -> String {
+            named_text(rt, alloc, form.into_inner().0)
+        }),
     }
 }
 
@@ -115,39 +115,38 @@ fn bodies_are_values(rt: HostRuntime) {
     }
 }
 
-/// A request for `/path` with these parameters.
-fn with_params(params: &'static [(&'static str, &'static str)]) -> Parts {
-    Parts {
-        params,
-        ..targeted("/path")
-    }
+/// Compares what an argument is read as of a request of these parts, by the text of its value.
+fn assert_target<T: FromRequest<Layered>, F: FnOnce(T) -> String + Drop>(
+    rt: &impl Abort,
+    alloc: Global,
+    parts: &Parts,
+    expected: (u16, &str),
+    f: F,
+) {
+    let request = layered_request(rt, alloc, parts, Layer::new(), Layer::new());
+    let found = argument::<Layered, T>(rt, alloc, &request);
+    assert_outcome(rt, alloc, found.map(f), expected);
 }
 
-/// Compares what a text and a number are read as of the parameters of a path.
+/// A text and a number of the parameters of a path.
 fn assert_pair(rt: &impl Abort, alloc: Global, parts: &Parts, expected: (u16, &str)) {
-    let request = layered_request(rt, alloc, parts, Layer::new(), Layer::new());
-    let found = argument::<Layered, Path<(Text, u64)>>(rt, alloc, &request);
-    let found = found.map(|path| {
+    let text = |path: Path<(Text, u64)>| -> String {
         let (text, n) = path.into_inner();
         format!(in alloc; "{text} {n}").expect(rt, "memory")
-    });
-    assert_outcome(rt, alloc, found, expected);
+    };
+    assert_target(rt, alloc, parts, expected, text);
 }
 
-/// Compares what a number is read as of the parameters of a path.
+/// A number of the parameters of a path.
 fn assert_single(rt: &impl Abort, alloc: Global, parts: &Parts, expected: (u16, &str)) {
-    let request = layered_request(rt, alloc, parts, Layer::new(), Layer::new());
-    let found = argument::<Layered, Path<u8>>(rt, alloc, &request);
-    let found = found.map(|path| number_text(rt, alloc, path.into_inner()));
-    assert_outcome(rt, alloc, found, expected);
+    let text = |path: Path<u8>| -> String { number_text(rt, alloc, path.into_inner()) };
+    assert_target(rt, alloc, parts, expected, text);
 }
 
-/// Compares what serde reads of the parameters of a path.
+/// What serde reads of the parameters of a path.
 fn assert_typed(rt: &impl Abort, alloc: Global, parts: &Parts, expected: (u16, &str)) {
-    let request = layered_request(rt, alloc, parts, Layer::new(), Layer::new());
-    let found = argument::<Layered, Path<Typed<Named>>>(rt, alloc, &request);
-    let found = found.map(|path| named_text(rt, alloc, path.into_inner().0));
-    assert_outcome(rt, alloc, found, expected);
+    let text = |path: Path<Typed<Named>>| -> String { named_text(rt, alloc, path.into_inner().0) };
+    assert_target(rt, alloc, parts, expected, text);
 }
 
 #[test]
@@ -175,8 +174,8 @@ fn paths_are_values(rt: HostRuntime) {
 fn queries_are_values(rt: HostRuntime) {
     let alloc = rt.alloc();
     let parts = targeted("/?name=a%20b&n=7");
-    let request = layered_request(&rt, alloc, &parts, Layer::new(), Layer::new());
-    let found = argument::<Layered, Query<Typed<Named>>>(&rt, alloc, &request);
-    let found = found.map(|query| named_text(&rt, alloc, query.into_inner().0));
-    assert_outcome(&rt, alloc, found, (200, "a b 7"));
+    let text = |query: Query<Typed<Named>>| -> String {
+        named_text(&rt, alloc, query.into_inner().0)
+    };
+    assert_target(&rt, alloc, &parts, (200, "a b 7"), text);
 }

@@ -63,33 +63,33 @@ const FORMS: &[Row] = &[
     ("reader", 400, 422, "Parse error: price: cents: missing."),
 ];
 
-fn reason(rt: &impl Abort, alloc: Global) -> Text {
-    Text::of(alloc, "price: cents: missing").expect(rt, "memory")
+fn read_fault(rt: &impl Abort, alloc: Global) -> ReadFault {
+    let text = Text::of(alloc, "price: cents: missing").expect(rt, "memory");
+    ReadFault { text }
 }
 
 fn json_refusal(rt: &impl Abort, alloc: Global, name: &str) -> JsonPayloadError {
     let (length, limit) = (9, 8);
-    let text = reason(rt, alloc);
+    let fault = read_fault(rt, alloc);
     match name {
         "known length" => JsonPayloadError::OverflowKnownLength { length, limit },
         "overflow" => JsonPayloadError::Overflow { limit },
         "type" => JsonPayloadError::ContentType,
         "syntax" => JsonPayloadError::Deserialize(JsonFault::Syntax),
         "float" => JsonPayloadError::Deserialize(JsonFault::Float),
-        "reader" => JsonPayloadError::Deserialize(JsonFault::Target(ReadFault { text })),
-        "writer" => JsonPayloadError::Serialize(WriteFault { text }),
+        "reader" => JsonPayloadError::Deserialize(JsonFault::Target(fault)),
+        "writer" => JsonPayloadError::Serialize(WriteFault { text: fault.text }),
         _ => JsonPayloadError::Payload(PayloadError::Io),
     }
 }
 
 fn form_refusal(rt: &impl Abort, alloc: Global, name: &str) -> UrlencodedError {
     let (size, limit) = (9, 8);
-    let text = reason(rt, alloc);
     match name {
         "overflow" => UrlencodedError::Overflow { size, limit },
         "length" => UrlencodedError::UnknownLength,
         "type" => UrlencodedError::ContentType,
-        _ => UrlencodedError::Parse(ReadFault { text }),
+        _ => UrlencodedError::Parse(read_fault(rt, alloc)),
     }
 }
 
@@ -104,27 +104,28 @@ fn assert_error(rt: &impl Abort, alloc: Global, mut error: Error, status: u16, t
     assert_reply(rt, alloc, reply, expected.expect(rt, "memory").as_str());
 }
 
-/// The error that a handler makes of a refusal.
-fn handled<E: Drop, H: Refuse<E>>(rt: &impl Abort, alloc: Global, handler: H, fault: E) -> Error {
+/// Compares the error that a handler makes of a refusal with what is expected.
+fn assert_refused<E: Drop, H: Refuse<E>>(
+    rt: &impl Abort,
+    alloc: Global,
+    handler: H,
+    refusal: E,
+    status: u16,
+    text: &str,
+) {
     let request: HttpRequest<Site> = new_request(rt, alloc, "/");
-    handler
-        .refuse(alloc, fault, request.head())
-        .expect(rt, "memory")
+    let error = handler.refuse(alloc, refusal, request.head());
+    assert_error(rt, alloc, error.expect(rt, "memory"), status, text);
 }
 
 #[test]
 fn json_bodies_are_refused_as_json(rt: HostRuntime) {
     let alloc = rt.alloc();
     for (name, status, unprocessable, text) in JSON {
-        let error = handled(&rt, alloc, JsonErrors, json_refusal(&rt, alloc, name));
-        assert_error(&rt, alloc, error, *status, text);
-        let error = handled(
-            &rt,
-            alloc,
-            UnprocessableJson,
-            json_refusal(&rt, alloc, name),
-        );
-        assert_error(&rt, alloc, error, *unprocessable, text);
+        let refusal = json_refusal(&rt, alloc, name);
+        assert_refused(&rt, alloc, JsonErrors, refusal, *status, text);
+        let refusal = json_refusal(&rt, alloc, name);
+        assert_refused(&rt, alloc, UnprocessableJson, refusal, *unprocessable, text);
     }
 }
 
@@ -132,30 +133,28 @@ fn json_bodies_are_refused_as_json(rt: HostRuntime) {
 fn forms_are_refused_as_json(rt: HostRuntime) {
     let alloc = rt.alloc();
     for (name, status, unprocessable, text) in FORMS {
-        let error = handled(&rt, alloc, JsonErrors, form_refusal(&rt, alloc, name));
-        assert_error(&rt, alloc, error, *status, text);
-        let error = handled(
-            &rt,
-            alloc,
-            UnprocessableJson,
-            form_refusal(&rt, alloc, name),
-        );
-        assert_error(&rt, alloc, error, *unprocessable, text);
+        let refusal = form_refusal(&rt, alloc, name);
+        assert_refused(&rt, alloc, JsonErrors, refusal, *status, text);
+        let refusal = form_refusal(&rt, alloc, name);
+        assert_refused(&rt, alloc, UnprocessableJson, refusal, *unprocessable, text);
     }
 }
 
 #[test]
 fn targets_are_refused_as_json(rt: HostRuntime) {
     let alloc = rt.alloc();
-    let text = reason(&rt, alloc);
-    let fault = PathError::Deserialize(ReadFault { text });
-    let error = handled(&rt, alloc, JsonErrors, fault);
-    assert_error(&rt, alloc, error, 404, "price: cents: missing");
-    let text = reason(&rt, alloc);
-    let fault = QueryPayloadError::Deserialize(ReadFault { text });
-    let error = handled(&rt, alloc, JsonErrors, fault);
-    let expected = "Query deserialize error: price: cents: missing";
-    assert_error(&rt, alloc, error, 400, expected);
+    let refusal = PathError::Deserialize(read_fault(&rt, alloc));
+    assert_refused(
+        &rt,
+        alloc,
+        JsonErrors,
+        refusal,
+        404,
+        "price: cents: missing",
+    );
+    let refusal = QueryPayloadError::Deserialize(read_fault(&rt, alloc));
+    let text = "Query deserialize error: price: cents: missing";
+    assert_refused(&rt, alloc, JsonErrors, refusal, 400, text);
 }
 
 #[test]

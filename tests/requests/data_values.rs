@@ -3,6 +3,7 @@ use crate::compare::assert_same;
 use serde::{Deserialize, Serialize};
 use serde_json::Value;
 use std::alloc::Global;
+use std::fmt::Display;
 use std::process::Abort;
 use web_codec::{
     JsonFault, ReadFault, ReadJson, ReadPairs, Typed, WriteField, WriteJson, all_fields,
@@ -11,12 +12,31 @@ use web_codec::{
 };
 use web_texts::{Fail, Items, Pair, Text};
 
-/// The type that is read, a body, and the text that is written of its value, or the fault.
-const VALUES: [(&str, &str, &str); 40] = [
+/// What reads a text, the text, and what comes of it: a text, or the text of a fault.
+type Row = (&'static str, &'static str, &'static str);
+
+/// What is no such number is refused so, of a field or member `a` with its name.
+const NO_U8: &str = "no whole number from 0 to 255";
+
+const NO_I8: &str = "no whole number from -128 to 127";
+
+const NO_U8_OF_A: &str = "a: no whole number from 0 to 255";
+
+const NO_I8_OF_A: &str = "a: no whole number from -128 to 127";
+
+/// Compares what comes of each text with what is expected.
+fn assert_rows<F: Fn(&str, &str) -> Text + Drop>(rt: &impl Abort, rows: &[Row], f: F) {
+    for (reader, text, expected) in rows {
+        assert_same(rt, f(reader, text).as_str(), *expected);
+    }
+}
+
+/// A type that is read of a body, and the text that is written of its value.
+const VALUES: &[Row] = &[
     ("u8", "255", "255"),
-    ("u8", "256", "no whole number from 0 to 255"),
-    ("u8", "-1", "no whole number from 0 to 255"),
-    ("u8", "\"1\"", "no whole number from 0 to 255"),
+    ("u8", "256", NO_U8),
+    ("u8", "-1", NO_U8),
+    ("u8", "\"1\"", NO_U8),
     ("u8", "1.0", "float"),
     ("u8", "1", "1"),
     ("u16", "65535", "65535"),
@@ -28,8 +48,8 @@ const VALUES: [(&str, &str, &str); 40] = [
     ("usize", "18446744073709551615", "18446744073709551615"),
     ("i8", "-128", "-128"),
     ("i8", "127", "127"),
-    ("i8", "-129", "no whole number from -128 to 127"),
-    ("i8", "128", "no whole number from -128 to 127"),
+    ("i8", "-129", NO_I8),
+    ("i8", "128", NO_I8),
     ("i16", "-32768", "-32768"),
     ("i16", "32768", "no whole number from -32768 to 32767"),
     ("i32", "-2147483648", "-2147483648"),
@@ -52,11 +72,11 @@ const VALUES: [(&str, &str, &str); 40] = [
     ("bool", "0", "neither true nor false"),
     ("option", "null", "null"),
     ("option", "7", "7"),
-    ("option", "-7", "no whole number from 0 to 255"),
+    ("option", "-7", NO_U8),
     ("items", "[1,2]", "[1,2]"),
     ("items", "[]", "[]"),
     ("items", "{}", "no list"),
-    ("items", "[1,256,-1]", "no whole number from 0 to 255"),
+    ("items", "[1,256,-1]", NO_U8),
     (
         "value",
         "{\"b\":[1,null],\"a\":\"x\"}",
@@ -82,11 +102,15 @@ struct Named {
     n: u8,
 }
 
-/// The text that is written of a body's value, or the fault.
+fn printed<T: Display + Drop>(rt: &impl Abort, alloc: Global, value: T) -> Text {
+    Text::from(value.to_string(alloc).expect(rt, "memory"))
+}
+
+/// The text that is written of a body's value, or of the fault.
 fn written<T: ReadJson + WriteJson>(rt: &impl Abort, alloc: Global, body: &str) -> Text {
     match decode_json::<T>(alloc, body.as_bytes()) {
         Ok(value) => write_value(alloc, &value).ok().expect(rt, "a text"),
-        Err(Fail::Of(fault)) => Text::from(fault.to_string(alloc).expect(rt, "memory")),
+        Err(Fail::Of(fault)) => printed(rt, alloc, fault),
         Err(Fail::NoMemory) => panic!(rt; "memory"),
     }
 }
@@ -115,34 +139,21 @@ fn written_as(rt: &impl Abort, alloc: Global, kind: &str, body: &str) -> Text {
 #[test]
 fn values_are_read_and_written(rt: HostRuntime) {
     let alloc = rt.alloc();
-    for (kind, body, expected) in &VALUES {
-        let text = written_as(&rt, alloc, kind, body);
-        assert_same(&rt, text.as_str(), *expected);
-    }
+    assert_rows(&rt, VALUES, |kind: &str, body: &str| -> Text {
+        written_as(&rt, alloc, kind, body)
+    });
 }
 
-/// A helper, an object, and the text of what it gives.
-const MEMBERS: [(&str, &str, &str); 14] = [
+/// A helper that reads a member of an object.
+const MEMBERS: &[Row] = &[
     ("required", "{\"a\":1}", "1"),
     ("required", "{\"A\":1}", "a: missing"),
     ("required", "[]", "a: missing"),
-    (
-        "required",
-        "{\"a\":\"secret\"}",
-        "a: no whole number from 0 to 255",
-    ),
-    (
-        "required",
-        "{\"a\":null}",
-        "a: no whole number from 0 to 255",
-    ),
+    ("required", "{\"a\":\"secret\"}", NO_U8_OF_A),
+    ("required", "{\"a\":null}", NO_U8_OF_A),
     ("member_or", "{}", "7"),
     ("member_or", "{\"a\":8}", "8"),
-    (
-        "member_or",
-        "{\"a\":null}",
-        "a: no whole number from 0 to 255",
-    ),
+    ("member_or", "{\"a\":null}", NO_U8_OF_A),
     ("object", "{}", "0"),
     ("object", "[]", "no object"),
     ("deny", "{\"b\":1,\"a\":2}", "0"),
@@ -154,7 +165,7 @@ const MEMBERS: [(&str, &str, &str); 14] = [
 /// The text of a number, or of a refusal.
 fn shown(rt: &impl Abort, alloc: Global, found: Result<u8, Fail<ReadFault>>) -> Text {
     match found {
-        Ok(n) => Text::from(n.to_string(alloc).expect(rt, "memory")),
+        Ok(n) => printed(rt, alloc, n),
         Err(Fail::Of(fault)) => fault.text,
         Err(Fail::NoMemory) => panic!(rt; "memory"),
     }
@@ -178,36 +189,34 @@ fn member_of(alloc: Global, helper: &str, value: &Value) -> Result<u8, Fail<Read
 #[test]
 fn members_are_read_of_objects(rt: HostRuntime) {
     let alloc = rt.alloc();
-    for (helper, body, expected) in &MEMBERS {
-        let value = read_value(alloc, body.as_bytes())
-            .ok()
-            .expect(&rt, "a value");
-        let text = shown(&rt, alloc, member_of(alloc, helper, &value));
-        assert_same(&rt, text.as_str(), *expected);
-    }
+    assert_rows(&rt, MEMBERS, |helper: &str, body: &str| -> Text {
+        let value = read_value(alloc, body.as_bytes()).ok();
+        let value = value.expect(&rt, "a value");
+        shown(&rt, alloc, member_of(alloc, helper, &value))
+    });
 }
 
-/// What is read, a form, and the text of what it gives.
-const FIELDS: [(&str, &str, &str); 26] = [
+/// What is read of a form.
+const FIELDS: &[Row] = &[
     ("required", "a=1&a=2", "1"),
     ("required", "b=1", "a: missing"),
-    ("required", "a=secret", "a: no whole number from 0 to 255"),
-    ("required", "a=256", "a: no whole number from 0 to 255"),
+    ("required", "a=secret", NO_U8_OF_A),
+    ("required", "a=256", NO_U8_OF_A),
     ("required", "a=007", "7"),
-    ("required", "a=", "a: no whole number from 0 to 255"),
+    ("required", "a=", NO_U8_OF_A),
     ("field_or", "b=1", "7"),
-    ("field_or", "a=300", "a: no whole number from 0 to 255"),
+    ("field_or", "a=300", NO_U8_OF_A),
     ("all", "a=1&b=x&a=2", "2"),
-    ("all", "a=1&a=x", "a: no whole number from 0 to 255"),
+    ("all", "a=1&a=x", NO_U8_OF_A),
     ("all", "", "0"),
     ("single", "a=5", "5"),
     ("single", "a=5&b=6", "not one value"),
     ("single", "", "not one value"),
     ("signed", "a=-128", "128"),
-    ("signed", "a=-129", "a: no whole number from -128 to 127"),
+    ("signed", "a=-129", NO_I8_OF_A),
     ("signed", "a=127", "127"),
-    ("signed", "a=%2B5", "a: no whole number from -128 to 127"),
-    ("signed", "a=-", "a: no whole number from -128 to 127"),
+    ("signed", "a=%2B5", NO_I8_OF_A),
+    ("signed", "a=-", NO_I8_OF_A),
     ("bool", "a=true", "1"),
     ("bool", "a=1", "a: neither true nor false"),
     ("pair", "a=xyz&b=5", "8"),
@@ -232,13 +241,18 @@ fn helped(alloc: Global, helper: &str, pairs: &[Pair]) -> Result<u8, Fail<ReadFa
     }
 }
 
+/// The length of a text and a number together.
+fn sum(text: &str, n: u8) -> u8 {
+    (text.len() as u8).saturating_add(n)
+}
+
 /// The number that a form is, or the lengths of its texts and its numbers together.
 fn number_of(alloc: Global, kind: &str, form: &str) -> Result<u8, Fail<ReadFault>> {
     match kind {
         "single" => read_of::<u8>(alloc, form),
         "pair" => {
             let (text, n) = read_of::<(Text, u8)>(alloc, form)?;
-            Ok((text.as_str().len() as u8).saturating_add(n))
+            Ok(sum(text.as_str(), n))
         }
         "four" => {
             let (a, b, c, d) = read_of::<(u8, u16, u32, u8)>(alloc, form)?;
@@ -250,7 +264,7 @@ fn number_of(alloc: Global, kind: &str, form: &str) -> Result<u8, Fail<ReadFault
         }
         "typed" => {
             let Typed(named) = read_of::<Typed<Named>>(alloc, form)?;
-            Ok((named.name.len() as u8).saturating_add(named.n))
+            Ok(sum(named.name.as_str(), named.n))
         }
         _ => {
             let pairs = web_codec::form_pairs(alloc, form.as_bytes())?;
@@ -262,10 +276,9 @@ fn number_of(alloc: Global, kind: &str, form: &str) -> Result<u8, Fail<ReadFault
 #[test]
 fn fields_are_read_of_forms(rt: HostRuntime) {
     let alloc = rt.alloc();
-    for (kind, form, expected) in &FIELDS {
-        let text = shown(&rt, alloc, number_of(alloc, kind, form));
-        assert_same(&rt, text.as_str(), *expected);
-    }
+    assert_rows(&rt, FIELDS, |kind: &str, form: &str| -> Text {
+        shown(&rt, alloc, number_of(alloc, kind, form))
+    });
 }
 
 /// Adds a field of this name.

@@ -1,50 +1,17 @@
 //! Sources that lack memory for a piece: what came before is no whole body.
 use crate::anything::Anything;
 use crate::compare::assert_same;
+use crate::lacking_source::LackingSource;
 use crate::requests::request_of;
-use bytes::Bytes;
 use std::alloc::Global;
 use std::process::Abort;
-use web_body::{HttpMessageBody, Payload, Poll, Step};
+use web_body::{HttpMessageBody, Poll, Step};
 use web_decoders::{AllowType, JsonBody, UrlEncoded};
 use web_lines::Readlines;
 use web_multipart_stream::MultipartStream;
-use web_request::{HttpRequest, PlainApp, Source, Turn};
+use web_request::{HttpRequest, PlainApp};
 use web_service::ServiceRequest;
 use web_texts::Mime;
-
-/// Gives this text, lacks memory for what follows, and then ends.
-#[derive(Drop)]
-struct Lacking {
-    text: &'static str,
-    calls: u8,
-}
-
-impl Source for Lacking {
-    ghost use Rattle.std.specs.Prelude.{None, false};
-
-    ghost feed = { λ s. record {
-      marks = None;
-      faults = 0;
-      stalls = 0;
-      given = 0;
-      answers = 0;
-      lacked = false;
-    } };
-
-    fn next(&mut self) -> Turn {
-        self.calls = self.calls.saturating_add(1);
-        match self.calls {
-            1 => Turn::Piece(Bytes::from_static(self.text.as_bytes())),
-            2 => Turn::NoMemory,
-            _ => Turn::End,
-        }
-    }
-}
-
-fn lacking(text: &'static str) -> Payload<Lacking> {
-    Payload::Stream(Lacking { text, calls: 0 })
-}
 
 /// A predicate that no test needs.
 #[derive(Drop)]
@@ -65,11 +32,11 @@ fn request_for(
     rt: &impl Abort,
     alloc: Global,
     media_type: &'static [u8],
-) -> HttpRequest<PlainApp<Lacking>> {
+) -> HttpRequest<PlainApp<LackingSource>> {
     request_of(rt, alloc, "/", &[("content-type", media_type)])
 }
 
-fn request(rt: &impl Abort, alloc: Global) -> HttpRequest<PlainApp<Lacking>> {
+fn request(rt: &impl Abort, alloc: Global) -> HttpRequest<PlainApp<LackingSource>> {
     request_for(rt, alloc, b"multipart/form-data; boundary=b")
 }
 
@@ -84,35 +51,41 @@ fn name_of<T>(step: &Step<T>) -> &'static str {
 #[test]
 fn a_collector_lacks_memory(rt: HostRuntime) {
     let alloc = rt.alloc();
-    let mut payload = lacking("ab");
+    let mut payload = LackingSource::payload("ab");
     let mut body = HttpMessageBody::new(alloc, &request(&rt, alloc), &mut payload);
     assert_same(&rt, name_of(&body.poll(alloc)), "no memory");
-    let mut body = lacking("ab").to_bytes(alloc);
+    let mut body = LackingSource::payload("ab").to_bytes(alloc);
     assert_same(&rt, name_of(&body.poll(alloc)), "no memory");
 }
 
 #[test]
 fn whole_payloads_lack_memory(rt: HostRuntime) {
     let alloc = rt.alloc();
-    let mut body = lacking("ab").to_bytes_limited(alloc, 9);
+    let mut body = LackingSource::payload("ab").to_bytes_limited(alloc, 9);
     assert_same(&rt, name_of(&body.poll(alloc)), "no memory");
 }
 
 #[test]
 fn decoders_lack_memory(rt: HostRuntime) {
     let alloc = rt.alloc();
-    let mut payload = lacking("[]");
+    let mut payload = LackingSource::payload("[]");
     let request = request_for(&rt, alloc, b"application/json");
     let predicate: Option<&AnyType> = None;
-    let body = JsonBody::<Anything, Lacking>::new(alloc, &request, &mut payload, predicate, true);
+    let body = JsonBody::<Anything, LackingSource>::new(
+        alloc,
+        &request,
+        &mut payload,
+        predicate,
+        true,
+    );
     assert_same(
         &rt,
         name_of(&body.expect(&rt, "memory").poll(alloc)),
         "no memory",
     );
-    let mut payload = lacking("a=b");
+    let mut payload = LackingSource::payload("a=b");
     let request = request_for(&rt, alloc, b"application/x-www-form-urlencoded");
-    let body = UrlEncoded::<Anything, Lacking>::new(alloc, &request, &mut payload);
+    let body = UrlEncoded::<Anything, LackingSource>::new(alloc, &request, &mut payload);
     assert_same(
         &rt,
         name_of(&body.expect(&rt, "memory").poll(alloc)),
@@ -123,7 +96,10 @@ fn decoders_lack_memory(rt: HostRuntime) {
 #[test]
 fn lines_lack_memory(rt: HostRuntime) {
     let alloc = rt.alloc();
-    let mut service = ServiceRequest::from_parts(request(&rt, alloc), lacking("a\nb"));
+    let mut service = ServiceRequest::from_parts(
+        request(&rt, alloc),
+        LackingSource::payload("a\nb"),
+    );
     let mut lines = Readlines::new(alloc, &mut service).expect(&rt, "memory");
     assert_same(&rt, name_of(&lines.poll_next(alloc)), "ready");
     assert_same(&rt, name_of(&lines.poll_next(alloc)), "no memory");
@@ -132,7 +108,7 @@ fn lines_lack_memory(rt: HostRuntime) {
 #[test]
 fn parts_lack_memory(rt: HostRuntime) {
     let alloc = rt.alloc();
-    let mut payload = lacking("--b\r\n");
+    let mut payload = LackingSource::payload("--b\r\n");
     let request = request(&rt, alloc);
     let stream = MultipartStream::new(alloc, &request, &mut payload, 99);
     let mut stream = stream.expect(&rt, "memory");

@@ -9,7 +9,8 @@ use std::process::Abort;
 use std::rc::Rc;
 use web_body::Marks;
 use web_request::{
-    App, AppLayer, Duplicate, Holds, HttpRequest, HttpRequestPool, NoMemory, Pair, RequestParts,
+    App, AppLayer, Duplicate, Holds, HttpRequest, HttpRequestPool, NoMemory, Pair, RequestHead,
+    RequestParts,
 };
 
 /// A number that a layer, a connection or a request has.
@@ -63,10 +64,21 @@ fn shared(rt: &impl Abort, alloc: Global, count: u64) -> Rc<Visits> {
     Rc::new(alloc, Visits { count }).expect(rt, "memory")
 }
 
-/// A pool of this capacity, whose root layer has the number 1.
-fn pool_of(rt: &impl Abort, alloc: Global, capacity: usize) -> HttpRequestPool<Visited> {
+/// A pool that keeps one record, whose root layer has the number 1.
+fn new_pool(rt: &impl Abort, alloc: Global) -> HttpRequestPool<Visited> {
     let root = shared(rt, alloc, 1);
-    HttpRequestPool::with_capacity(alloc, root, config(rt, alloc), capacity).expect(rt, "memory")
+    HttpRequestPool::with_capacity(alloc, root, config(rt, alloc), 1).expect(rt, "memory")
+}
+
+/// A request of the pool.
+fn started(
+    rt: &impl Abort,
+    alloc: Global,
+    pool: &mut HttpRequestPool<Visited>,
+    parts: RequestParts<Visited>,
+) -> HttpRequest<Visited> {
+    assert!(rt; pool.made() < 9);
+    pool.start(alloc, parts).ok().expect(rt, "memory")
 }
 
 /// A request of the pool that has a parameter, a layer, and data of its own and of its connection,
@@ -84,8 +96,7 @@ fn earlier_request(
         conn: Some(shared(rt, alloc, 3)),
         local: Some(Visits { count: 4 }),
     };
-    assert!(rt; pool.made() < 9);
-    let mut request = pool.start(alloc, parts).ok().expect(rt, "memory");
+    let mut request = started(rt, alloc, pool, parts);
     let info = request.connection_info(alloc).expect(rt, "memory");
     assert_same(rt, info.scheme(), "https");
     let cookies = request.cookies(alloc).ok().expect(rt, "cookies");
@@ -93,34 +104,13 @@ fn earlier_request(
     request
 }
 
-/// A request of the pool without any of that.
-fn later_request(
+/// A request of the pool that has nothing but its head.
+fn request_of(
     rt: &impl Abort,
     alloc: Global,
     pool: &mut HttpRequestPool<Visited>,
+    head: RequestHead,
 ) -> HttpRequest<Visited> {
-    let parts = RequestParts {
-        head: head_of(rt, alloc, "/later", LATER),
-        params: Vec::new(alloc),
-        layers: Vec::new(alloc),
-        conn: None,
-        local: None,
-    };
-    assert!(rt; pool.made() < 9);
-    pool.start(alloc, parts).ok().expect(rt, "memory")
-}
-
-/// A request of the pool whose Authorization has these bytes.
-fn authorized_request(
-    rt: &impl Abort,
-    alloc: Global,
-    pool: &mut HttpRequestPool<Visited>,
-    secret: &Bytes,
-) -> HttpRequest<Visited> {
-    let secret = secret.clone().expect(rt, "memory");
-    let value = HeaderValue::from_shared(secret).ok().expect(rt, "a value");
-    let mut head = head_of(rt, alloc, "/later", LATER);
-    head.headers.append(AUTHORIZATION, value).expect(rt, "room");
     let parts = RequestParts {
         head,
         params: Vec::new(alloc),
@@ -128,13 +118,41 @@ fn authorized_request(
         conn: None,
         local: None,
     };
-    assert!(rt; pool.made() < 9);
-    pool.start(alloc, parts).ok().expect(rt, "memory")
+    started(rt, alloc, pool, parts)
 }
 
-/// Bytes that one pointer holds.
-fn secret_bytes(rt: &impl Abort, alloc: Global) -> Bytes {
-    Bytes::copy_from_slice(alloc, b"Basic YTpi").expect(rt, "memory")
+fn later_request(
+    rt: &impl Abort,
+    alloc: Global,
+    pool: &mut HttpRequestPool<Visited>,
+) -> HttpRequest<Visited> {
+    request_of(rt, alloc, pool, head_of(rt, alloc, "/later", LATER))
+}
+
+/// A request of the pool whose Authorization has bytes that nothing else shares, and these bytes.
+fn authorized_request(
+    rt: &impl Abort,
+    alloc: Global,
+    pool: &mut HttpRequestPool<Visited>,
+) -> (HttpRequest<Visited>, Bytes) {
+    let secret = Bytes::copy_from_slice(alloc, b"Basic YTpi").expect(rt, "memory");
+    let value = HeaderValue::from_shared(secret.clone().expect(rt, "memory"));
+    let value = value.ok().expect(rt, "a value");
+    let mut head = head_of(rt, alloc, "/later", LATER);
+    head.headers.append(AUTHORIZATION, value).expect(rt, "room");
+    (request_of(rt, alloc, pool, head), secret)
+}
+
+/// Two requests of the pool, which had none.
+fn first_requests(
+    rt: &impl Abort,
+    alloc: Global,
+    pool: &mut HttpRequestPool<Visited>,
+) -> (HttpRequest<Visited>, HttpRequest<Visited>) {
+    let first = later_request(rt, alloc, pool);
+    let second = later_request(rt, alloc, pool);
+    assert_same(rt, (first.serial(), second.serial()), (0, 1));
+    (first, second)
 }
 
 /// Compares what is read of the parts of two requests.
@@ -187,7 +205,7 @@ fn assert_same_computed(
 #[test]
 fn a_used_record_reads_as_a_new_one(rt: HostRuntime) {
     let alloc = rt.alloc();
-    let mut pool = pool_of(&rt, alloc, 1);
+    let mut pool = new_pool(&rt, alloc);
     let earlier = earlier_request(&rt, alloc, &mut pool);
     pool.give_back(earlier);
     let mut later = later_request(&rt, alloc, &mut pool);
@@ -202,9 +220,8 @@ fn a_used_record_reads_as_a_new_one(rt: HostRuntime) {
 #[test]
 fn a_record_that_is_kept_has_no_header(rt: HostRuntime) {
     let alloc = rt.alloc();
-    let mut pool = pool_of(&rt, alloc, 1);
-    let secret = secret_bytes(&rt, alloc);
-    let request = authorized_request(&rt, alloc, &mut pool, &secret);
+    let mut pool = new_pool(&rt, alloc);
+    let (request, secret) = authorized_request(&rt, alloc, &mut pool);
     assert_holds(&rt, "a header shares the bytes", !secret.is_unique());
     pool.give_back(request);
     assert_same(&rt, pool.serials(), &[0]);
@@ -214,9 +231,8 @@ fn a_record_that_is_kept_has_no_header(rt: HostRuntime) {
 #[test]
 fn a_head_that_a_duplicate_shares_goes_with_the_duplicate(rt: HostRuntime) {
     let alloc = rt.alloc();
-    let mut pool = pool_of(&rt, alloc, 1);
-    let secret = secret_bytes(&rt, alloc);
-    let request = authorized_request(&rt, alloc, &mut pool, &secret);
+    let mut pool = new_pool(&rt, alloc);
+    let (request, secret) = authorized_request(&rt, alloc, &mut pool);
     let copy = request.duplicate(alloc).expect(&rt, "memory");
     pool.give_back(request);
     assert_same(&rt, pool.serials(), &[0]);
@@ -230,10 +246,8 @@ fn a_head_that_a_duplicate_shares_goes_with_the_duplicate(rt: HostRuntime) {
 #[test]
 fn a_full_pool_drops_a_record(rt: HostRuntime) {
     let alloc = rt.alloc();
-    let mut pool = pool_of(&rt, alloc, 1);
-    let first = later_request(&rt, alloc, &mut pool);
-    let second = later_request(&rt, alloc, &mut pool);
-    assert_same(&rt, (first.serial(), second.serial()), (0, 1));
+    let mut pool = new_pool(&rt, alloc);
+    let (first, second) = first_requests(&rt, alloc, &mut pool);
     pool.give_back(first);
     pool.give_back(second);
     assert_same(&rt, pool.serials(), &[0]);
@@ -243,9 +257,8 @@ fn a_full_pool_drops_a_record(rt: HostRuntime) {
 #[test]
 fn a_disabled_pool_keeps_nothing(rt: HostRuntime) {
     let alloc = rt.alloc();
-    let mut pool = pool_of(&rt, alloc, 1);
-    let first = later_request(&rt, alloc, &mut pool);
-    let second = later_request(&rt, alloc, &mut pool);
+    let mut pool = new_pool(&rt, alloc);
+    let (first, second) = first_requests(&rt, alloc, &mut pool);
     pool.give_back(first);
     pool.disable();
     assert_same(&rt, pool.serials().len(), 0);

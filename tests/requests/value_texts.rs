@@ -34,7 +34,7 @@ const BODIES: [(&[u8], &str); 26] = [
     (b"[{\"a\":1.0}]", "float"),
 ];
 
-/// A form, its names and values after each other, and the form that is written of them.
+/// A form, its names and values one after the other, and the form that is written of them.
 const FORMS: [(&[u8], &str, &str); 14] = [
     (b"n=7&name=ab", "n 7 name ab ", "n=7&name=ab"),
     (b"name=a+b", "name a b ", "name=a+b"),

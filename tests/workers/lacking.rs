@@ -1,5 +1,6 @@
 //! Sources that lack memory for a piece, below arguments, replies and connections.
 use crate::compare::assert_same;
+use crate::lacking_source::LackingSource;
 use crate::requests::{head, request_of, worker};
 use bytes::Bytes;
 use example_handlers::Booking;
@@ -7,51 +8,18 @@ use http::StatusCode;
 use http_header::{CONTENT_TYPE, HeaderValue};
 use std::alloc::Global;
 use std::process::Abort;
-use web_body::{Marks, Payload};
+use web_body::Marks;
 use web_extract::{FromRequest, Poll, Ready, Step};
 use web_extract_body::{Form, Json};
 use web_http1::{Ended, serve_connection};
 use web_messages::Limits;
 use web_multipart::Multipart;
 use web_reply::{BoxBody, HttpResponse};
-use web_request::{HttpRequest, Mark, NoData, NoMemory, PlainApp, Source, Turn};
+use web_request::{HttpRequest, Mark, NoData, NoMemory, PlainApp, Source};
 use web_worker::FnHandler;
 
-/// Gives this text, lacks memory for what follows, and then ends.
-#[derive(Drop)]
-struct Lacking {
-    text: &'static str,
-    calls: u8,
-}
-
-impl Source for Lacking {
-    ghost use Rattle.std.specs.Prelude.{None, false};
-
-    ghost feed = { λ s. record {
-      marks = None;
-      faults = 0;
-      stalls = 0;
-      given = 0;
-      answers = 0;
-      lacked = false;
-    } };
-
-    fn next(&mut self) -> Turn {
-        self.calls = self.calls.saturating_add(1);
-        match self.calls {
-            1 => Turn::Piece(Bytes::from_static(self.text.as_bytes())),
-            2 => Turn::NoMemory,
-            _ => Turn::End,
-        }
-    }
-}
-
 /// An application whose bodies come from such sources.
-type Site = PlainApp<Lacking>;
-
-fn lacking(text: &'static str) -> Lacking {
-    Lacking { text, calls: 0 }
-}
+type Site = PlainApp<LackingSource>;
 
 fn request(rt: &impl Abort, alloc: Global, media_type: &'static str) -> HttpRequest<Site> {
     let mut head = head(rt, alloc, "/");
@@ -69,7 +37,7 @@ fn assert_lacks<T: FromRequest<Site>>(
     media_type: &'static str,
     text: &'static str,
 ) {
-    let mut payload = Payload::Stream(lacking(text));
+    let mut payload = LackingSource::payload(text);
     let request = request(rt, alloc, media_type);
     let mut future = T::from_request(alloc, &request, &mut payload).expect(rt, "memory");
     let step = future.poll(alloc);
@@ -93,10 +61,10 @@ fn arguments_lack_memory(rt: HostRuntime) {
 fn served<S: Source>(rt: &impl Abort, alloc: Global, mut source: S) -> (Ended, Vec<u8>) {
     let mut worker = worker::<Site>(rt, alloc, NoData);
     let mut handler = FnHandler(|_body: Bytes| -> Result<
-        Ready<HttpResponse<BoxBody<Lacking>>>,
+        Ready<HttpResponse<BoxBody<LackingSource>>>,
         NoMemory,
     > {
-        let payload = Box::new(alloc, Payload::Stream(lacking("ab")))?;
+        let payload = Box::new(alloc, LackingSource::payload("ab"))?;
         let body = BoxBody::Stream(payload);
         Ok(Ready::new(HttpResponse::with_body(alloc, StatusCode::OK, body)))
     });
@@ -126,7 +94,7 @@ fn replies_lack_memory(rt: HostRuntime) {
 fn connections_lack_memory(rt: HostRuntime) {
     let alloc = rt.alloc();
     for text in ["", "\r\n", "GET / HTTP/1.1\r\n"] {
-        let (ended, out) = served(&rt, alloc, lacking(text));
+        let (ended, out) = served(&rt, alloc, LackingSource::new(text));
         assert_same(&rt, ended, Ended::NoMemory);
         assert_same(&rt, out.len(), 0);
     }

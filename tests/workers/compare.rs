@@ -1,8 +1,0 @@
-//! A comparison in a function of its own, so that a test ends only where it returns.
-use std::fmt::Debug;
-use std::process::Abort;
-
-/// Asserts that a value is the expected one.
-pub(crate) fn assert_same<T: PartialEq + Debug + Drop>(rt: &impl Abort, found: T, expected: T) {
-    assert_eq!(rt; found, expected);
-}
