@@ -1,5 +1,6 @@
 //! The choice among variants and its reply: first the fields of the variants, `MEDIA TYPE,
-//! LANGUAGE, CODING, BODY`, where `-` is no language, then the header fields, `NAME: VALUE`.
+//! LANGUAGE, CODING, BODY`, where `-` is no language, then the header fields, `NAME: VALUE`. For a
+//! page the place of its fallback stands before them, or `-`.
 use crate::answers::{Answer, no_such_call, shown, text};
 use crate::documents;
 use crate::maps::{BETWEEN, headers_of};
@@ -9,15 +10,55 @@ use web_body::Marks;
 use web_headers::Encoding;
 use web_request::{HttpRequest, PlainApp};
 use web_texts::{Fail, LanguageTag, Mime, NoMemory, ReadText};
-use web_variants::{Variant, Variants, answer_variant, choose};
+use web_variants::{NoSuchVariant, Page, Variant, Variants, answer_page, answer_variant, choose};
 
 /// What stands between the parts of a variant.
 const THEN: &str = ", ";
 
+/// What replies to a request.
+#[derive(Clone, Copy)]
+enum Asked<'a> {
+    Variants(&'a Variants),
+    Page(&'a Page),
+}
+
 pub(crate) fn answer(alloc: Global, name: &str, fields: &[&str]) -> Answer {
+    match (name, fields) {
+        ("page", [place, fields @ ..]) => page(alloc, place, fields),
+        _ => answer_of(alloc, name, fields),
+    }
+}
+
+fn answer_of(alloc: Global, name: &str, fields: &[&str]) -> Answer {
     match stored(alloc, fields)? {
         Ok(variants) => answer_from(alloc, name, &variants, fields),
         Err(answer) => Ok(answer),
+    }
+}
+
+fn page(alloc: Global, place: &str, fields: &[&str]) -> Answer {
+    match stored(alloc, fields)? {
+        Ok(variants) => match page_of(variants, place) {
+            Ok(page) => page_answer(alloc, &page, fields),
+            Err(fault) => shown(alloc, fault),
+        },
+        Err(answer) => Ok(answer),
+    }
+}
+
+/// The page with the fallback at this place, or with none where the text is no number.
+fn page_of(variants: Variants, place: &str) -> Result<Page, NoSuchVariant> {
+    match place.parse() {
+        Ok(place) => Page::with_fallback(variants, place),
+        Err(_) => Ok(Page::new(variants)),
+    }
+}
+
+fn page_answer(alloc: Global, page: &Page, fields: &[&str]) -> Answer {
+    let fields = fields_of_headers(alloc, fields)?;
+    match headers_of(alloc, fields.as_slice())? {
+        Some(headers) => reply(alloc, Asked::Page(page), headers),
+        None => text(alloc, "no header fields"),
     }
 }
 
@@ -26,7 +67,7 @@ fn answer_from(alloc: Global, name: &str, variants: &Variants, fields: &[&str]) 
     match headers_of(alloc, fields.as_slice())? {
         Some(headers) => match name {
             "choose" => chosen(alloc, variants, &headers),
-            "reply" => reply(alloc, variants, headers),
+            "reply" => reply(alloc, Asked::Variants(variants), headers),
             _ => no_such_call(alloc),
         },
         None => text(alloc, "no header fields"),
@@ -51,19 +92,22 @@ fn chosen(alloc: Global, variants: &Variants, headers: &HeaderMap<HeaderValue>) 
     }
 }
 
-fn reply(alloc: Global, variants: &Variants, headers: HeaderMap<HeaderValue>) -> Answer {
+fn reply(alloc: Global, asked: Asked<'_>, headers: HeaderMap<HeaderValue>) -> Answer {
     match documents::head_of(alloc, "GET /", headers) {
         Some(head) => {
             let mut pool = documents::pool::<Marks>(alloc)?;
             let req = documents::started(alloc, &mut pool, head)?;
-            reply_to(alloc, variants, &req)
+            reply_to(alloc, asked, &req)
         }
         None => text(alloc, "no request"),
     }
 }
 
-fn reply_to(alloc: Global, variants: &Variants, req: &HttpRequest<PlainApp<Marks>>) -> Answer {
-    let reply = answer_variant(alloc, variants, req)?;
+fn reply_to(alloc: Global, asked: Asked<'_>, req: &HttpRequest<PlainApp<Marks>>) -> Answer {
+    let reply = match asked {
+        Asked::Variants(variants) => answer_variant(alloc, variants, req)?,
+        Asked::Page(page) => answer_page(alloc, page, req)?,
+    };
     documents::shown(alloc, &reply)
 }
 

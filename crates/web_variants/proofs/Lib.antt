@@ -1,5 +1,6 @@
 pub mod FirstGreatestLemmas
 pub mod MediaLemmas
+pub mod PageReplyLemmas
 pub mod PrintedHeaderLemmas
 pub mod StoredVariantLemmas
 pub mod VariantReplyLemmas

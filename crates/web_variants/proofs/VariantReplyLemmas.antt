@@ -14,11 +14,11 @@ use Rattle.web_variants.specs.declared.stored_variants.Variant.{Variant}
 use Rattle.web_variants.proofs.FirstGreatestLemmas.{greatest_at, none_greatest}
 
 -- what holds of a value holds of the result
-if_ok : {T E : Type 0} (r : Result T E) (P Q : T → Type 0) → ((x : T) → P x → Q x) → IfOk r P → IfOk r Q
+pub if_ok : {T E : Type 0} (r : Result T E) (P Q : T → Type 0) → ((x : T) → P x → Q x) → IfOk r P → IfOk r Q
 if_ok (Ok x) P Q step p = step x p
 if_ok (Err e) P Q step p = tt
 
-element_at : {X : Type 0} (xs : List X) (i : ℕ) → i < length xs → (x : X) × (x ≡ get_or xs i x)
+pub element_at : {X : Type 0} (xs : List X) (i : ℕ) → i < length xs → (x : X) × (x ≡ get_or xs i x)
 element_at [] i inside = absurd (omega (arith, inside))
 element_at (x ∷ xs) zero inside = (x, refl)
 element_at (x ∷ xs) (suc i) inside = element_at xs i (omega (arith, inside))

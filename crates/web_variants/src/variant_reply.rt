@@ -34,7 +34,7 @@ fn replied(
 }
 
 /// The reply with the variant at this place.
-fn reply_at(
+pub(crate) fn reply_at(
     alloc: Global,
     variants: &Variants,
     place: usize,
@@ -48,7 +48,8 @@ fn reply_at(
     Ok(replied(alloc, StatusCode::OK, headers, WholeBody::Bytes(body)))
 }
 
-fn not_acceptable(alloc: Global) -> Result<HttpResponse<WholeBody>, NoMemory>
+/// An empty 406.
+pub(crate) fn not_acceptable(alloc: Global) -> Result<HttpResponse<WholeBody>, NoMemory>
     ensures { IfOk result (λ reply. reply ≡ reply_of None) }
 {
     let headers = vary(alloc)?;
