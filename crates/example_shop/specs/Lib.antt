@@ -1,3 +1,4 @@
 pub mod Item
+pub mod ItemReplies
 pub mod Order
 pub mod Price

@@ -7,6 +7,8 @@ ghost use Rattle.std.specs.Prelude.{◌≡◌, ◌+◌, ◌<◌, ◌^◌, length
 mod error;
 mod handler;
 mod item;
+mod item_handler;
+mod item_layer;
 mod layer;
 mod order;
 mod price;

@@ -1,0 +1,4 @@
+-- Lemmas of the handler of items.
+mod ExactLemmas
+mod ItemLemmas
+mod ToldBodiesLemmas
