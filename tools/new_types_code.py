@@ -207,9 +207,21 @@ def fields_of_names(crate, one):
     return [*implementation(crate, one, "ReadField", [f"{low}_field"], [("field", f"{low}_field")]),
             *signature("    ", "read_field", ["alloc: Global", "text: &str"], one.name, " {"),
             f"        named_{low}(alloc, text)", "    }", "}", "",
+            *only_name(crate, one),
             *implementation(crate, one, "WriteField", [f"texts_of_{low}"], [("texts", f"texts_of_{low}")]),
             *write_field_head(), "        pairs.push(Pair::new(alloc, name, self.as_str())?)?;", "        Ok(())",
             "    }", "}", ""]
+
+
+def only_name(crate, one):
+    """The reader of a path with this one parameter."""
+    low = one.module
+    ghosts = [("reads_pairs", f"λ pairs x. x ≡ only_field {low}_field pairs")]
+    lines = implementation(crate, one, "ReadPairs", [f"{low}_field"], ghosts, ["◌≡◌"])
+    place = next(place for place, line in enumerate(lines) if f"{low}_field}}" in line)
+    lines.insert(place, "    ghost use Rattle.web_codec.specs.FieldReaders.{only_field};")
+    return [*lines, *signature("    ", "read_pairs", ["alloc: Global", "pairs: &[Pair]"], one.name, " {"),
+            "        only_field(alloc, pairs)", "    }", "}", ""]
 
 
 def write_field_head():
@@ -222,7 +234,7 @@ def imports(crate, one):
     codec = ["ReadData", "ReadFault", "WriteData"]
     texts = ["Fail", "NoMemory"]
     if one.names:
-        codec += ["ReadField", "WriteField"]
+        codec += ["ReadField", "ReadPairs", "WriteField", "only_field"]
         texts.append("Pair")
     else:
         codec += ["object"] + ["deny_unknown"] * one.deny

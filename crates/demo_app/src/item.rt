@@ -2,7 +2,7 @@
 use serde_json::{Value, json};
 use std::alloc::Global;
 use std::fmt;
-use web_codec::{ReadFault, ReadJson, WriteFault, WriteJson};
+use web_codec::{ReadData, ReadFault, WriteFault, WriteJson};
 use web_texts::{Fail, Text};
 
 /// A named number, which the demo reads from JSON bodies, forms, queries and paths.
@@ -17,13 +17,12 @@ pub struct Item {
 /// An object with the keys `name`, a text, and `n`, a whole number of 0 to 2^64 - 1. Further keys
 /// are ignored. The refusals, in the order of their tests: `no object`, `missing name`,
 /// `name is no text`, `missing n`, `n is no whole number`.
-impl ReadJson for Item {
-    ghost use Rattle.std.specs.Prelude.{◌≡◌};
+impl ReadData for Item {
     ghost use Rattle.demo_app.specs.Items.{item_of_json};
 
-    ghost reads = { λ d x. x ≡ item_of_json d };
+    ghost read = { item_of_json };
 
-    fn read_json(alloc: Global, value: &Value) -> Result<Item, Fail<ReadFault>> {
+    fn read_data(alloc: Global, value: &Value) -> Result<Item, Fail<ReadFault>> {
         if !value.is_object() {
             return Err(ReadFault::refusal(alloc, "no object"));
         }

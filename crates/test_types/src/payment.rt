@@ -5,7 +5,7 @@ ghost use Rattle.test_types.specs.Payment.{name_of_payment, payment_field};
 
 use serde_json::Value;
 use std::alloc::Global;
-use web_codec::{ReadData, ReadFault, ReadField, WriteData, WriteField};
+use web_codec::{ReadData, ReadFault, ReadField, ReadPairs, WriteData, WriteField, only_field};
 use web_texts::{Fail, NoMemory, Pair};
 
 /// How an order is paid.
@@ -80,6 +80,18 @@ impl ReadField for Payment {
 
     fn read_field(alloc: Global, text: &str) -> Result<Payment, Fail<ReadFault>> {
         named_payment(alloc, text)
+    }
+}
+
+impl ReadPairs for Payment {
+    ghost use Rattle.std.specs.Prelude.{◌≡◌};
+    ghost use Rattle.web_codec.specs.FieldReaders.{only_field};
+    ghost use Rattle.test_types.specs.Payment.{payment_field};
+
+    ghost reads_pairs = { λ pairs x. x ≡ only_field payment_field pairs };
+
+    fn read_pairs(alloc: Global, pairs: &[Pair]) -> Result<Payment, Fail<ReadFault>> {
+        only_field(alloc, pairs)
     }
 }
 

@@ -5,6 +5,8 @@ use crate::data::{ReadData, WriteData};
 use crate::faults::ReadFault;
 use crate::field_writers::{WriteField, push_field};
 use crate::fields::ReadField;
+use crate::readers::ReadPairs;
+use crate::tuples::only_field;
 use crate::whole_numbers::{signed_number_of, up_to, within};
 use serde_json::Value;
 use std::alloc::Global;
@@ -43,6 +45,19 @@ impl ReadField for u8 {
     fn read_field(alloc: Global, text: &str) -> Result<u8, Fail<ReadFault>> {
         let number = number_of(text.as_bytes(), u64::MAX);
         Ok(up_to(alloc, number, u8::MAX as u64)? as u8)
+    }
+}
+
+/// The number of the only pair.
+impl ReadPairs for u8 {
+    ghost use Rattle.std.specs.Prelude.{◌≡◌};
+    ghost use Rattle.web_codec.specs.FieldReaders.{only_field};
+    ghost use Rattle.web_codec.specs.WholeNumbers.{u8_field};
+
+    ghost reads_pairs = { λ pairs x. x ≡ only_field u8_field pairs };
+
+    fn read_pairs(alloc: Global, pairs: &[Pair]) -> Result<u8, Fail<ReadFault>> {
+        only_field(alloc, pairs)
     }
 }
 
@@ -98,6 +113,19 @@ impl ReadField for u16 {
     }
 }
 
+/// The number of the only pair.
+impl ReadPairs for u16 {
+    ghost use Rattle.std.specs.Prelude.{◌≡◌};
+    ghost use Rattle.web_codec.specs.FieldReaders.{only_field};
+    ghost use Rattle.web_codec.specs.WholeNumbers.{u16_field};
+
+    ghost reads_pairs = { λ pairs x. x ≡ only_field u16_field pairs };
+
+    fn read_pairs(alloc: Global, pairs: &[Pair]) -> Result<u16, Fail<ReadFault>> {
+        only_field(alloc, pairs)
+    }
+}
+
 impl WriteField for u16 {
     ghost use Rattle.web_codec.specs.FieldWriters.{texts_of_unsigned};
 
@@ -147,6 +175,19 @@ impl ReadField for u32 {
     fn read_field(alloc: Global, text: &str) -> Result<u32, Fail<ReadFault>> {
         let number = number_of(text.as_bytes(), u64::MAX);
         Ok(up_to(alloc, number, u32::MAX as u64)? as u32)
+    }
+}
+
+/// The number of the only pair.
+impl ReadPairs for u32 {
+    ghost use Rattle.std.specs.Prelude.{◌≡◌};
+    ghost use Rattle.web_codec.specs.FieldReaders.{only_field};
+    ghost use Rattle.web_codec.specs.WholeNumbers.{u32_field};
+
+    ghost reads_pairs = { λ pairs x. x ≡ only_field u32_field pairs };
+
+    fn read_pairs(alloc: Global, pairs: &[Pair]) -> Result<u32, Fail<ReadFault>> {
+        only_field(alloc, pairs)
     }
 }
 
@@ -202,6 +243,19 @@ impl ReadField for u64 {
     }
 }
 
+/// The number of the only pair.
+impl ReadPairs for u64 {
+    ghost use Rattle.std.specs.Prelude.{◌≡◌};
+    ghost use Rattle.web_codec.specs.FieldReaders.{only_field};
+    ghost use Rattle.web_codec.specs.WholeNumbers.{u64_field};
+
+    ghost reads_pairs = { λ pairs x. x ≡ only_field u64_field pairs };
+
+    fn read_pairs(alloc: Global, pairs: &[Pair]) -> Result<u64, Fail<ReadFault>> {
+        only_field(alloc, pairs)
+    }
+}
+
 impl WriteField for u64 {
     ghost use Rattle.web_codec.specs.FieldWriters.{texts_of_unsigned};
 
@@ -251,6 +305,19 @@ impl ReadField for usize {
     fn read_field(alloc: Global, text: &str) -> Result<usize, Fail<ReadFault>> {
         let number = number_of(text.as_bytes(), u64::MAX);
         Ok(up_to(alloc, number, usize::MAX as u64)? as usize)
+    }
+}
+
+/// The number of the only pair.
+impl ReadPairs for usize {
+    ghost use Rattle.std.specs.Prelude.{◌≡◌};
+    ghost use Rattle.web_codec.specs.FieldReaders.{only_field};
+    ghost use Rattle.web_codec.specs.WholeNumbers.{usize_field};
+
+    ghost reads_pairs = { λ pairs x. x ≡ only_field usize_field pairs };
+
+    fn read_pairs(alloc: Global, pairs: &[Pair]) -> Result<usize, Fail<ReadFault>> {
+        only_field(alloc, pairs)
     }
 }
 
@@ -306,6 +373,19 @@ impl ReadField for i8 {
     }
 }
 
+/// The number of the only pair.
+impl ReadPairs for i8 {
+    ghost use Rattle.std.specs.Prelude.{◌≡◌};
+    ghost use Rattle.web_codec.specs.FieldReaders.{only_field};
+    ghost use Rattle.web_codec.specs.WholeNumbers.{i8_field};
+
+    ghost reads_pairs = { λ pairs x. x ≡ only_field i8_field pairs };
+
+    fn read_pairs(alloc: Global, pairs: &[Pair]) -> Result<i8, Fail<ReadFault>> {
+        only_field(alloc, pairs)
+    }
+}
+
 impl WriteField for i8 {
     ghost use Rattle.web_codec.specs.FieldWriters.{texts_of_signed};
 
@@ -355,6 +435,19 @@ impl ReadField for i16 {
     fn read_field(alloc: Global, text: &str) -> Result<i16, Fail<ReadFault>> {
         let number = signed_number_of(text.as_bytes());
         Ok(within(alloc, number, i16::MIN as i64, i16::MAX as i64)? as i16)
+    }
+}
+
+/// The number of the only pair.
+impl ReadPairs for i16 {
+    ghost use Rattle.std.specs.Prelude.{◌≡◌};
+    ghost use Rattle.web_codec.specs.FieldReaders.{only_field};
+    ghost use Rattle.web_codec.specs.WholeNumbers.{i16_field};
+
+    ghost reads_pairs = { λ pairs x. x ≡ only_field i16_field pairs };
+
+    fn read_pairs(alloc: Global, pairs: &[Pair]) -> Result<i16, Fail<ReadFault>> {
+        only_field(alloc, pairs)
     }
 }
 
@@ -410,6 +503,19 @@ impl ReadField for i32 {
     }
 }
 
+/// The number of the only pair.
+impl ReadPairs for i32 {
+    ghost use Rattle.std.specs.Prelude.{◌≡◌};
+    ghost use Rattle.web_codec.specs.FieldReaders.{only_field};
+    ghost use Rattle.web_codec.specs.WholeNumbers.{i32_field};
+
+    ghost reads_pairs = { λ pairs x. x ≡ only_field i32_field pairs };
+
+    fn read_pairs(alloc: Global, pairs: &[Pair]) -> Result<i32, Fail<ReadFault>> {
+        only_field(alloc, pairs)
+    }
+}
+
 impl WriteField for i32 {
     ghost use Rattle.web_codec.specs.FieldWriters.{texts_of_signed};
 
@@ -462,6 +568,19 @@ impl ReadField for i64 {
     }
 }
 
+/// The number of the only pair.
+impl ReadPairs for i64 {
+    ghost use Rattle.std.specs.Prelude.{◌≡◌};
+    ghost use Rattle.web_codec.specs.FieldReaders.{only_field};
+    ghost use Rattle.web_codec.specs.WholeNumbers.{i64_field};
+
+    ghost reads_pairs = { λ pairs x. x ≡ only_field i64_field pairs };
+
+    fn read_pairs(alloc: Global, pairs: &[Pair]) -> Result<i64, Fail<ReadFault>> {
+        only_field(alloc, pairs)
+    }
+}
+
 impl WriteField for i64 {
     ghost use Rattle.web_codec.specs.FieldWriters.{texts_of_signed};
 
@@ -511,6 +630,19 @@ impl ReadField for isize {
     fn read_field(alloc: Global, text: &str) -> Result<isize, Fail<ReadFault>> {
         let number = signed_number_of(text.as_bytes());
         Ok(within(alloc, number, isize::MIN as i64, isize::MAX as i64)? as isize)
+    }
+}
+
+/// The number of the only pair.
+impl ReadPairs for isize {
+    ghost use Rattle.std.specs.Prelude.{◌≡◌};
+    ghost use Rattle.web_codec.specs.FieldReaders.{only_field};
+    ghost use Rattle.web_codec.specs.WholeNumbers.{isize_field};
+
+    ghost reads_pairs = { λ pairs x. x ≡ only_field isize_field pairs };
+
+    fn read_pairs(alloc: Global, pairs: &[Pair]) -> Result<isize, Fail<ReadFault>> {
+        only_field(alloc, pairs)
     }
 }
 

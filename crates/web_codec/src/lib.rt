@@ -32,5 +32,6 @@ pub use form::{form_pairs, pairs_text};
 pub use json_value::read_value;
 pub use members::{deny_unknown, member_or, object, required};
 pub use readers::{ReadJson, ReadPairs, WriteJson, WritePairs};
+pub use tuples::only_field;
 pub use typed::Typed;
 pub use write::{write_form, write_value};

@@ -8,7 +8,7 @@ use crate::faults::ReadFault;
 use crate::fields::{ReadField, read_named};
 use crate::readers::ReadPairs;
 use std::alloc::Global;
-use web_texts::{Fail, Pair};
+use web_texts::{Fail, Pair, Text};
 
 /// The value of the pair at this place.
 fn field_at<T: ReadField>(alloc: Global, pairs: &[Pair], place: usize) -> Result<T, Fail<ReadFault>>
@@ -20,18 +20,37 @@ fn field_at<T: ReadField>(alloc: Global, pairs: &[Pair], place: usize) -> Result
     }
 }
 
-/// A value by itself: that of the only pair.
-impl<T: ReadField> ReadPairs for T {
+/// The value of the only pair, as a path with one parameter has it.
+pub fn only_field<T: ReadField>(alloc: Global, pairs: &[Pair]) -> Result<T, Fail<ReadFault>>
+    ensures { Answers (λ x. x ≡ only_field T.field pairs.now) result }
+{
+    if pairs.len() != 1 {
+        return Err(ReadFault::refusal(alloc, "not one value"));
+    }
+    read_named(alloc, pairs[0].name(), pairs[0].value())
+}
+
+/// The text of the only pair.
+impl ReadPairs for Text {
     ghost use Rattle.std.specs.Prelude.{◌≡◌};
-    ghost use Rattle.web_codec.specs.FieldReaders.{only_field};
+    ghost use Rattle.web_codec.specs.FieldReaders.{only_field, text_field};
 
-    ghost reads_pairs = { λ pairs x. x ≡ only_field T.field pairs };
+    ghost reads_pairs = { λ pairs x. x ≡ only_field text_field pairs };
 
-    fn read_pairs(alloc: Global, pairs: &[Pair]) -> Result<T, Fail<ReadFault>> {
-        if pairs.len() != 1 {
-            return Err(ReadFault::refusal(alloc, "not one value"));
-        }
-        read_named(alloc, pairs[0].name(), pairs[0].value())
+    fn read_pairs(alloc: Global, pairs: &[Pair]) -> Result<Text, Fail<ReadFault>> {
+        only_field(alloc, pairs)
+    }
+}
+
+/// `true` or `false` in the only pair.
+impl ReadPairs for bool {
+    ghost use Rattle.std.specs.Prelude.{◌≡◌};
+    ghost use Rattle.web_codec.specs.FieldReaders.{bool_field, only_field};
+
+    ghost reads_pairs = { λ pairs x. x ≡ only_field bool_field pairs };
+
+    fn read_pairs(alloc: Global, pairs: &[Pair]) -> Result<bool, Fail<ReadFault>> {
+        only_field(alloc, pairs)
     }
 }
 
