@@ -10,8 +10,8 @@ use std::process::Abort;
 use std::rc::Rc;
 use web_body::{Mark, Marks, Payload};
 use web_request::{
-    App, AppConfig, HttpRequest, HttpRequestPool, IpAddr, NoData, Pair, PlainApp, RequestHead,
-    RequestParts, SocketAddr, Source, Text,
+    App, AppConfig, HttpRequest, HttpRequestPool, NoData, Pair, PlainApp, RequestHead,
+    RequestParts, Source,
 };
 
 /// The application of the tests.
@@ -21,14 +21,7 @@ pub(crate) type Site = PlainApp<Marks>;
 pub(crate) type Field = (&'static str, &'static [u8]);
 
 pub(crate) fn config(rt: &impl Abort, alloc: Global) -> AppConfig {
-    AppConfig {
-        host: Text::of(alloc, "localhost:8080").expect(rt, "memory"),
-        secure: false,
-        local_addr: SocketAddr {
-            ip: IpAddr::V4([127, 0, 0, 1]),
-            port: 8080,
-        },
-    }
+    AppConfig::local(alloc).expect(rt, "memory")
 }
 
 /// The head of a GET request for this target, without header fields.

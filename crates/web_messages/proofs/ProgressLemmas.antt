@@ -1,5 +1,5 @@
 -- Reading on: what is known of the next message, and that it holds of more bytes too.
-use Rattle.std.proofs.Common.{◌≡◌, ℕ, inl, inr, ◌+◌, ◌<◌, ◌≤◌, ◌==◌, Bool, true, false, List, [], ◌++◌, length, drop, Option, None, Some, refl, sym, ap, ◌∙◌, subst, arith, append_assoc, append-nil, length-append, if◌then◌else◌}
+use Rattle.std.proofs.Common.{◌≡◌, ℕ, inl, inr, ◌+◌, ◌<◌, ◌≤◌, ◌==◌, Bool, true, false, List, [], ◌++◌, length, drop, Option, None, Some, unwrap_or, refl, sym, ap, ◌∙◌, subst, arith, append_assoc, append-nil, length-append}
 use Rattle.std.specs.Borrow.{Bor}
 use Rattle.std.proofs.lemmas.List.{drop-append-le}
 use Rattle.std.proofs.lemmas.Bool.Decides.{eqb_tells}
@@ -9,6 +9,8 @@ use Rattle.web_messages.specs.declared.chunked.SizeLineRead.{SizeLineRead}
 use Rattle.web_messages.specs.declared.chunked.SizeLineRead.TheVariants as line
 use Rattle.web_messages.specs.declared.framing.Framing.{Framing}
 use Rattle.web_messages.specs.declared.head.Head.{Head}
+use Rattle.web_messages.specs.declared.limits.HeadFault.{HeadFault}
+use Rattle.web_messages.specs.declared.limits.HeadFault.TheVariants as fault
 use Rattle.web_messages.specs.declared.limits.Limits.{Limits}
 use Rattle.web_messages.specs.declared.limits.Wrong.{Wrong}
 use Rattle.web_messages.specs.declared.limits.Wrong.TheVariants as wrong
@@ -17,18 +19,22 @@ use Rattle.web_messages.specs.declared.message.Next.{Next}
 use Rattle.web_messages.specs.declared.message.Next.TheVariants as next
 use Rattle.web_messages.specs.declared.progress.Progress.{Progress}
 use Rattle.web_messages.specs.declared.progress.Progress.TheVariants as progress
-use Rattle.web_messages.specs.declared.progress.Step.TheVariants as step
+use Rattle.web_messages.specs.declared.progress.MessageRead.TheVariants as step
 use Rattle.web_messages.specs.declared.trailers.Trailers.{Trailers}
 use Rattle.web_messages.specs.Chunking.{EndRead, HasChunks, IsChunked, IsSoFar, IsSoFarAt, LineRead}
 use Rattle.web_messages.specs.ChunkedBody.{print_size_line}
 use Rattle.web_messages.specs.EmptyLines.{BlankFront, is_blank}
+use Rattle.web_messages.specs.HeadFaults.{find_fault, head_fault}
 use Rattle.web_messages.specs.HeadReadings.{NeverHasHead}
+use Rattle.web_messages.specs.Heads as heads
 use Rattle.web_messages.specs.Lines.{BeginsText}
 use Rattle.web_messages.specs.NextMessage.{BodyIs, ChunkedBodyIs, IsFinal, IsNext, framing_in, message_of}
-use Rattle.web_messages.specs.Progress.{HeadFound, IsProgress, IsSettled, ReadsOn, next_at_end, stopped}
+use Rattle.web_messages.specs.Progress.{HeadFound, IsProgress, IsSearch, IsSettled, IsShort, ReadsOn, next_at_end, stopped}
 use Rattle.web_messages.proofs.ChunkLemmas.{so_far_more, at_start}
 use Rattle.web_messages.proofs.LineLemmas.{text_longer}
-use Rattle.web_messages.proofs.MoreLemmas.{begins_more, blank_more, message_stays, refused_stays}
+use Rattle.web_messages.proofs.BlankLemmas.{blank_more}
+use Rattle.web_messages.proofs.HeadFaultLemmas.{fault_stays, if_false, if_true}
+use Rattle.web_messages.proofs.MoreLemmas.{begins_more, message_stays, refused_stays}
 use Rattle.web_messages.proofs.NextLemmas.{left_fits, message_next, not_head, refused_next}
 use Rattle.web_messages.proofs.SearchLemmas.{all_blank, blank_no_head, search_longer, searched_all, some_behind}
 use Rattle.web_messages.proofs.StableLemmas.{chunks_more, no_excess_behind}
@@ -112,12 +118,27 @@ chunks_start limit text bytes at' left none first all =
 pub now : (limits : Limits) (bytes : List ℕ) (x : Next) → IsSettled limits bytes x → IsNext limits bytes x
 now limits bytes x h = subst (λ (t : List ℕ). IsNext limits t x) (append-nil bytes) (h [])
 
-pub head_refused : (limits : Limits) (bytes : List ℕ) → is_blank bytes ≡ false → NeverHasHead limits bytes
-    → ReadsOn limits bytes (step.Refused wrong.Head)
-head_refused limits bytes some never = (tt, λ more. (blank_more bytes more some, never more))
+pub head_refused : (limits : Limits) (bytes : List ℕ) (f : HeadFault) → is_blank bytes ≡ false → NeverHasHead limits bytes
+    → find_fault limits bytes ≡ Some f → ReadsOn limits bytes (step.Refused (wrong.Head f))
+head_refused limits bytes f some never decided = (
+  tt,
+  λ more. (
+    blank_more bytes more some,
+    never more,
+    sym (ap (λ (o : Option HeadFault). unwrap_or o fault.Malformed) (fault_stays limits bytes more f decided)),
+  ),
+)
+
+-- none is there so far
+pub none_so_far : (limits : Limits) (bytes : List ℕ) → NeverHasHead limits bytes → heads.HasNoHead limits bytes
+none_so_far limits bytes never = subst (heads.HasNoHead limits) (append-nil bytes) (never [])
+
+pub none_at_end : (limits : Limits) (bytes : List ℕ) → is_blank bytes ≡ false → heads.HasNoHead limits bytes
+    → IsNext limits bytes (next.Refused (wrong.Head (head_fault limits bytes)))
+none_at_end limits bytes some none = (some, none, refl)
 
 module _ (limits : Limits) (bytes : List ℕ) (head : Head) (h : HeadFound limits bytes head)
-    (f : Framing) (framing_is : f ≡ framing_in head) (text : List ℕ) (text_is : text ≡ drop head.length bytes) where
+    (f : Framing) (framing_is : f ≡ framing_in limits head) (text : List ℕ) (text_is : text ≡ drop head.length bytes) where
   pub body_fits : (content : List ℕ) (left : ℕ) → BodyIs limits.body f text (body.Body content left) → left ≤ length bytes
   body_fits = left_fits limits bytes head h.rest h.begins f framing_is text text_is
 
@@ -135,22 +156,14 @@ module _ (limits : Limits) (bytes : List ℕ) (head : Head) (h : HeadFound limit
   cut_now is = refused_next limits bytes head h.rest h.begins f framing_is text text_is wrong.Cut h.some is
 
   pub stopped_known : (w : Wrong) (p : Progress) → BodyIs limits.body f text (body.Refused w) → IsProgress limits bytes p
-      → next_at_end p (length bytes) ≡ next.Refused wrong.Cut → ReadsOn limits bytes (stopped w p)
-  stopped_known wrong.Cut p is so_far ends = (so_far, subst (IsNext limits bytes) (sym ends) (cut_now is))
-  stopped_known wrong.Head p is so_far ends = absurd (not_head limits.body f text is)
-  stopped_known wrong.Length p is so_far ends = (tt, refused_known wrong.Length tt is)
-  stopped_known wrong.TooLarge p is so_far ends = (tt, refused_known wrong.TooLarge tt is)
-  stopped_known wrong.Chunk p is so_far ends = (tt, refused_known wrong.Chunk tt is)
+      → next_at_end limits p bytes ≡ next.Refused wrong.Cut → (BodyIs limits.body f text (body.Refused wrong.Cut) → IsShort limits bytes p) → ReadsOn limits bytes (stopped w p)
+  stopped_known wrong.Cut p is so_far ends short = (so_far, subst (IsNext limits bytes) (sym ends) (cut_now is), short is)
+  stopped_known (wrong.Head e) p is so_far ends short = absurd (not_head limits.body f text e is)
+  stopped_known (wrong.Length e) p is so_far ends short = (tt, refused_known (wrong.Length e) tt is)
+  stopped_known wrong.TooLarge p is so_far ends short = (tt, refused_known wrong.TooLarge tt is)
+  stopped_known wrong.Chunk p is so_far ends short = (tt, refused_known wrong.Chunk tt is)
 
 -- ---- a head that is looked for
-
-if_true : {A : Type 0} (t : Bool) (x y : A) → t ≡ true → (if t then x else y) ≡ x
-if_true true x y e = refl
-if_true false x y e = cc
-
-if_false : {A : Type 0} (t : Bool) (x y : A) → t ≡ false → (if t then x else y) ≡ y
-if_false false x y e = refl
-if_false true x y e = cc
 
 same_test : (n m : ℕ) → n ≡ m → (n == m) ≡ true
 same_test n m e = elim (eqb_tells n m) [ inl x ↦ x.0 | inr x ↦ absurd (x.1 e) ]
@@ -158,22 +171,34 @@ same_test n m e = elim (eqb_tells n m) [ inl x ↦ x.0 | inr x ↦ absurd (x.1 e
 other_test : (n m : ℕ) → n < m → (n == m) ≡ false
 other_test n m e = elim (eqb_tells n m) [ inl x ↦ absurd (omega (arith, x.1, e)) | inr x ↦ x.0 ]
 
+blank_some : (b : Bool) → b ≡ true → b ≡ false → ⊥
+blank_some true a b = cc
+blank_some false a b = cc
+
 module _ (limits : Limits) (bytes : List ℕ) (n : ℕ) (f : BlankFront bytes n) where
   -- there is nothing but CR and LF
   pub blank_step : n ≡ length bytes → ReadsOn limits bytes (step.Unfinished (progress.Head (record { blank = n; searched = length bytes })))
   blank_step all = (
     searched_all bytes n f.begins (blank_no_head bytes n f.begins all),
-    subst (IsNext limits bytes) (sym (if_true (n == length bytes) next.Closed (next.Refused wrong.Head) (same_test n (length bytes) all))) (all_blank bytes n f all),
+    subst (IsNext limits bytes) (sym (if_true (n == length bytes) next.Closed (next.Refused (wrong.Head (head_fault limits bytes))) (same_test n (length bytes) all))) (all_blank bytes n f all),
+    λ some. absurd (blank_some (is_blank bytes) (all_blank bytes n f all) some),
   )
 
   -- there is no head yet
-  pub open_step : n < length bytes → HasNoRequest bytes
-      → ReadsOn limits bytes (step.Unfinished (progress.Head (record { blank = n; searched = length bytes })))
-  open_step some none = (
-    searched_all bytes n f.begins none,
-    subst (IsNext limits bytes) (sym (if_false (n == length bytes) next.Closed (next.Refused wrong.Head) (other_test n (length bytes) some)))
-        (some_behind bytes n f some, λ tree rest has takes. none tree rest has.reads),
+  pub open_at : (k : ℕ) → IsSearch bytes (record { blank = n; searched = k }) → n < length bytes → heads.HasNoHead limits bytes
+      → length bytes < limits.head → ReadsOn limits bytes (step.Unfinished (progress.Head (record { blank = n; searched = k })))
+  open_at k search some none short = (
+    search,
+    subst (IsNext limits bytes)
+        (sym (if_false (n == length bytes) next.Closed (next.Refused (wrong.Head (head_fault limits bytes))) (other_test n (length bytes) some)))
+        (none_at_end limits bytes (some_behind bytes n f some) none),
+    λ is. short,
   )
+
+  pub open_step : n < length bytes → HasNoRequest bytes → length bytes < limits.head
+      → ReadsOn limits bytes (step.Unfinished (progress.Head (record { blank = n; searched = length bytes })))
+  open_step some none short =
+      open_at (length bytes) (searched_all bytes n f.begins none) some (λ tree rest has takes. none tree rest has.reads) short
 
 -- ---- a body in chunks
 

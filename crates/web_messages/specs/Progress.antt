@@ -1,5 +1,5 @@
 -- How far the next message was read, and what is known of it then.
-use Rattle.std.specs.Prelude.{◌≡◌, ℕ, ◌<◌, ◌≤◌, ◌==◌, true, false, List, ◌++◌, length, drop}
+use Rattle.std.specs.Prelude.{◌≡◌, ℕ, ◌+◌, ◌<◌, ◌≤◌, ◌==◌, true, false, List, ◌++◌, length, drop}
 use Rattle.std.specs.Prelude.{if◌then◌else◌, ⊤}
 use Rattle.httparse.specs.Grammar.{RequestHead, print_request, ReadsRequest}
 use Rattle.web_messages.specs.declared.framing.Framing.TheVariants as framing
@@ -12,10 +12,11 @@ use Rattle.web_messages.specs.declared.message.Next.TheVariants as next
 use Rattle.web_messages.specs.declared.progress.Progress.{Progress}
 use Rattle.web_messages.specs.declared.progress.Progress.TheVariants as progress
 use Rattle.web_messages.specs.declared.progress.Search.{Search}
-use Rattle.web_messages.specs.declared.progress.Step.{Step}
-use Rattle.web_messages.specs.declared.progress.Step.TheVariants as step
+use Rattle.web_messages.specs.declared.progress.MessageRead.{MessageRead}
+use Rattle.web_messages.specs.declared.progress.MessageRead.TheVariants as step
 use Rattle.web_messages.specs.Chunking.{EndRead, IsSoFarAt, LineRead}
 use Rattle.web_messages.specs.EmptyLines.{BeginsBlank, is_blank}
+use Rattle.web_messages.specs.HeadFaults.{head_fault}
 use Rattle.web_messages.specs.Heads.{Begins}
 use Rattle.web_messages.specs.NextMessage.{IsNext, framing_in, message_of}
 use Rattle.web_messages.specs.Sameness.{SameAhead}
@@ -37,19 +38,20 @@ pub record HeadFound (limits : Limits) (bytes : List ℕ) (head : Head) : Type 0
 abbrev pub IsProgress : Limits → List ℕ → Progress → Type 0
 IsProgress limits bytes (progress.Head s) = IsSearch bytes s
 IsProgress limits bytes (progress.Sized head n) =
-    HeadFound limits bytes head.value × (framing_in head.value ≡ framing.Length n)
+    HeadFound limits bytes head.value × (framing_in limits head.value ≡ framing.Length n)
 IsProgress limits bytes (progress.Chunked head place body) =
-    HeadFound limits bytes head.value × (framing_in head.value ≡ framing.Chunked)
+    HeadFound limits bytes head.value × (framing_in limits head.value ≡ framing.Chunked)
     × IsSoFarAt limits.body (drop head.value.length bytes) body.items place.at place.left
     × LineRead (drop head.value.length bytes) place.at place.line
     × EndRead limits.body (drop head.value.length bytes) body.items place.trailers
 
 -- what is next where no byte follows
-abbrev pub next_at_end : Progress → ℕ → Next
-next_at_end (progress.Head s) n =
-    if s.blank == n then next.Closed else next.Refused wrong.Head
-next_at_end (progress.Sized head size) n = next.Refused wrong.Cut
-next_at_end (progress.Chunked head place body) n = next.Refused wrong.Cut
+abbrev pub next_at_end : Limits → Progress → List ℕ → Next
+next_at_end limits (progress.Head s) bytes =
+    if s.blank == length bytes then next.Closed
+    else next.Refused (wrong.Head (head_fault limits bytes))
+next_at_end limits (progress.Sized head size) bytes = next.Refused wrong.Cut
+next_at_end limits (progress.Chunked head place body) bytes = next.Refused wrong.Cut
 
 -- that is next, whatever bytes follow
 abbrev pub IsSettled : Limits → List ℕ → Next → Type 0
@@ -59,27 +61,36 @@ IsSettled limits bytes x = (more : List ℕ) → IsNext limits (bytes ++ more) x
 abbrev pub MayStand : Next → Type 0
 MayStand next.Closed = ⊥
 MayStand (next.Message m) = ⊤
-MayStand (next.Refused wrong.Head) = ⊤
-MayStand (next.Refused wrong.Length) = ⊤
+MayStand (next.Refused (wrong.Head f)) = ⊤
+MayStand (next.Refused (wrong.Length f)) = ⊤
 MayStand (next.Refused wrong.TooLarge) = ⊤
 MayStand (next.Refused wrong.Chunk) = ⊤
 MayStand (next.Refused wrong.Cut) = ⊥
 
+-- a head that is looked for has fewer bytes than it may have, and a body that is read to a length
+-- fewer than that, which it may have
+abbrev pub IsShort : Limits → List ℕ → Progress → Type 0
+IsShort limits bytes (progress.Head s) = is_blank bytes ≡ false → length bytes < limits.head
+IsShort limits bytes (progress.Sized head n) =
+    (n ≤ limits.body) × (length bytes < head.value.length + n)
+IsShort limits bytes (progress.Chunked head place body) = ⊤
+
 -- what is known: the next message whatever follows; or how far it was read, and what it is where
 -- nothing follows, which is no message and no refusal that stands
-abbrev pub ReadsOn : Limits → List ℕ → Step → Type 0
+abbrev pub ReadsOn : Limits → List ℕ → MessageRead → Type 0
 ReadsOn limits bytes (step.Message head content used) =
     IsSettled limits bytes (next.Message (message_of head.value content used))
 ReadsOn limits bytes (step.Refused w) =
     MayStand (next.Refused w) × IsSettled limits bytes (next.Refused w)
 ReadsOn limits bytes (step.Unfinished p) =
-    IsProgress limits bytes p × IsNext limits bytes (next_at_end p (length bytes))
+    IsProgress limits bytes p × IsNext limits bytes (next_at_end limits p bytes)
+    × IsShort limits bytes p
 
 -- a refusal of a body: what ends inside may go on
-abbrev pub stopped : Wrong → Progress → Step
+abbrev pub stopped : Wrong → Progress → MessageRead
 stopped wrong.Cut p = step.Unfinished p
-stopped wrong.Head p = step.Refused wrong.Head
-stopped wrong.Length p = step.Refused wrong.Length
+stopped (wrong.Head f) p = step.Refused (wrong.Head f)
+stopped (wrong.Length f) p = step.Refused (wrong.Length f)
 stopped wrong.TooLarge p = step.Refused wrong.TooLarge
 stopped wrong.Chunk p = step.Refused wrong.Chunk
 

@@ -1,17 +1,20 @@
 //! The next message of bytes that come in pieces.
-ghost use Rattle.std.specs.Prelude.{◌≡◌, IfOk, List, ℕ, length, true};
+ghost use Rattle.std.specs.Prelude.{◌≡◌, ◌<◌, IfOk, List, ℕ, drop, length, true};
 ghost use Rattle.httparse.specs.Grammar.{HasNoRequest};
 ghost use Rattle.web_messages.specs.EmptyLines.{BlankFront};
+ghost use Rattle.web_messages.specs.HeadReadings.{NeverHasHead};
 ghost use Rattle.web_messages.specs.NextMessage.{IsNext};
-ghost use Rattle.web_messages.specs.Progress.{HeadFound, IsProgress, IsSearch, ReadsOn, Skips};
+ghost use Rattle.web_messages.specs.Progress.{HeadFound, IsProgress, IsSearch, IsShort, ReadsOn};
+ghost use Rattle.web_messages.specs.Progress.{Skips};
 ghost use Rattle.web_messages.specs.Progress.{next_at_end, stopped};
 ghost use Rattle.web_messages.specs.declared.limits.Limits.{Limits as LimitsOf};
 ghost use Rattle.web_messages.specs.declared.progress.Progress.TheVariants as progress;
 
-use crate::chunked::{Chunked, Place, SizeLineRead, read_chunked};
+use crate::chunked::{Chunked, ChunksRead, SizeLineRead, read_chunked};
 use crate::empty_line::{blank_front, has_empty_line};
-use crate::framing::{Framing, framing_of};
+use crate::framing::{Framing, framing_in};
 use crate::head::{Head, HeadRead, read_head};
+use crate::head_fault::{find_fault, head_fault};
 use crate::head_room::HeadRoom;
 use crate::limits::{Limits, Wrong};
 use crate::message::{BodyRead, Next, message_of, read_sized};
@@ -36,12 +39,12 @@ pub enum Progress {
     /// Its head was read; its body has so many bytes.
     Sized(Box<Head>, u64),
     /// Its head was read, and the chunks of its body up to a place, which have these bytes.
-    Chunked(Box<Head>, Place, Vec<u8>),
+    Chunked(Box<Head>, ChunksRead, Vec<u8>),
 }
 
 /// What is known of the next message.
 #[derive(Drop)]
-pub enum Step {
+pub enum MessageRead {
     /// It has this head and this body, and so many bytes in all, whatever bytes follow.
     Message(Box<Head>, Bytes, usize),
     /// None is taken, whatever bytes follow.
@@ -64,9 +67,13 @@ impl Progress {
     /// Forgets the first of the bytes CR and LF before a head, where they are more than a head may
     /// have: whatever follows, the bytes after them read the same. Returns how many these are.
     pub fn skip_blank(&mut self, limits: &Limits) -> usize
-        ensures { (bytes : List ℕ) → IsProgress limits.now bytes self.old
-            → IsNext limits.now bytes (next_at_end self.old (length bytes))
+        ensures skips { (bytes : List ℕ) → IsProgress limits.now bytes self.old
+            → IsNext limits.now bytes (next_at_end limits.now self.old bytes)
             → Skips limits.now bytes self.new result }
+        ensures short { (bytes : List ℕ) → IsShort limits.now bytes self.old
+            → IsProgress limits.now bytes self.old
+            → IsNext limits.now bytes (next_at_end limits.now self.old bytes)
+            → IsShort limits.now (drop result bytes) self.new }
     {
         let Progress::Head(search) = self else {
             return 0;
@@ -80,16 +87,16 @@ impl Progress {
         skipped
     }
 
-    /// The next message where no byte follows the `length` bytes of which this was read.
-    fn at_end(self, length: usize) -> Next
-        ensures { result ≡ next_at_end self length }
+    /// The next message where no byte follows the bytes of which this was read.
+    fn at_end(self, limits: &Limits, bytes: &[u8]) -> Next
+        ensures { result ≡ next_at_end limits.now self bytes.now }
     {
         match self {
             Progress::Head(search) => {
-                if search.blank == length {
+                if search.blank == bytes.len() {
                     return Next::Closed;
                 }
-                Next::Refused(Wrong::Head)
+                Next::Refused(Wrong::Head(head_fault(limits, bytes)))
             }
             Progress::Sized(_, _) => Next::Refused(Wrong::Cut),
             Progress::Chunked(_, _, _) => Next::Refused(Wrong::Cut),
@@ -98,12 +105,12 @@ impl Progress {
 }
 
 /// The step where a body was refused: what ends inside may go on.
-fn stopped(wrong: Wrong, progress: Progress) -> Step
+fn stopped(wrong: Wrong, progress: Progress) -> MessageRead
     ensures { result ≡ stopped wrong progress }
 {
     match wrong {
-        Wrong::Cut => Step::Unfinished(progress),
-        _ => Step::Refused(wrong),
+        Wrong::Cut => MessageRead::Unfinished(progress),
+        _ => MessageRead::Refused(wrong),
     }
 }
 
@@ -114,12 +121,12 @@ fn read_sized_on(
     bytes: &[u8],
     head: Box<Head>,
     length: u64,
-) -> Result<Step, NoMemory>
+) -> Result<MessageRead, NoMemory>
     requires { IsProgress limits.now bytes.now (progress.Sized head length) }
     ensures { IfOk result (ReadsOn limits.now bytes.now) }
 {
     match read_sized(alloc, limits.body, length, &bytes[head.length..])? {
-        BodyRead::Body(body, left) => Ok(Step::Message(head, body, bytes.len() - left)),
+        BodyRead::Body(body, left) => Ok(MessageRead::Message(head, body, bytes.len() - left)),
         BodyRead::Refused(wrong) => Ok(stopped(wrong, Progress::Sized(head, length))),
     }
 }
@@ -129,9 +136,9 @@ fn read_chunked_on(
     limits: &Limits,
     bytes: &[u8],
     head: Box<Head>,
-    place: Place,
+    place: ChunksRead,
     body: Vec<u8>,
-) -> Result<Step, NoMemory>
+) -> Result<MessageRead, NoMemory>
     requires { IsProgress limits.now bytes.now (progress.Chunked head place body) }
     ensures { IfOk result (ReadsOn limits.now bytes.now) }
 {
@@ -141,11 +148,11 @@ fn read_chunked_on(
         Chunked::Body(rest) => {
             let used = bytes.len() - rest.len();
             let body = Bytes::from_vec(body)?;
-            Ok(Step::Message(head, body, used))
+            Ok(MessageRead::Message(head, body, used))
         }
-        Chunked::TooLarge => Ok(Step::Refused(Wrong::TooLarge)),
-        Chunked::Unfinished => Ok(Step::Unfinished(Progress::Chunked(head, place, body))),
-        Chunked::Wrong => Ok(Step::Refused(Wrong::Chunk)),
+        Chunked::TooLarge => Ok(MessageRead::Refused(Wrong::TooLarge)),
+        Chunked::Unfinished => Ok(MessageRead::Unfinished(Progress::Chunked(head, place, body))),
+        Chunked::Wrong => Ok(MessageRead::Refused(Wrong::Chunk)),
     }
 }
 
@@ -155,14 +162,14 @@ fn read_body(
     limits: &Limits,
     bytes: &[u8],
     head: Box<Head>,
-) -> Result<Step, NoMemory>
+) -> Result<MessageRead, NoMemory>
     requires { HeadFound limits.now bytes.now head.value }
     ensures { IfOk result (ReadsOn limits.now bytes.now) }
 {
-    match framing_of(&head.headers) {
+    match framing_in(limits, &head) {
         Framing::Length(length) => read_sized_on(alloc, limits, bytes, head, length),
         Framing::Chunked => {
-            let place = Place {
+            let place = ChunksRead {
                 at: 0,
                 left: limits.body as u64,
                 line: SizeLineRead::Open(0),
@@ -170,7 +177,7 @@ fn read_body(
             };
             read_chunked_on(limits, bytes, head, place, Vec::new(alloc))
         }
-        Framing::Refused => Ok(Step::Refused(Wrong::Length)),
+        Framing::Refused(fault) => Ok(MessageRead::Refused(Wrong::Length(fault))),
     }
 }
 
@@ -178,7 +185,8 @@ fn read_body(
 fn has_no_head(limits: &Limits, bytes: &[u8], blank: usize, searched: usize) -> bool
     requires blank { BlankFront bytes.now blank }
     requires searched { IsSearch bytes.now (record { blank = blank; searched = searched }) }
-    ensures { result ≡ true → HasNoRequest bytes.now }
+    ensures none { result ≡ true → HasNoRequest bytes.now }
+    ensures short { result ≡ true → length bytes.now < limits.now.head }
 {
     if searched == 0 {
         return false;
@@ -189,6 +197,35 @@ fn has_no_head(limits: &Limits, bytes: &[u8], blank: usize, searched: usize) -> 
     !has_empty_line(bytes, searched.max(blank))
 }
 
+/// How far a head was looked for: to the end of the bytes, where no empty line is in them.
+fn searched_to(bytes: &[u8], blank: usize, search: Search) -> usize
+    requires blank { BlankFront bytes.now blank }
+    requires search { IsSearch bytes.now search }
+    ensures { IsSearch bytes.now (record { blank = blank; searched = result }) }
+{
+    if has_empty_line(bytes, blank) {
+        return search.searched;
+    }
+    bytes.len()
+}
+
+/// The step where no head is taken, whatever bytes follow: more bytes may have to say why.
+fn refuse_head(limits: &Limits, bytes: &[u8], blank: usize, search: Search) -> MessageRead
+    requires blank { BlankFront bytes.now blank }
+    requires some { blank < length bytes.now }
+    requires search { IsSearch bytes.now search }
+    requires never { NeverHasHead limits.now bytes.now }
+    ensures { ReadsOn limits.now bytes.now result }
+{
+    match find_fault(limits, bytes) {
+        Some(fault) => MessageRead::Refused(Wrong::Head(fault)),
+        None => {
+            let searched = searched_to(bytes, blank, search);
+            MessageRead::Unfinished(Progress::Head(Search { blank, searched }))
+        }
+    }
+}
+
 /// Looks on for a head, and begins the body after it.
 fn read_head_on(
     alloc: Global,
@@ -196,7 +233,7 @@ fn read_head_on(
     bytes: &[u8],
     search: Search,
     room: &mut HeadRoom,
-) -> Result<Step, NoMemory>
+) -> Result<MessageRead, NoMemory>
     requires { IsSearch bytes.now search }
     ensures next { IfOk result (ReadsOn limits.now bytes.now) }
     ensures keys { room.new.keys ≡ room.old.keys }
@@ -207,15 +244,15 @@ fn read_head_on(
         searched: bytes.len(),
     });
     if blank == bytes.len() {
-        return Ok(Step::Unfinished(progress));
+        return Ok(MessageRead::Unfinished(progress));
     }
     if has_no_head(limits, bytes, blank, search.searched) {
-        return Ok(Step::Unfinished(progress));
+        return Ok(MessageRead::Unfinished(progress));
     }
     match read_head(alloc, limits, bytes, room)? {
         HeadRead::Head(head) => read_body(alloc, limits, bytes, head),
-        HeadRead::Refused => Ok(Step::Refused(Wrong::Head)),
-        HeadRead::Unfinished => Ok(Step::Unfinished(progress)),
+        HeadRead::Refused => Ok(refuse_head(limits, bytes, blank, search)),
+        HeadRead::Unfinished => Ok(MessageRead::Unfinished(progress)),
     }
 }
 
@@ -229,7 +266,7 @@ pub fn read_on(
     bytes: &[u8],
     progress: Progress,
     room: &mut HeadRoom,
-) -> Result<Step, NoMemory>
+) -> Result<MessageRead, NoMemory>
     requires { IsProgress limits.now bytes.now progress }
     ensures next { IfOk result (ReadsOn limits.now bytes.now) }
     ensures keys { room.new.keys ≡ room.old.keys }
@@ -255,11 +292,11 @@ pub fn read_last(
     ensures keys { room.new.keys ≡ room.old.keys }
 {
     match read_on(alloc, limits, bytes, progress, room)? {
-        Step::Message(head, body, used) => {
+        MessageRead::Message(head, body, used) => {
             let message = message_of(Box::into_inner(head), body, used);
             Ok(Next::Message(message))
         }
-        Step::Refused(wrong) => Ok(Next::Refused(wrong)),
-        Step::Unfinished(progress) => Ok(progress.at_end(bytes.len())),
+        MessageRead::Refused(wrong) => Ok(Next::Refused(wrong)),
+        MessageRead::Unfinished(progress) => Ok(progress.at_end(limits, bytes)),
     }
 }
