@@ -8,10 +8,12 @@ use Rattle.web_worker.specs.Exchanges.{ExchangeView}
 use Rattle.web_worker.specs.HandlerPromises.{SamePromises}
 use Rattle.web_worker.specs.Setting.{Setting}
 use Rattle.web_worker.proofs.SamePromiseLemmas.{setting_with}
+use Rattle.web_messages.specs.HeadFaults.{head_fault}
 use Rattle.web_messages.specs.NextMessage.{IsNext}
 use Rattle.web_messages.specs.Progress.{IsSettled, Skips, next_at_end}
 use Rattle.web_messages.specs.Progress as reading
 use Rattle.web_messages.specs.Sameness.{SameAhead, SameMessage, SameNext}
+use Rattle.web_messages.specs.declared.limits.HeadFault.{HeadFault}
 use Rattle.web_messages.specs.declared.limits.Limits.{Limits}
 use Rattle.web_messages.specs.declared.limits.Wrong.{Wrong}
 use Rattle.web_messages.specs.declared.limits.Wrong.TheVariants as wrong
@@ -30,6 +32,7 @@ use Rattle.web_http1.specs.declared.ended.Ended.TheVariants as ended
 use Rattle.web_http1.specs.Answers.{Answer, Behind, IsAnswerTo, MayGoOn, MayStand, Served, answer_bytes, asks_end, is_head, refusal_bytes, replies, sent_answer}
 use Rattle.web_http1.specs.Connections.{AllOpen, ConnectionView, FinishesWith, GoesOn, IsOpen, IsOwnEnd, StepsFrom, StepsTo, WaitsForMore, ended_at, open_at}
 use Rattle.web_http1.specs.ConnectionSteps.{IsReplied, IsServed, IsTurned, RefusedWith, TakesPiece, WaitsBehind, turned_left, with_piece}
+use Rattle.web_http1.specs.Keeping.{KeepsFew}
 use Rattle.web_http1.specs.MessageExchanges.{exchange_of}
 use Rattle.web_http1.specs.ReplyBytes.{Sent, sent_bytes, sent_reply}
 use Rattle.web_http1.proofs.SettingLemmas.{same_back, served_as}
@@ -118,6 +121,15 @@ module _ {S L D C V E Y U W : Type 0} (s : Setting S L D C V E Y U W) where
     λ more xs rest closed v. ended_as new (Some ended.NoMemory) new.ended more xs [] rest closed is (replies xs, refl),
   )
 
+  -- where the message has one reply, that was written
+  abbrev pub WritesReply : Message → List ℕ → List ℕ → Bool → Type 0
+  WritesReply m before behind closes =
+      (given : List ℕ) × (behind ≡ before ++ given)
+      × ((x : Answer) → SameMessage m x.message → IsAnswerTo s x → (closes ≡ (sent_answer x).closes) × (given ≡ answer_bytes x))
+
+  pub writes_reply : (m : Message) (before behind : List ℕ) (closes : Bool) → IsReplied s m before behind (Ok closes) → WritesReply m before behind closes
+  writes_reply m before behind closes h = (h.0, h.1, h.2)
+
   module _ (old new : ConnectionView) (m : Message) (is : IsSettled old.limits old.left (next.Message m)) where
     pub message_fits : m.used ≤ length old.left
     message_fits = uses_within old.limits old.left m (left_behind old.limits old.left m is)
@@ -127,7 +139,7 @@ module _ {S L D C V E Y U W : Type 0} (s : Setting S L D C V E Y U W) where
 
     -- the reply was written, and closes the connection
     pub closed_steps : (before behind : List ℕ) (closes : Bool) → closes ≡ true → new.ended ≡ Some ended.Closed
-        → IsReplied s m before behind (Ok closes) → StepsTo s old new before behind
+        → WritesReply m before behind closes → StepsTo s old new before behind
     closed_steps before behind closes true_is end h = (
       h.0,
       h.1,
@@ -144,7 +156,7 @@ module _ {S L D C V E Y U W : Type 0} (s : Setting S L D C V E Y U W) where
 
     -- the reply was written, and the connection stays open
     pub open_steps : (before behind : List ℕ) (closes : Bool) → closes ≡ false → new.ended ≡ None → new.limits ≡ old.limits → new.left ≡ drop m.used old.left
-        → IsReplied s m before behind (Ok closes) → StepsTo s old new before behind
+        → WritesReply m before behind closes → StepsTo s old new before behind
     open_steps before behind closes false_is end same left h = (
       h.0,
       h.1,
@@ -167,8 +179,8 @@ module _ {S L D C V E Y U W : Type 0} (s : Setting S L D C V E Y U W) where
 
   -- a refusal that stands whatever follows
   may_stand : (w : Wrong) → reading.MayStand (next.Refused w) → MayStand w
-  may_stand wrong.Head h = tt
-  may_stand wrong.Length h = tt
+  may_stand (wrong.Head f) h = tt
+  may_stand (wrong.Length f) h = tt
   may_stand wrong.TooLarge h = tt
   may_stand wrong.Chunk h = tt
   may_stand wrong.Cut h = h
@@ -202,11 +214,12 @@ module _ {S L D C V E Y U W : Type 0} (s : Setting S L D C V E Y U W) where
   served_turns limits rest m before behind (turned.Goes used) is h = (
     subst (λ (n : ℕ). 0 < n) (sym h.0) (message_some (open_at limits rest) (open_at limits (drop used rest)) m is),
     subst (λ (n : ℕ). n ≤ length rest) (sym h.0) (message_fits (open_at limits rest) (open_at limits (drop used rest)) m is),
-    open_steps (open_at limits rest) (open_at limits (drop used rest)) m is before behind false refl refl refl (ap (λ (n : ℕ). drop n rest) h.0) h.1,
+    open_steps (open_at limits rest) (open_at limits (drop used rest)) m is before behind false refl refl refl (ap (λ (n : ℕ). drop n rest) h.0)
+        (writes_reply m before behind false h.1),
   )
   served_turns limits rest m before behind (turned.Waits skipped p) is h = absurd h
   served_turns limits rest m before behind (turned.Ended ended.Closed) is h =
-      (tt, closed_steps (open_at limits rest) (ended_at limits rest ended.Closed) m is before behind true refl refl h)
+      (tt, closed_steps (open_at limits rest) (ended_at limits rest ended.Closed) m is before behind true refl refl (writes_reply m before behind true h))
   served_turns limits rest m before behind (turned.Ended (ended.Refused w)) is h = absurd h
   served_turns limits rest m before behind (turned.Ended ended.SourceFault) is h = absurd h
   served_turns limits rest m before behind (turned.Ended ended.NoMemory) is h =
@@ -329,31 +342,32 @@ open_as (next.Message m) (next.Message n) same o = absurd o
 open_as (next.Message m) next.Closed same o = absurd same
 open_as (next.Message m) (next.Refused v) same o = absurd same
 
-head_open : (b : Bool) → IsOpen (if b then next.Closed else next.Refused wrong.Head)
-head_open true = tt
-head_open false = tt
+head_open : (b : Bool) (f : HeadFault) → IsOpen (if b then next.Closed else next.Refused (wrong.Head f))
+head_open true f = tt
+head_open false f = tt
 
-open_at_end : (p : Progress) (n : ℕ) → IsOpen (next_at_end p n)
-open_at_end (progress.Head s) n = head_open (s.blank == n)
-open_at_end (progress.Sized head size) n = tt
-open_at_end (progress.Chunked head place body) n = tt
+open_at_end : (limits : Limits) (p : Progress) (bytes : List ℕ) → IsOpen (next_at_end limits p bytes)
+open_at_end limits (progress.Head s) bytes = head_open (s.blank == length bytes) (head_fault limits bytes)
+open_at_end limits (progress.Sized head size) bytes = tt
+open_at_end limits (progress.Chunked head place body) bytes = tt
 
-pub all_open : (limits : Limits) (rest : List ℕ) (p : Progress) → IsNext limits rest (next_at_end p (length rest)) → AllOpen limits rest
+pub all_open : (limits : Limits) (rest : List ℕ) (p : Progress) → IsNext limits rest (next_at_end limits p rest) → AllOpen limits rest
 all_open limits rest p is x g =
-    open_as x (next_at_end p (length rest)) (one_next limits rest x (next_at_end p (length rest)) g is) (open_at_end p (length rest))
+    open_as x (next_at_end limits p rest) (one_next limits rest x (next_at_end limits p rest) g is) (open_at_end limits p rest)
 
 -- more bytes have to come where the bytes that are left read the same
 open_ahead : (limits : Limits) (rest other : List ℕ) → SameAhead limits rest other → AllOpen limits rest → AllOpen limits other
 open_ahead limits rest other same opens x is = opens x (same.back x is)
 
-pub waits_behind : (limits : Limits) (rest : List ℕ) (p q : Progress) (skipped : ℕ) → Skips limits rest q skipped → IsNext limits rest (next_at_end p (length rest))
-    → WaitsBehind limits rest (turned.Waits skipped q)
-waits_behind limits rest p q skipped skips is = (
+pub waits_behind : (limits : Limits) (rest : List ℕ) (p q : Progress) (skipped : ℕ) → Skips limits rest q skipped → IsNext limits rest (next_at_end limits p rest)
+    → KeepsFew limits (drop skipped rest) → WaitsBehind limits rest (turned.Waits skipped q)
+waits_behind limits rest p q skipped skips is few = (
   skips,
   open_ahead limits rest (drop skipped rest)
       (subst (λ (t : List ℕ). SameAhead limits t (drop skipped rest)) (append-nil rest)
       (subst (λ (t : List ℕ). SameAhead limits (rest ++ []) t) (append-nil (drop skipped rest)) (skips.same [])))
       (all_open limits rest p is),
+  few,
 )
 
 -- what is kept of a step that waits
@@ -377,8 +391,8 @@ refused_end limits rest w (ended.Refused v) before behind is h = inl (
 -- what may stand uses some bytes
 pub some_rest : (limits : Limits) (rest : List ℕ) (x : Next) → reading.MayStand x → IsSettled limits rest x → 0 < length rest
 some_rest limits [] (next.Message m) stands is = let blank = (is []).0 in absurd (cc)
-some_rest limits [] (next.Refused wrong.Head) stands is = let blank = (is []).0 in absurd (cc)
-some_rest limits [] (next.Refused wrong.Length) stands is = let blank = (is []).0 in absurd (cc)
+some_rest limits [] (next.Refused (wrong.Head f)) stands is = let blank = (is []).0 in absurd (cc)
+some_rest limits [] (next.Refused (wrong.Length f)) stands is = let blank = (is []).0 in absurd (cc)
 some_rest limits [] (next.Refused wrong.TooLarge) stands is = let blank = (is []).0 in absurd (cc)
 some_rest limits [] (next.Refused wrong.Chunk) stands is = let blank = (is []).0 in absurd (cc)
 some_rest limits [] (next.Refused wrong.Cut) stands is = absurd stands

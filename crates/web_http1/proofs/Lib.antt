@@ -9,3 +9,10 @@ pub mod ServingLemmas
 pub mod NextExistsLemmas
 pub mod AnswersExistLemmas
 pub mod PieceLemmas
+pub mod OneLemmas
+pub mod CallLemmas
+pub mod GoesLemmas
+pub mod AllowedLemmas
+pub mod OneBufferLemmas
+pub mod DueBodyLemmas
+pub mod BegunLemmas

@@ -18,7 +18,7 @@ use Rattle.web_http1.specs.declared.ended.Ended.TheVariants as ended
 use Rattle.web_http1.specs.Answers.{Answer, AnswersAtFault, Behind, EndsAtEnd, EndsAtFault, MayGoOn, Served, refusal_bytes, replies}
 use Rattle.web_http1.specs.Connections.{AllOpen, ConnectionView, Finishes, FinishesWith, GoesOn, IsOwn, StepsTo, WaitsForMore, open_at}
 use Rattle.web_http1.specs.ConnectionSteps.{with_piece}
-use Rattle.web_http1.specs.Serving.{AnswersAll, AnswersUpToFault, StopsAtFault, UnlessLacking}
+use Rattle.web_http1.specs.Serving.{AnswersAll, AnswersUpToFault, Appends, StopsAtFault, UnlessLacking}
 use Rattle.web_http1.proofs.ConnectionLemmas.{goes_further, open_as}
 
 -- ---- the marks of the source
@@ -323,3 +323,15 @@ unless_lacking ended.Closed p = p
 unless_lacking (ended.Refused w) p = p
 unless_lacking ended.SourceFault p = p
 unless_lacking ended.NoMemory p = tt
+
+-- ---- what is written stands after what stood there
+
+pub appends_none : (a : List ℕ) → Appends a a
+appends_none a = ([], sym (append-nil a))
+
+pub appends_then : (a b c : List ℕ) → Appends a b → Appends b c → Appends a c
+appends_then a b c h k = (h.0 ++ k.0, k.1 ∙ ap (λ (t : List ℕ). t ++ k.0) h.1 ∙ append_assoc a h.0 k.0)
+
+pub appends_finished : (limits : Limits) (rest : List ℕ) (e : Ended) (before behind : List ℕ) → FinishesWith limits rest e before behind → Appends before behind
+appends_finished limits rest e before behind (inl f) = (f.0, f.1)
+appends_finished limits rest e before behind (inr f) = ([], f.1 ∙ sym (append-nil before))

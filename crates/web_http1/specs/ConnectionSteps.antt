@@ -2,6 +2,8 @@
 use Rattle.std.specs.Prelude.{◌≡◌, ℕ, ◌-◌, ◌<◌, ◌≤◌, Bool, true, false, List, [], ◌++◌, length}
 use Rattle.std.specs.Prelude.{drop, Option, None, Some, Result, Ok, Err}
 use Rattle.web_texts.specs.declared.memory.NoMemory.{NoMemory}
+use Rattle.web_reply.specs.ResponseBodies.{Plain}
+use Rattle.web_reply.specs.Replies.{Reply}
 use Rattle.web_worker.specs.Setting.{Setting}
 use Rattle.web_messages.specs.Progress.{HasFewBlank, IsProgress, Skips}
 use Rattle.web_messages.specs.Sameness.{SameMessage}
@@ -14,7 +16,12 @@ use Rattle.web_http1.specs.declared.answering.Turned.{Turned}
 use Rattle.web_http1.specs.declared.answering.Turned.TheVariants as turned
 use Rattle.web_http1.specs.declared.ended.Ended.{Ended}
 use Rattle.web_http1.specs.declared.ended.Ended.TheVariants as ended
-use Rattle.web_http1.specs.Answers.{Answer, IsAnswerTo, answer_bytes, refusal_bytes, sent_answer}
+use Rattle.web_http1.specs.Answers.{Answer, IsAnswerTo, answer_bytes, is_head, refusal_bytes}
+use Rattle.web_http1.specs.Answers.{StatesMarks, asks_end, sent_answer}
+use Rattle.web_http1.specs.Keeping.{KeepsFew}
+use Rattle.web_http1.specs.MessageExchanges.{exchange_of}
+use Rattle.web_http1.specs.Polls.{AllowsReply}
+use Rattle.web_http1.specs.ReplyBytes.{Sent, SentFrom, sent_bytes, sent_reply}
 use Rattle.web_http1.specs.Connections.{AllOpen, ConnectionView, IsOwn, StepsTo, WaitsForMore}
 use Rattle.web_http1.specs.Connections.{ended_at, open_at}
 
@@ -36,6 +43,10 @@ module _ {S L D C V E Y U W : Type 0} (s : Setting S L D C V E Y U W) where
       (given : List ℕ) × (behind ≡ before ++ given)
       × ((x : Answer) → SameMessage m x.message → IsAnswerTo s x
       → (closes ≡ (sent_answer x).closes) × (given ≡ answer_bytes x))
+      × (sent : Sent) × (closes ≡ sent.closes) × (given ≡ sent_bytes (is_head m) sent)
+      × (reply : Reply Plain) × AllowsReply s (exchange_of m) reply
+      × (StatesMarks reply.body → sent ≡ sent_reply (asks_end m) reply)
+      × SentFrom (asks_end m) reply.head sent
   IsReplied m before behind (Err e) = behind ≡ before
 
 -- the reply of the refusal was written, or an allocation failed
@@ -50,6 +61,7 @@ abbrev pub WaitsBehind : Limits → List ℕ → Turned → Type 0
 WaitsBehind limits rest (turned.Goes used) = ⊥
 WaitsBehind limits rest (turned.Waits skipped p) =
     Skips limits rest p skipped × AllOpen limits (drop skipped rest)
+    × KeepsFew limits (drop skipped rest)
 WaitsBehind limits rest (turned.Ended end) = ⊥
 
 module _ {S L D C V E Y U W : Type 0} (s : Setting S L D C V E Y U W) where
@@ -78,7 +90,7 @@ module _ {S L D C V E Y U W : Type 0} (s : Setting S L D C V E Y U W) where
   abbrev pub IsAnsweredRest : Limits → List ℕ → List ℕ → List ℕ → List ℕ → Left → Type 0
   IsAnsweredRest limits old new before behind (remains.Open p) =
       IsProgress limits new p × AllOpen limits new × HasFewBlank limits new
-      × StepsTo s (open_at limits old) (open_at limits new) before behind
+      × KeepsFew limits new × StepsTo s (open_at limits old) (open_at limits new) before behind
   IsAnsweredRest limits old new before behind (remains.Ended end) =
       IsOwn end × StepsTo s (open_at limits old) (ended_at limits new end) before behind
 

@@ -1,8 +1,16 @@
 pub mod ReplyBytes
+pub mod BodyFramings
 pub mod MessageExchanges
 pub mod Answers
 pub mod Connections
 pub mod ConnectionSteps
+pub mod Keeping
+pub mod Expecting
+pub mod OneAnswer
+pub mod DueBodies
+pub mod BegunReplies
+pub mod BegunAnswers
+pub mod ConnectionCalls
 pub mod ConnectionPieces
 pub mod Polls
 pub mod Serving

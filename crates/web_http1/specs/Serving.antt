@@ -39,3 +39,7 @@ UnlessLacking ended.NoMemory P = ⊤
 UnlessLacking ended.SourceFault P = P
 UnlessLacking ended.Closed P = P
 UnlessLacking (ended.Refused w) P = P
+
+-- bytes were written after those that stood there, and nothing else
+abbrev pub Appends : List ℕ → List ℕ → Type 0
+Appends before behind = (given : List ℕ) × (behind ≡ before ++ given)

@@ -4,11 +4,12 @@ ghost use Rattle.std.specs.Prelude.{List, ℕ};
 ghost use Rattle.web_worker.specs.HandlerPromises.{SamePromises};
 ghost use Rattle.web_worker.specs.PlanPools.{with_records};
 ghost use Rattle.web_messages.specs.NextMessage.{IsNext, message_of};
-ghost use Rattle.web_messages.specs.Progress.{IsProgress, next_at_end};
+ghost use Rattle.web_messages.specs.Progress.{IsProgress, IsShort, next_at_end};
 ghost use Rattle.web_http1.specs.Connections.{AllOpen, FinishesWith};
 ghost use Rattle.web_http1.specs.ConnectionSteps.{IsAnsweredRest, RefusedWith};
 ghost use Rattle.web_http1.specs.ConnectionSteps.{IsReplied, IsServed, IsTurned};
 ghost use Rattle.web_http1.specs.ConnectionSteps.{WaitsBehind, open_left, turned_left};
+ghost use Rattle.web_http1.specs.OneAnswer.{TurnsOne};
 
 use crate::closing::{asks_end, is_head};
 use crate::ended::Ended;
@@ -18,7 +19,9 @@ use crate::reply::{refusal, sent_reply, write_reply};
 use bytes::Bytes;
 use std::alloc::Global;
 use web_extract::FromRequest;
-use web_messages::{Head, HeadRoom, Limits, Next, Progress, Step, Wrong, read_last, read_on};
+use web_messages::{
+    Head, HeadRoom, Limits, MessageRead, Next, Progress, Wrong, read_last, read_on,
+};
 use web_reply::Responder;
 use web_request::App;
 use web_texts::NoMemory;
@@ -101,7 +104,7 @@ where
 }
 
 /// Writes the reply of a refusal. Returns how the connection ended.
-fn refuse(alloc: Global, rooms: &mut Rooms, wrong: Wrong, out: &mut Vec<u8>) -> Ended
+pub(crate) fn refuse(alloc: Global, rooms: &mut Rooms, wrong: Wrong, out: &mut Vec<u8>) -> Ended
     ensures { RefusedWith wrong result out.old.items out.new.items }
 {
     let reply = refusal(alloc, wrong);
@@ -142,9 +145,10 @@ where
 }
 
 /// Waits for more bytes. Of empty lines no more are kept than a head may have.
-fn wait(limits: &Limits, progress: Progress) -> Turned
+pub(crate) fn wait(limits: &Limits, progress: Progress) -> Turned
     ensures { (rest : List ℕ) → IsProgress limits.now rest progress
-        → IsNext limits.now rest (next_at_end progress (length rest))
+        → IsNext limits.now rest (next_at_end limits.now progress rest)
+        → IsShort limits.now rest progress
         → WaitsBehind limits.now rest result }
 {
     let mut progress = progress;
@@ -153,7 +157,7 @@ fn wait(limits: &Limits, progress: Progress) -> Turned
 }
 
 /// Writes what is next at the front of the bytes, where it is known.
-fn serve_next<A: App, Args: FromRequest<A>, H: Handler<Args>>(
+pub(crate) fn serve_next<A: App, Args: FromRequest<A>, H: Handler<Args>>(
     alloc: Global,
     worker: &mut Worker<A>,
     handler: &mut H,
@@ -176,14 +180,16 @@ where
     ensures kept { worker.new ≡ with_records worker.new.serials worker.new.made worker.old }
     ensures turned { IsTurned (⟦<H as Serves<A, Args>>⟧.setting handler.old worker.old)
         limits.now rest.now out.old.items out.new.items result }
+    ensures one { TurnsOne (⟦<H as Serves<A, Args>>⟧.setting handler.old worker.old)
+        limits.now rest.now out.old.items out.new.items result }
 {
     match read_on(alloc, limits, rest, progress, &mut rooms.head) {
         Ok(step) => match step {
-            Step::Message(head, body, used) => serve_message(
+            MessageRead::Message(head, body, used) => serve_message(
                 alloc, worker, handler, rooms, flights, head, body, used, out,
             ),
-            Step::Refused(wrong) => Turned::Ended(refuse(alloc, rooms, wrong, out)),
-            Step::Unfinished(progress) => wait(limits, progress),
+            MessageRead::Refused(wrong) => Turned::Ended(refuse(alloc, rooms, wrong, out)),
+            MessageRead::Unfinished(progress) => wait(limits, progress),
         },
         Err(_) => Turned::Ended(Ended::NoMemory),
     }

@@ -1,21 +1,31 @@
 //! A connection of HTTP/1.1 over any source of bytes.
 #![tactic(auto)]
 
+mod answered;
 mod answering;
+mod beginning;
+mod begun;
 mod closing;
 mod connection;
 mod content;
+mod due_body;
 mod ended;
 mod exchange;
+mod expecting;
 mod laws;
 mod pieces;
 mod polled;
 mod reply;
 mod serving;
+mod settings;
 mod text;
 
+pub use answered::Answered;
+pub use begun::Begun;
 pub use connection::Connection;
+pub use due_body::{BodyFraming, BodyStage, BodyWritten, DueBody};
 pub use ended::Ended;
 pub use laws::answers_law;
-pub use pieces::pieces_law;
+pub use pieces::{calls_law, pieces_law};
 pub use serving::{serve_connection, serve_connection_with};
+pub use settings::ReplySettings;

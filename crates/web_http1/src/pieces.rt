@@ -4,7 +4,8 @@ ghost use Rattle.web_request.specs.Pool.{Pool};
 ghost use Rattle.web_messages.specs.declared.limits.Limits.{Limits as LimitsOf};
 ghost use Rattle.web_http1.specs.ConnectionPieces.{AnswersWhole, Fed, FinishedWith};
 ghost use Rattle.web_http1.specs.ConnectionPieces.{IsPrefixOfAnswers, joined};
-ghost use Rattle.web_http1.specs.Connections.{ConnectionView, open_at};
+ghost use Rattle.web_http1.specs.ConnectionCalls.{Call, Called, fed};
+ghost use Rattle.web_http1.specs.Connections.{ConnectionView, WaitsForMore, open_at};
 ghost use Rattle.web_http1.specs.Serving.{AnswersAll};
 ghost use Rattle.web_http1.specs.declared.ended.Ended.{Ended as EndedAs};
 
@@ -38,4 +39,33 @@ where
         → FinishedWith new end tail
         → AnswersAll (⟦<H as Serves<A, Args>>⟧.setting handler pool) limits
         (joined pieces) end [] (given ++ tail) }
+{}
+
+/// A connection took pieces by `Connection::feed`, and `Connection::answer_next` or
+/// `Connection::answer` was called between them as often as the caller liked. What was written by
+/// then is a prefix of the answers of all bytes that came and may follow. Where it waits for more
+/// bytes, the reply to each message that is whole was written, and with what `Connection::finish`
+/// writes it is the answers of all bytes, or a prefix of them where an allocation failed.
+///
+/// The contract is a law, over the clauses of these calls; there is nothing to call it for.
+pub fn calls_law<A: App, Args: FromRequest<A>, H: Handler<Args>>()
+where
+    H::Output: Responder<A>,
+    ensures prefix { (handler : H) (pool : Pool A.Layer) (limits : LimitsOf)
+        (calls : List Call) (new : ConnectionView) (given : List ℕ)
+        → Called (⟦<H as Serves<A, Args>>⟧.setting handler pool) (open_at limits []) calls new given
+        → IsPrefixOfAnswers (⟦<H as Serves<A, Args>>⟧.setting handler pool) limits
+        (fed calls) given }
+    ensures whole { (handler : H) (pool : Pool A.Layer) (limits : LimitsOf)
+        (calls : List Call) (new : ConnectionView) (given : List ℕ)
+        → Called (⟦<H as Serves<A, Args>>⟧.setting handler pool) (open_at limits []) calls new given
+        → WaitsForMore new
+        → AnswersWhole (⟦<H as Serves<A, Args>>⟧.setting handler pool) limits
+        (fed calls) new.ended given }
+    ensures all { (handler : H) (pool : Pool A.Layer) (limits : LimitsOf)
+        (calls : List Call) (new : ConnectionView) (given tail : List ℕ) (end : EndedAs)
+        → Called (⟦<H as Serves<A, Args>>⟧.setting handler pool) (open_at limits []) calls new given
+        → WaitsForMore new → FinishedWith new end tail
+        → AnswersAll (⟦<H as Serves<A, Args>>⟧.setting handler pool) limits
+        (fed calls) end [] (given ++ tail) }
 {}

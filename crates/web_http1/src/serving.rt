@@ -7,7 +7,7 @@ ghost use Rattle.web_worker.specs.HandlerPromises.{SamePromises};
 ghost use Rattle.web_worker.specs.PlanPools.{with_records};
 ghost use Rattle.web_http1.specs.Connections.{open_bytes};
 ghost use Rattle.web_http1.specs.ConnectionSteps.{TakesPiece};
-ghost use Rattle.web_http1.specs.Serving.{AnswersAll, AnswersUpToFault, StopsAtFault};
+ghost use Rattle.web_http1.specs.Serving.{AnswersAll, AnswersUpToFault, Appends, StopsAtFault};
 ghost use Rattle.web_http1.specs.Serving.{UnlessLacking};
 
 use crate::connection::Connection;
@@ -80,6 +80,7 @@ where
         → ends_in_fault marks ≡ true
         → AnswersUpToFault (⟦<H as Serves<A, Args>>⟧.setting handler.old worker.old) limits
         (piece_bytes marks) result out.old.items out.new.items }
+    ensures appends { Appends out.old.items out.new.items }
     ensures faults { StopsAtFault result (S.feed source.old).faults (S.feed source.new).faults }
     ensures lacked { UnlessLacking result
         ((S.feed source.new).lacked ≡ (S.feed source.old).lacked) }
@@ -115,6 +116,7 @@ where
         → ends_in_fault marks ≡ true
         → AnswersUpToFault (⟦<H as Serves<A, Args>>⟧.setting handler.old worker.old) limits
         (piece_bytes marks) result out.old.items out.new.items }
+    ensures appends { Appends out.old.items out.new.items }
     ensures faults { StopsAtFault result (S.feed source.old).faults (S.feed source.new).faults }
     ensures lacked { UnlessLacking result
         ((S.feed source.new).lacked ≡ (S.feed source.old).lacked) }

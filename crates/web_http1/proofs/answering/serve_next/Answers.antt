@@ -3,6 +3,7 @@ use Rattle.web_messages.specs.NextMessage.{message_of}
 use Rattle.web_messages.specs.declared.message.Next.TheVariants as next
 use Rattle.web_worker.specs.Setting.{setting_of}
 use Rattle.web_http1.proofs.ConnectionLemmas.{fewer_left, refused_steps, served_known, served_turns, some_rest, waits_made, waits_turns}
+use Rattle.web_http1.proofs.OneLemmas.{refused_one, served_one, waits_one}
 use Rattle.web_http1.proofs.answering.serve_next.Goals as goal
 
 pub serve_message-requires-clause-room : goal.serve_message-requires-clause-room
@@ -39,10 +40,29 @@ returns-in-Refused-clause-turned g c =
 pub returns-in-Unfinished-clause-made : goal.returns-in-Unfinished-clause-made
 returns-in-Unfinished-clause-made g c =
     let waits = rw c.in-Unfinished.is at c.in-Ok.ensures.next in
-    waits_made c.args.limits.now c.args.rest.now c.wait.result c.args.worker.now.made c.args.worker.now.made (c.wait.ensures c.args.rest.now waits.0 waits.1) refl
+    waits_made c.args.limits.now c.args.rest.now c.wait.result c.args.worker.now.made c.args.worker.now.made (c.wait.ensures c.args.rest.now waits.0 waits.1 waits.2) refl
 
 pub returns-in-Unfinished-clause-turned : goal.returns-in-Unfinished-clause-turned
 returns-in-Unfinished-clause-turned g c =
     let s = setting_of g.Args.FromRequest.means g.Args.Error.Into.converts (g.H.Handler.answers c.args.handler.now) g.H.Output.Responder.responds g.A.Source.Source.feed g.Args.Future.Poll.gives g.H.Future.Poll.gives c.args.worker.now in
     let waits = rw c.in-Unfinished.is at c.in-Ok.ensures.next in
-    waits_turns s c.args.limits.now c.args.rest.now c.args.out.now.items c.args.out.now.items c.wait.result (c.wait.ensures c.args.rest.now waits.0 waits.1) refl
+    waits_turns s c.args.limits.now c.args.rest.now c.args.out.now.items c.args.out.now.items c.wait.result (c.wait.ensures c.args.rest.now waits.0 waits.1 waits.2) refl
+
+pub returns-in-Message-clause-one : goal.returns-in-Message-clause-one
+returns-in-Message-clause-one g c =
+    let s = setting_of g.Args.FromRequest.means g.Args.Error.Into.converts (g.H.Handler.answers c.args.handler.now) g.H.Output.Responder.responds g.A.Source.Source.feed g.Args.Future.Poll.gives g.H.Future.Poll.gives c.args.worker.now in
+    let known = rw c.in-Message.is at c.in-Ok.ensures.next in
+    let m = message_of c.in-Message.head.value c.in-Message.body c.in-Message.used in
+    served_one s c.args.limits.now c.args.rest.now m c.args.out.now.items c.serve_message.new.out.items c.serve_message.result known c.serve_message.ensures.turned
+
+pub returns-in-Refused-clause-one : goal.returns-in-Refused-clause-one
+returns-in-Refused-clause-one g c =
+    let s = setting_of g.Args.FromRequest.means g.Args.Error.Into.converts (g.H.Handler.answers c.args.handler.now) g.H.Output.Responder.responds g.A.Source.Source.feed g.Args.Future.Poll.gives g.H.Future.Poll.gives c.args.worker.now in
+    let known = rw c.in-Refused.is at c.in-Ok.ensures.next in
+    refused_one s c.args.limits.now c.args.rest.now c.in-Refused.wrong c.refuse.result c.args.out.now.items c.refuse.new.out.items known.1 c.refuse.ensures
+
+pub returns-in-Unfinished-clause-one : goal.returns-in-Unfinished-clause-one
+returns-in-Unfinished-clause-one g c =
+    let s = setting_of g.Args.FromRequest.means g.Args.Error.Into.converts (g.H.Handler.answers c.args.handler.now) g.H.Output.Responder.responds g.A.Source.Source.feed g.Args.Future.Poll.gives g.H.Future.Poll.gives c.args.worker.now in
+    let waits = rw c.in-Unfinished.is at c.in-Ok.ensures.next in
+    waits_one s c.args.limits.now c.args.rest.now c.args.out.now.items c.args.out.now.items c.wait.result (c.wait.ensures c.args.rest.now waits.0 waits.1 waits.2) refl

@@ -7,7 +7,7 @@ use Rattle.web_messages.specs.declared.limits.Limits.{Limits}
 use Rattle.web_http1.specs.Connections.{ConnectionView, FinishesWith, ended_at}
 use Rattle.web_http1.specs.ConnectionSteps.{with_piece}
 use Rattle.web_http1.proofs.ConnectionLemmas.{steps_as}
-use Rattle.web_http1.proofs.ServingLemmas.{ended_all, ended_up_to, failed_up_to, finished, finishes_open, is_faultless, is_faulty, lacks_memory, last_fault, none_after, pieced, stalled, starts, stops_finished, stops_own, unless_lacking, waits_empty}
+use Rattle.web_http1.proofs.ServingLemmas.{appends_finished, appends_none, appends_then, ended_all, ended_up_to, failed_up_to, finished, finishes_open, is_faultless, is_faulty, lacks_memory, last_fault, none_after, pieced, stalled, starts, stops_finished, stops_own, unless_lacking, waits_empty}
 use Rattle.web_http1.proofs.SettingLemmas.{same_all, same_then}
 use Rattle.web_http1.proofs.serving.serve_connection_with.Goals as goal
 
@@ -26,6 +26,7 @@ turns-init g c =
       kept = refl;
       faults = refl;
       lacked = refl;
+      grows = appends_none c.args.out.now.items;
       so_far = λ marks is.
           starts s c.args.limits marks (g.S.Source.feed c.args.source.now) c.with_room-connection.result c.args.out.now.items is
           (ap (λ (k : ConnectionView). k.limits) is_new) (ap (λ (k : ConnectionView). k.left) is_new) (ap (λ (k : ConnectionView). k.ended) is_new);
@@ -107,6 +108,7 @@ turns-preserved-in_default g c =
       kept = c.take_piece-ended.ensures.kept ∙ ap (λ (z : Pool _). with_records c.take_piece-ended.new.worker.serials c.take_piece-ended.new.worker.made z) c.turns.invariant.kept;
       faults = c.in-Piece.ensures.next.faults ∙ c.turns.invariant.faults;
       lacked = c.in-Piece.ensures.next.lacked ∙ c.turns.invariant.lacked;
+      grows = appends_then c.args.out.now.items c.turns.out.items c.take_piece-ended.new.out.items c.turns.invariant.grows (step.0, step.1);
       so_far = λ marks is.
           pieced s c.args.limits marks (g.S.Source.feed c.turns.source) (g.S.Source.feed c.next.new.self) c.turns.connection c.args.out.now.items c.turns.out.items c.turns.invariant.unended c.turns.invariant.limits_are (c.turns.invariant.so_far marks is) c.in-Piece.piece c.take_piece-ended.new.connection c.take_piece-ended.new.out.items takes.1 c.in-Piece.ensures.next step;
     }
@@ -132,6 +134,7 @@ turns-preserved-in_default-2 g c =
       kept = c.take_piece-ended.ensures.kept ∙ ap (λ (z : Pool _). with_records c.take_piece-ended.new.worker.serials c.take_piece-ended.new.worker.made z) c.turns.invariant.kept;
       faults = c.in-Piece.ensures.next.faults ∙ c.turns.invariant.faults;
       lacked = c.in-Piece.ensures.next.lacked ∙ c.turns.invariant.lacked;
+      grows = appends_then c.args.out.now.items c.turns.out.items c.take_piece-ended.new.out.items c.turns.invariant.grows (step.0, step.1);
       so_far = λ marks is.
           pieced s c.args.limits marks (g.S.Source.feed c.turns.source) (g.S.Source.feed c.next.new.self) c.turns.connection c.args.out.now.items c.turns.out.items c.turns.invariant.unended c.turns.invariant.limits_are (c.turns.invariant.so_far marks is) c.in-Piece.piece c.take_piece-ended.new.connection c.take_piece-ended.new.out.items takes.1 c.in-Piece.ensures.next step;
     }
@@ -153,6 +156,7 @@ turns-preserved g c =
       kept = c.turns.invariant.kept;
       faults = c.in-Stall.ensures.next.faults ∙ c.turns.invariant.faults;
       lacked = c.in-Stall.ensures.next.lacked ∙ c.turns.invariant.lacked;
+      grows = c.turns.invariant.grows;
       so_far = λ marks is. stalled s c.args.limits marks (g.S.Source.feed c.turns.source) (g.S.Source.feed c.next.new.self) c.turns.connection c.args.out.now.items c.turns.out.items c.turns.invariant.unended c.turns.invariant.limits_are (c.turns.invariant.so_far marks is) c.in-Stall.ensures.next;
     }
 
@@ -248,3 +252,20 @@ returns-in-NoMemory-clause-made g c =
 
 pub returns-in-NoMemory-clause-kept : goal.returns-in-NoMemory-clause-kept
 returns-in-NoMemory-clause-kept g c = c.turns.invariant.kept
+
+pub returns-in-Some-clause-appends : goal.returns-in-Some-clause-appends
+returns-in-Some-clause-appends g c =
+    let takes = rw c.in-Some.is at c.take_piece-ended.ensures.takes in
+    appends_then c.args.out.now.items c.turns.out.items c.take_piece-ended.new.out.items c.turns.invariant.grows (takes.1.0, takes.1.1)
+
+pub returns-in-Fault-clause-appends : goal.returns-in-Fault-clause-appends
+returns-in-Fault-clause-appends g c = c.turns.invariant.grows
+
+pub returns-in-End-clause-appends : goal.returns-in-End-clause-appends
+returns-in-End-clause-appends g c =
+    let done = finishes_open c.turns.connection c.finish.result c.turns.out.items c.finish.new.out.items c.turns.invariant.unended c.finish.ensures.finishes in
+    appends_then c.args.out.now.items c.turns.out.items c.finish.new.out.items c.turns.invariant.grows
+    (appends_finished c.turns.connection.limits c.turns.connection.left c.finish.result c.turns.out.items c.finish.new.out.items done)
+
+pub returns-in-NoMemory-clause-appends : goal.returns-in-NoMemory-clause-appends
+returns-in-NoMemory-clause-appends g c = c.turns.invariant.grows

@@ -4,6 +4,7 @@ use Rattle.web_worker.specs.HandlerPromises.{SamePromises}
 use Rattle.web_worker.specs.PlanPools.{with_records}
 use Rattle.web_worker.specs.Setting.{setting_of}
 use Rattle.web_http1.specs.Connections.{WaitsForMore}
+use Rattle.web_http1.specs.Serving.{Appends}
 use Rattle.web_http1.proofs.ServingLemmas.{SoFar}
 use Rattle.web_http1.proofs.serving.serve_connection_with.Given as goal
 
@@ -19,6 +20,7 @@ invariant-turns g l = record {
   kept : l.worker ≡ with_records l.worker.serials l.worker.made l.fn.worker;
   faults : (g.S.Source.feed l.source).faults ≡ (g.S.Source.feed l.fn.source).faults;
   lacked : (g.S.Source.feed l.source).lacked ≡ (g.S.Source.feed l.fn.source).lacked;
+  grows : Appends l.fn.out.items l.out.items;
   so_far : (marks : List Mark) → (g.S.Source.feed l.fn.source).marks ≡ Some marks
       → SoFar (setting_of g.Args.FromRequest.means g.Args.Error.Into.converts (g.H.Handler.answers l.fn.handler) g.H.Output.Responder.responds g.A.Source.Source.feed g.Args.Future.Poll.gives g.H.Future.Poll.gives l.fn.worker) l.fn.limits marks (g.S.Source.feed l.source) l.connection l.fn.out.items l.out.items;
 }
