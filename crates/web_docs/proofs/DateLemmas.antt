@@ -1,8 +1,8 @@
 -- The second that a text shows, by the relation of dates.
 use Rattle.std.proofs.Common.{◌≡◌, ℕ, Bool, true, false, List, [], ◌∷◌, Option, None, Some, refl, ap, sym, ◌∙◌}
 use Rattle.std.proofs.lemmas.Bool.{cond-true, cond-false}
-use Rattle.std.specs.Prelude.{nat_eq, slice_get}
-use Rattle.std.specs.Option.{option_and_then, option_eq, option_map}
+use Rattle.std.specs.Prelude.{slice_get}
+use Rattle.std.specs.Option.{option_and_then, option_map}
 use Rattle.http_header.specs.FieldValue.{FieldValue}
 use Rattle.httpdate.specs.declared.parts.Parts.{Parts}
 use Rattle.httpdate.specs.declared.date.HttpDate.{HttpDate}
@@ -15,8 +15,7 @@ use Rattle.web_texts.specs.HeaderTexts.{header_text, value_bytes}
 use Rattle.web_headers.specs.DateHeaders.{HasNoDate, SaysDate}
 use Rattle.web_entities.specs.EntityTags.{Tag, equals}
 use Rattle.web_entities.specs.declared.entity.Comparison.TheVariants.{Strong}
-use Rattle.web_docs.specs.Conditions.{names_version, range_condition, text_names_version}
-use Rattle.web_docs.specs.declared.document.Document.{Document}
+use Rattle.web_docs.specs.Conditions.{is_last_change, names_version, range_condition, text_names_version}
 
 valid : (d : HttpDate) → IsValid d.parts
 valid d = (d.civil, d.time, d.right_day)
@@ -51,22 +50,22 @@ secs_unsaid (Some text) says = no_secs text says
 
 -- ---- If-Range
 
-module _ (d : Document) where
-  pub range_tag : (text : List ℕ) (said : Option Tag) (is : Bool) → Some is ≡ option_map (λ t. equals Strong t d.tag) said → names_version d text said ≡ is
+module _ (tag : Tag) (modified : Option HttpDate) where
+  pub range_tag : (text : List ℕ) (said : Option Tag) (is : Bool) → Some is ≡ option_map (λ t. equals Strong t tag) said → names_version tag modified text said ≡ is
   range_tag text None is e = absurd (cc)
-  range_tag text (Some tag) is e = cc
+  range_tag text (Some named) is e = cc
 
-  pub range_date : (text : List ℕ) (said : Option Tag) → None ≡ option_map (λ t. equals Strong t d.tag) said
-      → names_version d text said ≡ option_eq nat_eq (parse_secs text) (Some (unix_secs d.modified))
+  pub range_date : (text : List ℕ) (said : Option Tag) → None ≡ option_map (λ t. equals Strong t tag) said
+      → names_version tag modified text said ≡ is_last_change modified text
   range_date text None e = refl
-  range_date text (Some tag) e = absurd (cc)
+  range_date text (Some named) e = absurd (cc)
 
-  pub range_there : (vs : List FieldValue) (first : FieldValue) → Some first ≡ slice_get vs 0 → range_condition d (value_bytes vs) ≡ text_names_version d (header_text first)
+  pub range_there : (vs : List FieldValue) (first : FieldValue) → Some first ≡ slice_get vs 0 → range_condition tag modified (value_bytes vs) ≡ text_names_version tag modified (header_text first)
   range_there [] first is = absurd (cc)
   range_there (v ∷ vs) first is =
       let same : first ≡ v = cc in
-      ap (λ x. text_names_version d (header_text x)) (sym same)
+      ap (λ x. text_names_version tag modified (header_text x)) (sym same)
 
-  pub range_absent : (vs : List FieldValue) → None ≡ slice_get vs 0 → range_condition d (value_bytes vs) ≡ true
+  pub range_absent : (vs : List FieldValue) → None ≡ slice_get vs 0 → range_condition tag modified (value_bytes vs) ≡ true
   range_absent [] is = refl
   range_absent (v ∷ vs) is = absurd (cc)

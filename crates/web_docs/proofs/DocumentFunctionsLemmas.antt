@@ -32,4 +32,4 @@ replied d verdict.All reply is = is
 pub one_document_reply : OneDocumentReply
 one_document_reply None head reply is = is
 one_document_reply (Some d) head reply is =
-    is.is ∙ ap (for_method head.method) (replied d (verdict_of head.method head.headers d) is.whole is.replies)
+    is.is ∙ ap (for_method head.method) (replied d (verdict_of head.method head.headers d.tag (Some d.modified)) is.whole is.replies)

@@ -6,5 +6,6 @@ pub mod HeaderMapLemmas
 pub mod PartLemmas
 pub mod ReplyLemmas
 pub mod SelectedEndsLemmas
+pub mod SentLemmas
 pub mod StoreLemmas
 pub mod VerdictLemmas

@@ -6,8 +6,10 @@ use Rattle.web_request.specs.Head.{Head}
 use Rattle.web_reply.specs.Replies.{Reply, bare_reply}
 use Rattle.web_reply.specs.declared.body.WholeBody.{WholeBody}
 use Rattle.web_reply.specs.declared.body.WholeBody.TheVariants as body
-use Rattle.web_docs.specs.DocumentReplies.{IsDocumentReply, for_method, partial_reply, reply_with}
-use Rattle.web_docs.specs.DocumentReplies.{unsatisfiable_reply, validator_headers, whole_headers}
+use Rattle.web_docs.specs.DescribedReplies.{reply_with}
+use Rattle.web_docs.specs.Descriptions.{description, validator_headers, whole_headers}
+use Rattle.web_docs.specs.DocumentReplies.{IsDocumentReply, for_method, partial_reply}
+use Rattle.web_docs.specs.DocumentReplies.{unsatisfiable_reply}
 use Rattle.web_docs.specs.SelectedEnds.{selected_ends}
 use Rattle.web_docs.specs.Verdicts.{verdict_of}
 use Rattle.web_docs.specs.declared.document.Document.{Document}
@@ -24,15 +26,16 @@ abbrev pub reply_to : Document → Verdict → Reply WholeBody
 reply_to d verdict.MethodNotAllowed =
     reply_with 405 ((codes "allow", plain_value (codes "GET, HEAD") ∷ []) ∷ []) body.Empty
 reply_to d verdict.PreconditionFailed = reply_with 412 [] body.Empty
-reply_to d verdict.NotModified = reply_with 304 (validator_headers d) body.Empty
+reply_to d verdict.NotModified = reply_with 304 (validator_headers (description d)) body.Empty
 reply_to d (verdict.Part spec) = part_reply d (selected_ends spec (length d.body))
-reply_to d verdict.All = reply_with 200 (whole_headers d) (body.Bytes d.body)
+reply_to d verdict.All = reply_with 200 (whole_headers (description d)) (body.Bytes d.body)
 
 -- the reply to a request for what a store has under its path
 abbrev pub document_reply : Option Document → Head → Reply WholeBody
 document_reply None head = bare_reply 404 body.Empty
 document_reply (Some d) head =
-    for_method head.method (reply_to d (verdict_of head.method head.headers d))
+    for_method head.method
+    (reply_to d (verdict_of head.method head.headers d.tag (Some d.modified)))
 
 -- This reply alone is that of a document.
 abbrev pub OneDocumentReply : Type 0

@@ -1,57 +1,33 @@
 -- The reply to a request for a document: its status, its headers, and which bytes of the document
 -- it sends (RFC 7232, section 4; RFC 7233, section 4; RFC 9110, sections 9.3.2 and 15.5.6).
-use Rattle.std.specs.Prelude.{◌≡◌, ℕ, List, [], ◌∷◌, ◌++◌, length, codes}
+use Rattle.std.specs.Prelude.{◌≡◌, ℕ, ◌+◌, List, [], ◌∷◌, ◌++◌, length, codes, drop, take}
 use Rattle.std.specs.Prelude.{Option, None, Some, if◌then◌else◌}
-use Rattle.http_header.specs.FieldValue.{FieldValue, plain_value}
-use Rattle.web_entities.specs.ContentRanges.{content_range_text}
-use Rattle.web_entities.specs.declared.content_range.ContentRangeSpec.TheVariants as range
+use Rattle.http_header.specs.FieldValue.{plain_value}
 use Rattle.web_negotiate.specs.SelectedPositions.{AreEnds, Selects}
 use Rattle.web_request.specs.Head.{Head}
 use Rattle.web_reply.specs.Replies.{Reply, bare_reply, with_body}
-use Rattle.web_reply.specs.ResponseHeads.{new_head}
 use Rattle.web_reply.specs.declared.body.WholeBody.{WholeBody}
 use Rattle.web_reply.specs.declared.body.WholeBody.TheVariants as body
 use Rattle.web_docs.specs.Conditions.{Headers}
-use Rattle.web_docs.specs.Documents.{date_value, media_type_value, tag_value}
+use Rattle.web_docs.specs.DescribedReplies.{range_header, reply_with}
+use Rattle.web_docs.specs.Descriptions.{description, validator_headers, whole_headers}
 use Rattle.web_docs.specs.SentPositions.{AreBytesAt}
 use Rattle.web_docs.specs.Verdicts.{is_head, verdict_of}
 use Rattle.web_docs.specs.declared.document.Document.{Document}
+use Rattle.web_docs.specs.declared.sends.Sends.{Sends}
+use Rattle.web_docs.specs.declared.sends.Sends.TheVariants as sends
 use Rattle.web_docs.specs.declared.verdict.Verdict.{Verdict}
 use Rattle.web_docs.specs.declared.verdict.Verdict.TheVariants as verdict
 
--- HTTP/1.1, this status, these headers and this body
-abbrev pub reply_with : ℕ → Headers → WholeBody → Reply WholeBody
-reply_with status headers b =
-    record { head = record (new_head status) { headers = headers }; body = b; error = None }
-
-abbrev pub validator_headers : Document → Headers
-validator_headers d =
-    (codes "etag", tag_value d ∷ []) ∷ (codes "last-modified", date_value d.modified ∷ []) ∷ []
-
-abbrev pub whole_headers : Document → Headers
-whole_headers d =
-    (codes "accept-ranges", plain_value (codes "bytes") ∷ [])
-    ∷ (codes "content-type", media_type_value d ∷ []) ∷ validator_headers d
-
--- `bytes a-b/LENGTH`, or `bytes */LENGTH`
-abbrev pub range_value : Option (ℕ × ℕ) → ℕ → FieldValue
-range_value ends size = plain_value (content_range_text (range.Bytes ends (Some size)))
-
--- the headers of a part, with this value of Content-Range
-abbrev pub part_headers : FieldValue → Document → Headers
-part_headers value d = whole_headers d ++ (codes "content-range", value ∷ []) ∷ []
-
-abbrev pub range_header : Option (ℕ × ℕ) → Document → Headers
-range_header ends d = (codes "content-range", range_value ends (length d.body) ∷ []) ∷ []
-
 -- no position is selected
 abbrev pub unsatisfiable_reply : Document → Reply WholeBody
-unsatisfiable_reply d = reply_with 416 (range_header None d) body.Empty
+unsatisfiable_reply d = reply_with 416 (range_header None (length d.body)) body.Empty
 
 -- a part, whose first and last positions are the ends
 abbrev pub partial_reply : Document → ℕ × ℕ → List ℕ → Reply WholeBody
 partial_reply d ends part =
-    reply_with 206 (whole_headers d ++ range_header (Some ends) d) (body.Bytes part)
+    reply_with 206 (whole_headers (description d) ++ range_header (Some ends) (length d.body))
+    (body.Bytes part)
 
 -- the bytes at the positions of a set with these ends, or 416 where it is empty
 abbrev pub SendsPart : Document → (ℕ → Type 0) → Option (ℕ × ℕ) → Reply WholeBody → Type 0
@@ -69,9 +45,11 @@ abbrev pub RepliesTo : Document → Verdict → Reply WholeBody → Type 0
 RepliesTo d verdict.MethodNotAllowed reply =
     reply ≡ reply_with 405 ((codes "allow", plain_value (codes "GET, HEAD") ∷ []) ∷ []) body.Empty
 RepliesTo d verdict.PreconditionFailed reply = reply ≡ reply_with 412 [] body.Empty
-RepliesTo d verdict.NotModified reply = reply ≡ reply_with 304 (validator_headers d) body.Empty
+RepliesTo d verdict.NotModified reply =
+    reply ≡ reply_with 304 (validator_headers (description d)) body.Empty
 RepliesTo d (verdict.Part spec) reply = IsPartReply d (Selects spec (length d.body)) reply
-RepliesTo d verdict.All reply = reply ≡ reply_with 200 (whole_headers d) (body.Bytes d.body)
+RepliesTo d verdict.All reply =
+    reply ≡ reply_with 200 (whole_headers (description d)) (body.Bytes d.body)
 
 -- The reply to HEAD has no body.
 abbrev pub for_method : List ℕ → Reply WholeBody → Reply WholeBody
@@ -81,10 +59,20 @@ for_method method reply = if is_head method then with_body body.Empty reply else
 pub record Answers (d : Document) (method : List ℕ) (headers : Headers) (reply : Reply WholeBody)
     : Type 0 where
   pub whole : Reply WholeBody
-  pub replies : RepliesTo d (verdict_of method headers d) whole
+  pub replies : RepliesTo d (verdict_of method headers d.tag (Some d.modified)) whole
   pub is : reply ≡ for_method method whole
 
 -- the reply to a request for what a store has under its path
 abbrev pub IsDocumentReply : Option Document → Head → Reply WholeBody → Type 0
 IsDocumentReply None head reply = reply ≡ bare_reply 404 body.Empty
 IsDocumentReply (Some d) head reply = Answers d head.method head.headers reply
+
+-- the bytes of content that a reply sends
+abbrev pub sent_bytes : List ℕ → Sends → WholeBody
+sent_bytes content sends.Nothing = body.Empty
+sent_bytes content sends.All = body.Bytes content
+sent_bytes content (sends.Part first last) = body.Bytes (drop first (take (last + 1) content))
+
+-- a reply with the bytes that it sends of content
+abbrev pub filled : List ℕ → Reply Sends → Reply WholeBody
+filled content reply = with_body (sent_bytes content reply.body) reply

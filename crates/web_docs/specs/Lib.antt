@@ -1,4 +1,6 @@
 pub mod Conditions
+pub mod DescribedReplies
+pub mod Descriptions
 pub mod DocumentFunctions
 pub mod DocumentReplies
 pub mod Documents

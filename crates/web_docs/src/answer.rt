@@ -4,10 +4,10 @@ ghost use Rattle.std.specs.FinMap as map;
 ghost use Rattle.web_request.specs.Head.{head_path};
 ghost use Rattle.web_docs.specs.DocumentReplies.{Answers, IsDocumentReply};
 
-use crate::replies::{for_method, reply_to};
+use crate::content::filled;
+use crate::replies::described_reply;
 use crate::store::Store;
 use crate::stored::StoredDocument;
-use crate::verdict::read_verdict;
 use http::{Method, StatusCode};
 use http_header::{HeaderMap, HeaderValue};
 use std::alloc::Global;
@@ -56,7 +56,7 @@ fn document_reply(
 ) -> Result<HttpResponse<WholeBody>, NoMemory>
     ensures { IfOk result (λ reply. Answers document.now method.now headers.now reply) }
 {
-    let verdict = read_verdict(method, headers, document.document());
-    let reply = reply_to(alloc, document, verdict)?;
-    Ok(for_method(method, reply))
+    let content = document.body();
+    let reply = described_reply(alloc, document, content.len() as u64, method, headers)?;
+    filled(content, reply)
 }

@@ -1,25 +1,23 @@
-//! The reply to a request for a document, by its verdict.
-ghost use Rattle.std.specs.Prelude.{◌≡◌, ◌≤◌, ◌<◌, ◌∷◌, ◌++◌, [], IfOk, None, Some, codes};
-ghost use Rattle.std.specs.Prelude.{drop, length, take, ◌+◌};
+//! The reply to a request for content of which a description and the length are known.
+ghost use Rattle.std.specs.Prelude.{◌≡◌, ◌∷◌, [], IfOk, None, Some, codes};
 ghost use Rattle.http_header.specs.FieldValue.{plain_value};
-ghost use Rattle.web_negotiate.specs.SelectedPositions.{AreEnds, Selects};
-ghost use Rattle.web_docs.specs.DocumentReplies.{IsPartReply, RepliesTo};
-ghost use Rattle.web_docs.specs.DocumentReplies.{for_method as for_method_lem};
-ghost use Rattle.web_docs.specs.DocumentReplies.{partial_reply as partial_reply_lem};
-ghost use Rattle.web_docs.specs.DocumentReplies.{range_value, reply_with};
-ghost use Rattle.web_docs.specs.DocumentReplies.{unsatisfiable_reply as unsatisfiable_reply_lem};
+ghost use Rattle.web_negotiate.specs.SelectedPositions.{Selects};
+ghost use Rattle.web_docs.specs.DescribedReplies.{IsDescribedReply, IsSentPart, SendsFor};
+ghost use Rattle.web_docs.specs.DescribedReplies.{range_header, range_value, reply_with};
+ghost use Rattle.web_docs.specs.DescribedReplies.{sends_for_method, sent_part};
+ghost use Rattle.web_docs.specs.Descriptions.{whole_headers};
 
 use crate::header_maps::put;
-use crate::stored::StoredDocument;
-use crate::verdict::{Verdict, is_head};
-use bytes::Bytes;
+use crate::reply_headers::ReplyHeaders;
+use crate::sends::Sends;
+use crate::verdict::{Verdict, is_head, read_verdict};
 use http::{Method, StatusCode};
 use http_header::{ALLOW, CONTENT_RANGE, HeaderMap, HeaderValue};
 use std::alloc::Global;
 use web_entities::{ByteRangeSpec, ContentRangeSpec};
 use web_headers::TryIntoHeaderValue;
 use web_negotiate::prelude::SatisfiableRange;
-use web_reply::{HttpResponse, WholeBody};
+use web_reply::HttpResponse;
 use web_texts::NoMemory;
 
 fn set_headers(headers: &mut HeaderMap<HeaderValue>, map: HeaderMap<HeaderValue>)
@@ -32,11 +30,11 @@ fn response(
     alloc: Global,
     status: StatusCode,
     headers: HeaderMap<HeaderValue>,
-    body: WholeBody,
-) -> HttpResponse<WholeBody>
-    ensures { result ≡ reply_with status headers body }
+    sends: Sends,
+) -> HttpResponse<Sends>
+    ensures { result ≡ reply_with status headers sends }
 {
-    let mut reply = HttpResponse::with_body(alloc, status, body);
+    let mut reply = HttpResponse::with_body(alloc, status, sends);
     set_headers(reply.headers_mut(), headers);
     reply
 }
@@ -66,101 +64,73 @@ fn content_range(
     }
 }
 
-/// The bytes from one position to another, both included. They are shared.
-fn bytes_between(body: &Bytes, first: u64, last: u64) -> Result<Bytes, NoMemory>
-    requires order { first ≤ last }
-    requires within { last < length body.now }
-    ensures { IfOk result (λ part. part ≡ drop first (take (last + 1) body.now)) }
-{
-    let mut part = body.clone()?;
-    part.truncate(last as usize + 1);
-    part.advance(first as usize);
-    Ok(part)
-}
-
-fn partial_reply(
+fn partial_reply<H: ReplyHeaders>(
     alloc: Global,
-    document: &StoredDocument,
+    content: &H,
+    length: u64,
     ends: (u64, u64),
-) -> Result<HttpResponse<WholeBody>, NoMemory>
-    requires order { ends.0 ≤ ends.1 }
-    requires within { ends.1 < length document.now.body }
-    ensures { IfOk result (λ reply. reply
-        ≡ partial_reply_lem document.now ends
-        (drop ends.0 (take (ends.1 + 1) document.now.body))) }
-{
-    let size = document.body().len() as u64;
-    let body = bytes_between(document.body(), ends.0, ends.1)?;
-    let range = content_range(alloc, Some(ends), size)?;
-    let map = document.part(range)?;
-    Ok(response(
-        alloc,
-        StatusCode::PARTIAL_CONTENT,
-        map,
-        WholeBody::Bytes(body),
-    ))
-}
-
-fn unsatisfiable_reply(
-    alloc: Global,
-    document: &StoredDocument,
-) -> Result<HttpResponse<WholeBody>, NoMemory>
-    ensures { IfOk result (λ reply. reply ≡ unsatisfiable_reply_lem document.now) }
-{
-    let size = document.body().len() as u64;
-    let mut map = HeaderMap::empty(alloc);
-    put(&mut map, CONTENT_RANGE, content_range(alloc, None, size)?)?;
-    Ok(response(
-        alloc,
-        StatusCode::RANGE_NOT_SATISFIABLE,
-        map,
-        WholeBody::Empty,
-    ))
-}
-
-fn part_reply(
-    alloc: Global,
-    document: &StoredDocument,
-    spec: ByteRangeSpec,
-) -> Result<HttpResponse<WholeBody>, NoMemory>
+) -> Result<HttpResponse<Sends>, NoMemory>
     ensures { IfOk result (λ reply.
-        IsPartReply document.now (Selects spec (length document.now.body)) reply) }
+        reply ≡ sent_part (H.describes content.now) length (Some ends)) }
 {
-    match spec.to_satisfiable_range(document.body().len() as u64) {
-        Some(ends) => partial_reply(alloc, document, ends),
-        None => unsatisfiable_reply(alloc, document),
+    let range = content_range(alloc, Some(ends), length)?;
+    let map = content.part_headers(alloc, range)?;
+    let sends = Sends::Part(ends.0, ends.1);
+    Ok(response(alloc, StatusCode::PARTIAL_CONTENT, map, sends))
+}
+
+fn unsatisfiable_reply(alloc: Global, length: u64) -> Result<HttpResponse<Sends>, NoMemory>
+    ensures { IfOk result (λ reply.
+        reply ≡ reply_with 416 (range_header None length) Sends.Nothing) }
+{
+    let mut map = HeaderMap::empty(alloc);
+    put(&mut map, CONTENT_RANGE, content_range(alloc, None, length)?)?;
+    Ok(empty_reply(alloc, StatusCode::RANGE_NOT_SATISFIABLE, map))
+}
+
+fn part_reply<H: ReplyHeaders>(
+    alloc: Global,
+    content: &H,
+    length: u64,
+    spec: ByteRangeSpec,
+) -> Result<HttpResponse<Sends>, NoMemory>
+    ensures { IfOk result (λ reply.
+        IsSentPart (H.describes content.now) length (Selects spec length) reply) }
+{
+    match spec.to_satisfiable_range(length) {
+        Some(ends) => partial_reply(alloc, content, length, ends),
+        None => unsatisfiable_reply(alloc, length),
     }
 }
 
-fn whole_reply(
-    alloc: Global,
-    document: &StoredDocument,
-) -> Result<HttpResponse<WholeBody>, NoMemory>
-    ensures { IfOk result (λ reply. RepliesTo document.now Verdict.All reply) }
+fn whole_reply<H: ReplyHeaders>(alloc: Global, content: &H) -> Result<HttpResponse<Sends>, NoMemory>
+    ensures { IfOk result (λ reply.
+        reply ≡ reply_with 200 (whole_headers (H.describes content.now)) Sends.All) }
 {
-    let map = document.whole()?;
-    let body = document.body().clone()?;
-    Ok(response(alloc, StatusCode::OK, map, WholeBody::Bytes(body)))
+    let map = content.whole_headers(alloc)?;
+    Ok(response(alloc, StatusCode::OK, map, Sends::All))
 }
 
-/// A reply with no body.
+/// A reply that sends nothing.
 fn empty_reply(
     alloc: Global,
     status: StatusCode,
     headers: HeaderMap<HeaderValue>,
-) -> HttpResponse<WholeBody>
-    ensures { result ≡ reply_with status headers WholeBody.Empty }
+) -> HttpResponse<Sends>
+    ensures { result ≡ reply_with status headers Sends.Nothing }
 {
-    response(alloc, status, headers, WholeBody::Empty)
+    response(alloc, status, headers, Sends::Nothing)
 }
 
 /// The reply to a GET by its verdict.
-pub fn reply_to(
+fn reply_to<H: ReplyHeaders>(
     alloc: Global,
-    document: &StoredDocument,
+    content: &H,
+    length: u64,
     verdict: Verdict,
-) -> Result<HttpResponse<WholeBody>, NoMemory>
-    ensures { IfOk result (λ reply. RepliesTo document.now verdict reply) }
+) -> Result<HttpResponse<Sends>, NoMemory>
+    ensures { IfOk result (λ reply.
+        SendsFor (H.describes content.now) length verdict reply) }
 {
     match verdict {
         Verdict::MethodNotAllowed => {
@@ -172,21 +142,37 @@ pub fn reply_to(
             Ok(empty_reply(alloc, StatusCode::PRECONDITION_FAILED, map))
         }
         Verdict::NotModified => {
-            let map = document.validators()?;
+            let map = content.validator_headers(alloc)?;
             Ok(empty_reply(alloc, StatusCode::NOT_MODIFIED, map))
         }
-        Verdict::Part(spec) => part_reply(alloc, document, spec),
-        Verdict::All => whole_reply(alloc, document),
+        Verdict::Part(spec) => part_reply(alloc, content, length, spec),
+        Verdict::All => whole_reply(alloc, content),
     }
 }
 
-/// The reply without its body, where the method is HEAD.
-pub fn for_method(method: &Method, reply: HttpResponse<WholeBody>) -> HttpResponse<WholeBody>
-    ensures { result ≡ for_method_lem method.now reply }
+/// The reply that sends nothing, where the method is HEAD.
+fn for_method(method: &Method, reply: HttpResponse<Sends>) -> HttpResponse<Sends>
+    ensures { result ≡ sends_for_method method.now reply }
 {
     if is_head(method) {
-        reply.set_body(WholeBody::Empty)
+        reply.set_body(Sends::Nothing)
     } else {
         reply
     }
+}
+
+/// The reply to a request of this method and these headers for content of this length.
+pub fn described_reply<H: ReplyHeaders>(
+    alloc: Global,
+    content: &H,
+    length: u64,
+    method: &Method,
+    headers: &HeaderMap<HeaderValue>,
+) -> Result<HttpResponse<Sends>, NoMemory>
+    ensures { IfOk result (λ reply.
+        IsDescribedReply (H.describes content.now) length method.now headers.now reply) }
+{
+    let verdict = read_verdict(method, headers, content.entity_tag(), content.last_change());
+    let reply = reply_to(alloc, content, length, verdict)?;
+    Ok(for_method(method, reply))
 }

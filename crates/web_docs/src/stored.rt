@@ -1,17 +1,21 @@
 //! Documents with the headers that they are sent with, printed once.
 ghost use Rattle.std.specs.Prelude.{◌≡◌, IfOk, IfSome};
-ghost use Rattle.web_docs.specs.DocumentReplies.{part_headers, validator_headers, whole_headers};
+ghost use Rattle.web_docs.specs.DescribedReplies.{part_headers as part_headers_lem};
+ghost use Rattle.web_docs.specs.Descriptions.{description, validator_headers as validators_lem};
+ghost use Rattle.web_docs.specs.Descriptions.{whole_headers as whole_headers_lem};
 ghost use Rattle.web_docs.specs.Documents.{StoresDocument, date_value, field_value_of};
 ghost use Rattle.web_docs.specs.Documents.{text_values as text_values_lem};
 
 use crate::document::{Document, StoreFault};
 use crate::header_maps::{part_map, validator_map, whole_map, with_range};
+use crate::reply_headers::ReplyHeaders;
 use bytes::Bytes;
 use http_header::{HeaderMap, HeaderValue};
 use httpdate::HttpDate;
 use std::alloc::Global;
 use std::fmt;
 use std::marker::Model;
+use web_entities::EntityTag;
 use web_headers::printed_value;
 use web_texts::{Fail, NoMemory};
 
@@ -38,7 +42,10 @@ impl Model for StoredDocument {
 }
 
 /// The value of the text that an item prints, if it may stand in a header.
-fn field_value<T: fmt::Display>(alloc: Global, item: &T) -> Result<Option<HeaderValue>, NoMemory>
+pub fn field_value<T: fmt::Display>(
+    alloc: Global,
+    item: &T,
+) -> Result<Option<HeaderValue>, NoMemory>
     ensures { IfSome (T.output item.now) (λ text.
         IfOk result (λ value. value ≡ field_value_of text)) }
 {
@@ -54,7 +61,7 @@ fn field_value<T: fmt::Display>(alloc: Global, item: &T) -> Result<Option<Header
 }
 
 /// The value of Last-Modified.
-fn date_field_value(alloc: Global, date: HttpDate) -> Result<HeaderValue, NoMemory>
+pub fn date_field_value(alloc: Global, date: HttpDate) -> Result<HeaderValue, NoMemory>
     ensures { IfOk result (λ value. value ≡ date_value date) }
 {
     let printed = field_value(alloc, &date)?;
@@ -118,14 +125,14 @@ impl StoredDocument {
 
     /// A copy of the headers of a 304.
     pub fn validators(&self) -> Result<HeaderMap<HeaderValue>, NoMemory>
-        ensures { IfOk result (λ map. map ≡ validator_headers self.now) }
+        ensures { IfOk result (λ map. map ≡ validators_lem (description self.now)) }
     {
         Ok(self.validators.clone()?)
     }
 
     /// The headers of a part, with this value of Content-Range.
     pub fn part(&self, range: HeaderValue) -> Result<HeaderMap<HeaderValue>, NoMemory>
-        ensures { IfOk result (λ map. map ≡ part_headers range self.now) }
+        ensures { IfOk result (λ map. map ≡ part_headers_lem range (description self.now)) }
     {
         let map = with_range(&self.part, range)?;
         Ok(map)
@@ -133,8 +140,41 @@ impl StoredDocument {
 
     /// A copy of the headers of the document.
     pub fn whole(&self) -> Result<HeaderMap<HeaderValue>, NoMemory>
-        ensures { IfOk result (λ map. map ≡ whole_headers self.now) }
+        ensures { IfOk result (λ map. map ≡ whole_headers_lem (description self.now)) }
     {
         Ok(self.whole.clone()?)
+    }
+}
+
+impl ReplyHeaders for StoredDocument {
+    ghost use Rattle.web_docs.specs.Descriptions.{description};
+
+    ghost describes = { description };
+
+    fn entity_tag(&self) -> &EntityTag {
+        &self.document().tag
+    }
+
+    fn last_change(&self) -> Option<HttpDate> {
+        Some(self.document().modified)
+    }
+
+    fn validator_headers(&self, _alloc: Global) -> Result<HeaderMap<HeaderValue>, NoMemory> {
+        let map = self.validators()?;
+        Ok(map)
+    }
+
+    fn whole_headers(&self, _alloc: Global) -> Result<HeaderMap<HeaderValue>, NoMemory> {
+        let map = self.whole()?;
+        Ok(map)
+    }
+
+    fn part_headers(
+        &self,
+        _alloc: Global,
+        range: HeaderValue,
+    ) -> Result<HeaderMap<HeaderValue>, NoMemory> {
+        let map = self.part(range)?;
+        Ok(map)
     }
 }

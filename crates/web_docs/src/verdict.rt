@@ -5,10 +5,10 @@ ghost use Rattle.web_docs.specs.Verdicts.{is_head as is_head_lem};
 ghost use Rattle.web_docs.specs.Verdicts.{part_or_all, verdict_of, wanted_range};
 
 use crate::conditions::{match_condition, none_match_condition, range_condition};
-use crate::document::Document;
 use http::Method;
 use http_header::{HeaderMap, HeaderValue};
-use web_entities::{ByteRangeSpec, Range};
+use httpdate::HttpDate;
+use web_entities::{ByteRangeSpec, EntityTag, Range};
 
 /// What becomes of a request for a document.
 #[derive(Clone, Copy, Debug, PartialEq, Eq)]
@@ -55,13 +55,15 @@ fn fails(condition: Option<bool>) -> bool
     }
 }
 
-/// The verdict on a request of this method and these headers for a document.
+/// The verdict on a request of this method and these headers for a document of this tag, which was
+/// last changed at this date, where that is known.
 pub fn read_verdict(
     method: &Method,
     headers: &HeaderMap<HeaderValue>,
-    document: &Document,
+    tag: &EntityTag,
+    modified: Option<HttpDate>,
 ) -> Verdict
-    ensures { result ≡ verdict_of method.now headers.now document.now }
+    ensures { result ≡ verdict_of method.now headers.now tag.now modified }
 {
     if !is_get_or_head(method) {
         return Verdict::MethodNotAllowed;
@@ -69,24 +71,29 @@ pub fn read_verdict(
     if headers.is_empty() {
         return Verdict::All;
     }
-    if fails(match_condition(document, headers)) {
+    if fails(match_condition(tag, modified, headers)) {
         return Verdict::PreconditionFailed;
     }
-    if fails(none_match_condition(document, headers)) {
+    if fails(none_match_condition(tag, modified, headers)) {
         return Verdict::NotModified;
     }
-    read_part(method, headers, document)
+    read_part(method, headers, tag, modified)
 }
 
 /// A part, or all.
-fn read_part(method: &Method, headers: &HeaderMap<HeaderValue>, document: &Document) -> Verdict
-    ensures { result ≡ part_or_all (wanted_range method.now headers.now document.now) }
+fn read_part(
+    method: &Method,
+    headers: &HeaderMap<HeaderValue>,
+    tag: &EntityTag,
+    modified: Option<HttpDate>,
+) -> Verdict
+    ensures { result ≡ part_or_all (wanted_range method.now headers.now tag.now modified) }
 {
     if !is_get(method) {
         return Verdict::All;
     }
     match Range::only(headers) {
-        Some(spec) if range_condition(document, headers) => Verdict::Part(spec),
+        Some(spec) if range_condition(tag, modified, headers) => Verdict::Part(spec),
         _ => Verdict::All,
     }
 }

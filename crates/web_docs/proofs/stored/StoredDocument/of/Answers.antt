@@ -2,6 +2,7 @@ use Rattle.std.proofs.Common.{[], refl, sym, ap, ◌∙◌}
 use Rattle.std.specs.Prelude.{codes}
 use Rattle.http_header.specs.FieldValue.{plain_value}
 use Rattle.http_header.specs.HeaderMap.{insert}
+use Rattle.web_docs.specs.Descriptions.{description}
 use Rattle.web_docs.proofs.FieldValueLemmas.{values_given, values_refused}
 use Rattle.web_docs.proofs.HeaderMapLemmas.{part_is, validators_are, whole_are}
 use Rattle.web_docs.proofs.stored.StoredDocument.of.Goals as goal
@@ -16,7 +17,7 @@ invariant_of-result c =
     record {
       validators = c.in_ok-validators-in-Some.ensures ∙ validators_are c.args.document c.in-Some.values.0 c.in-Some.values.1 c.in_ok-modified-in-Some.modified kind version date;
       whole = whole;
-      part = c.in_ok-part-in-Some.ensures ∙ ap (λ map. insert map (codes "content-range") (plain_value [])) whole ∙ part_is c.args.document (plain_value []);
+      part = c.in_ok-part-in-Some.ensures ∙ ap (λ map. insert map (codes "content-range") (plain_value [])) whole ∙ part_is (description c.args.document) (plain_value []);
     }
 
 pub returns-in_ok-part-in-Some : goal.returns-in_ok-part-in-Some
