@@ -1,5 +1,5 @@
 -- What `http1` reads and writes, status by status.
-use Rattle.std.specs.Prelude.{◌≡◌, ◌≤◌, ◌⊎◌, ℕ, List, [], Some, length, Result}
+use Rattle.std.specs.Prelude.{◌≡◌, ◌≤◌, ◌⊎◌, ℕ, false, List, [], Some, length, Result}
 use Rattle.web_texts.specs.Counts.{Rose}
 use Rattle.cli_io.specs.IoState.{InputState, OutputState}
 use Rattle.cli_io.specs.WholeReading.{limit, IsAll, IsTooLong}
@@ -22,7 +22,13 @@ use Rattle.web_cli.specs.declared.status.Status.TheVariants as status
 
 -- the greatest messages of a connection
 abbrev pub connection_limits : Limits
-connection_limits = record { head = 16384; headers = 64; body = 1048576 }
+connection_limits = record {
+  head = 16384;
+  headers = 64;
+  body = 1048576;
+  kept = 18446744073709551615;
+  checks = record { host = false; target = false; reasons = false };
+}
 
 -- The text has the answers of the bytes, which are all that come: where each message has one reply
 -- by these promises of arguments, handler and responders, these. What the futures are is no matter.

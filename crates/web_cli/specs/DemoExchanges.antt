@@ -10,11 +10,12 @@ use Rattle.demo_app.specs.declared.app.DemoLocal.{DemoLocal}
 use Rattle.demo_app.specs.declared.app.DemoConn.{DemoConn}
 use Rattle.demo_app.specs.declared.layer.DemoLayer.{DemoLayer}
 use Rattle.demo_app.specs.DemoLayers.{no_layer}
-use Rattle.demo_app.specs.DemoRequests.{demo_config, demo_parts}
+use Rattle.demo_app.specs.DemoRequests.{demo_parts}
+use Rattle.web_request.specs.LocalConfigs.{local_config}
 
 -- the pool of the program's worker, which keeps so many records
 abbrev pub demo_pool : ℕ → Pool DemoLayer
-demo_pool capacity = new_pool no_layer demo_config capacity
+demo_pool capacity = new_pool no_layer local_config capacity
 
 -- the exchange that a script describes, with its body as a stream of its marks
 abbrev pub demo_exchange : ScriptedExchangeView → ExchangeView Feed DemoLayer DemoLocal DemoConn

@@ -15,7 +15,7 @@ use std::alloc::Global;
 use web_body::Marks;
 use web_extract::FromRequest;
 use web_http1::{Ended, serve_connection};
-use web_messages::Limits;
+use web_messages::{HeadChecks, Limits};
 use web_reply::Responder;
 use web_request::Mark;
 use web_texts::NoMemory;
@@ -26,6 +26,12 @@ const LIMITS: Limits = Limits {
     head: 16_384,
     headers: 64,
     body: 1_048_576,
+    kept: usize::MAX,
+    checks: HeadChecks {
+        host: false,
+        target: false,
+        reasons: false,
+    },
 };
 
 /// A source of these bytes, in one piece.

@@ -5,8 +5,8 @@ ghost use Rattle.web_cli.specs.DemoExchanges.{demo_pool};
 use demo_app::{Demo, DemoLayer};
 use std::alloc::Global;
 use std::rc::Rc;
-use web_request::{AppConfig, IpAddr, SocketAddr};
-use web_texts::{NoMemory, Text};
+use web_request::AppConfig;
+use web_texts::NoMemory;
 use web_worker::Worker;
 
 /// A worker for `localhost:8080` whose root layer configures nothing, and whose pool keeps up to
@@ -15,13 +15,6 @@ pub(crate) fn new_worker(alloc: Global, capacity: u16) -> Result<Worker<Demo>, N
     ensures { IfOk result (λ w. w ≡ demo_pool capacity) }
 {
     let root = Rc::new(alloc, DemoLayer::new())?;
-    let config = AppConfig {
-        host: Text::of(alloc, "localhost:8080")?,
-        secure: false,
-        local_addr: SocketAddr {
-            ip: IpAddr::V4([127, 0, 0, 1]),
-            port: 8080,
-        },
-    };
+    let config = AppConfig::local(alloc)?;
     Worker::new(alloc, root, config, usize::from(capacity))
 }

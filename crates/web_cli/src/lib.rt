@@ -20,8 +20,8 @@ pub use cli_io::{
 };
 pub use cli_load::{Load, script_text};
 pub use cli_script::{
-    ExchangeSink, InvalidScript, LayerSettings, Reason, Script, ScriptedExchange, first_fault_law,
-    read_script, read_script_into, target_law,
+    ExchangeSink, InvalidScript, LayerSettings, LineFault, Script, ScriptedExchange,
+    first_fault_law, read_script, read_script_into, target_law,
 };
 pub use demo_app::{Demo, DemoConn, DemoLayer, DemoLocal, Item};
 pub use demo_flights::DemoFlights;
