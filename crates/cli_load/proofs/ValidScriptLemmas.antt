@@ -23,7 +23,7 @@ use Rattle.cli_script.specs.Script.{fault_or, first_fault_after, is_valid_script
 use Rattle.cli_script.specs.Targets.{is_origin, is_path_and_query, is_path_input, target_of}
 use Rattle.cli_script.specs.declared.line.Word.{Word}
 use Rattle.cli_script.specs.declared.line.Word.TheVariants as word
-use Rattle.cli_script.specs.declared.reason.Reason.{Reason}
+use Rattle.cli_script.specs.declared.reason.LineFault.{LineFault}
 use Rattle.cli_script.specs.declared.script.InvalidScript.{InvalidScript}
 use Rattle.cli_load.specs.Drawing.{drawn_of, state_after}
 use Rattle.cli_load.specs.ScriptTexts.{end_text, exchange_text, exchanges_from, head_text, line}
@@ -40,7 +40,7 @@ with_word w text = record { word = w; argument = text }
 abbrev Clear : List Line → List Line → Type 0
 Clear before left = first_fault_after before left ≡ None
 
-none_next : (r : Option Reason) (n : ℕ) (next : Option InvalidScript)
+none_next : (r : Option LineFault) (n : ℕ) (next : Option InvalidScript)
     → fault_or r n next ≡ None → (r ≡ None) × (next ≡ None)
 none_next None n next e = (refl, e)
 none_next (Some r) n next e = absurd (cc)

@@ -15,8 +15,8 @@ use Rattle.cli_script.specs.LayerLines.{is_layer, mime_of, plain_setting, valued
 use Rattle.cli_script.specs.LineFaults.{unless}
 use Rattle.cli_script.specs.declared.layer.LayerSettings.{LayerSettings}
 use Rattle.cli_script.specs.declared.layer.Setting.{Setting}
-use Rattle.cli_script.specs.declared.reason.Reason.{Reason}
-use Rattle.cli_script.specs.declared.reason.Reason.TheVariants as reason
+use Rattle.cli_script.specs.declared.reason.LineFault.{LineFault}
+use Rattle.cli_script.specs.declared.reason.LineFault.TheVariants as reason
 
 -- one setting
 
@@ -89,7 +89,7 @@ last_setting text old new all whole is so_far =
 
 -- a setting is none
 
-refused_one : (o : Option Setting) (r : Reason) → unless (is_some o) reason.BadLayer ≡ Some r → (o ≡ None) × (r ≡ reason.BadLayer)
+refused_one : (o : Option Setting) (r : LineFault) → unless (is_some o) reason.BadLayer ≡ Some r → (o ≡ None) × (r ≡ reason.BadLayer)
 refused_one None r some = (refl, cc)
 refused_one (Some x) r some = absurd (cc)
 
@@ -97,7 +97,7 @@ none_is_fault : (o : Option (List Setting)) → option_map (with_settings no_set
 none_is_fault None none = refl
 none_is_fault (Some xs) none = absurd (cc)
 
-pub no_setting : (whole text part behind : List ℕ) (old : LayerSettings) (r : Reason) → IsCut 32 text part behind → layer_on old (pieces text) ≡ layer_on no_settings (pieces whole)
+pub no_setting : (whole text part behind : List ℕ) (old : LayerSettings) (r : LineFault) → IsCut 32 text part behind → layer_on old (pieces text) ≡ layer_on no_settings (pieces whole)
     → unless (is_some (setting_of part)) reason.BadLayer ≡ Some r → unless (is_layer whole) reason.BadLayer ≡ Some r
 unfolding layer_on
 no_setting whole text part behind old r cut so_far bad =
@@ -105,7 +105,7 @@ no_setting whole text part behind old r cut so_far bad =
     let all : layer_on no_settings (pieces whole) ≡ None = sym so_far ∙ rw (split_cut 32 text part behind cut, none.0) refl in
     rw none.1 (none_is_fault (settings_of whole) (sym (all_read no_settings (pieces whole)) ∙ all))
 
-pub no_last_setting : (whole text : List ℕ) (old : LayerSettings) (r : Reason) → position_or_len is_space text ≡ length text → layer_on old (pieces text) ≡ layer_on no_settings (pieces whole)
+pub no_last_setting : (whole text : List ℕ) (old : LayerSettings) (r : LineFault) → position_or_len is_space text ≡ length text → layer_on old (pieces text) ≡ layer_on no_settings (pieces whole)
     → unless (is_some (setting_of text)) reason.BadLayer ≡ Some r → unless (is_layer whole) reason.BadLayer ≡ Some r
 unfolding layer_on
 no_last_setting whole text old r end so_far bad =

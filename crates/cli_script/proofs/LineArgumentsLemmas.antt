@@ -22,8 +22,8 @@ use Rattle.cli_script.specs.LineFaults.{unless}
 use Rattle.cli_script.specs.Reader.{bare_exchange, new_exchange}
 use Rattle.web_request.specs.Head.{Target, uri_view}
 use Rattle.cli_script.specs.Targets.{IsReading, target_of}
-use Rattle.cli_script.specs.declared.reason.Reason.{Reason}
-use Rattle.cli_script.specs.declared.reason.Reason.TheVariants as reason
+use Rattle.cli_script.specs.declared.reason.LineFault.{LineFault}
+use Rattle.cli_script.specs.declared.reason.LineFault.TheVariants as reason
 use Rattle.cli_script.proofs.AcceptanceLemmas.{met, not_met}
 use Rattle.cli_script.proofs.TargetFormsLemmas.{reading, all_decides, le_decides, utf8_decides}
 use Rattle.cli_script.proofs.UniqueTargetLemmas.{form_unique}
@@ -143,7 +143,7 @@ module _ (text method target : List ℕ) (cut : IsCut 32 text method target) whe
   pub spaced_target : has_space target ≡ true → request_fault text ≡ Some reason.BadExchange
   spaced_target spaced = rw (request_is, spaced) refl
 
-  pub no_method : (r : Reason) → has_space target ≡ false → unless (is_method method) reason.BadExchange ≡ Some r → request_fault text ≡ Some r
+  pub no_method : (r : LineFault) → has_space target ≡ false → unless (is_method method) reason.BadExchange ≡ Some r → request_fault text ≡ Some r
   no_method r plain none =
       let test = not_met (is_method method) reason.BadExchange r none in
       rw (request_is, plain, test.0, test.1) refl
@@ -153,7 +153,7 @@ module _ (text method target : List ℕ) (cut : IsCut 32 text method target) whe
       let test = met (is_method method) reason.BadExchange is in
       rw (request_is, plain, test, cut.after_is) refl
 
-  pub no_target : (r : Reason) → has_space target ≡ false → unless (is_method method) reason.BadExchange ≡ None → target_fault (target_of target) ≡ Some r → request_fault text ≡ Some r
+  pub no_target : (r : LineFault) → has_space target ≡ false → unless (is_method method) reason.BadExchange ≡ None → target_fault (target_of target) ≡ Some r → request_fault text ≡ Some r
   no_target r plain is none = target_tested plain is ∙ none
 
   pub asked_for : (t : Target) (m : List ℕ) → has_space target ≡ false → unless (is_method method) reason.BadExchange ≡ None → m ≡ method
@@ -171,12 +171,12 @@ module _ (text name value : List ℕ) (cut : IsCut 32 text name value) where
   pub no_name : (length name == 0) ≡ true → unless (is_param text) reason.BadParam ≡ Some reason.BadParam
   no_name none = rw (param_is, none) refl
 
-  pub name_refused : (r : Reason) → (length name == 0) ≡ false → unless (is_utf8 name) reason.BadParam ≡ Some r → unless (is_param text) reason.BadParam ≡ Some r
+  pub name_refused : (r : LineFault) → (length name == 0) ≡ false → unless (is_utf8 name) reason.BadParam ≡ Some r → unless (is_param text) reason.BadParam ≡ Some r
   name_refused r some bad =
       let test = not_met (is_utf8 name) reason.BadParam r bad in
       rw (param_is, some, test.0, test.1) refl
 
-  pub value_refused : (r : Reason) → (length name == 0) ≡ false → unless (is_utf8 name) reason.BadParam ≡ None → unless (is_utf8 value) reason.BadParam ≡ Some r → unless (is_param text) reason.BadParam ≡ Some r
+  pub value_refused : (r : LineFault) → (length name == 0) ≡ false → unless (is_utf8 name) reason.BadParam ≡ None → unless (is_utf8 value) reason.BadParam ≡ Some r → unless (is_param text) reason.BadParam ≡ Some r
   value_refused r some good bad =
       let first = met (is_utf8 name) reason.BadParam good in
       let test = not_met (is_utf8 value) reason.BadParam r bad in

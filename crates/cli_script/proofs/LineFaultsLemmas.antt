@@ -4,10 +4,10 @@ use Rattle.std.proofs.lemmas.List.{append-nil}
 use Rattle.cli_script.specs.Line.{Line}
 use Rattle.cli_script.specs.LineFaults.{fault_of}
 use Rattle.cli_script.specs.Script.{fault_or, first_fault_after, first_fault, IsFirstFault, NoneFaulty}
-use Rattle.cli_script.specs.declared.reason.Reason.{Reason}
+use Rattle.cli_script.specs.declared.reason.LineFault.{LineFault}
 use Rattle.cli_script.specs.declared.script.InvalidScript.{InvalidScript}
 
-none_next : (r : Option Reason) (n : ℕ) (next : Option InvalidScript) → fault_or r n next ≡ None → (r ≡ None) × (next ≡ None)
+none_next : (r : Option LineFault) (n : ℕ) (next : Option InvalidScript) → fault_or r n next ≡ None → (r ≡ None) × (next ≡ None)
 none_next None n next e = (refl, e)
 none_next (Some r) n next e = absurd (cc)
 
@@ -69,7 +69,7 @@ nothing_split (y ∷ b) l a e = cc
 First : List Line → List Line → InvalidScript → Type 0
 First before left fault = (b : List Line) × (l : Line) × (a : List Line) × IsFirstAfter before left fault b l a
 
-by_first : (before left : List Line) (x : Line) (fault : InvalidScript) (r : Option Reason) → fault_of before x ≡ r → fault_or r (length before + 1) (first_fault_after (before ++ x ∷ []) left) ≡ Some fault
+by_first : (before left : List Line) (x : Line) (fault : InvalidScript) (r : Option LineFault) → fault_of before x ≡ r → fault_or r (length before + 1) (first_fault_after (before ++ x ∷ []) left) ≡ Some fault
     → (first_fault_after (before ++ x ∷ []) left ≡ Some fault → First (before ++ x ∷ []) left fault) → First before (x ∷ left) fault
 unfolding First
 by_first before left x fault (Some r) is e next =

@@ -21,8 +21,8 @@ use Rattle.cli_script.specs.Numbers.{line_number}
 use Rattle.cli_script.specs.Peers.{line_peer}
 use Rattle.cli_script.specs.ScriptExchanges.{line_headers, line_layers}
 use Rattle.cli_script.specs.declared.layer.LayerSettings.{LayerSettings}
-use Rattle.cli_script.specs.declared.reason.Reason.{Reason}
-use Rattle.cli_script.specs.declared.reason.Reason.TheVariants as reason
+use Rattle.cli_script.specs.declared.reason.LineFault.{LineFault}
+use Rattle.cli_script.specs.declared.reason.LineFault.TheVariants as reason
 use Rattle.cli_script.specs.declared.line.Word.{Word}
 use Rattle.cli_script.specs.declared.line.Word.TheVariants as word
 use Rattle.cli_script.proofs.ReaderLemmas.{line}
@@ -93,14 +93,14 @@ conn_sound None f n sound = tt
 conn_sound (Some e) f n sound = sound
 
 -- the line of a mark is refused where the exchange has a fault
-none_failed : (p b f : Bool) (argument : Option Reason)
+none_failed : (p b f : Bool) (argument : Option LineFault)
     → option_or (cond p (Some reason.LineAfterPlan) (cond (not b) (Some reason.NoExchange) (cond f (Some reason.MarkAfterFault) None))) argument ≡ None → f ≡ false
 none_failed true b f argument fine = absurd (cc)
 none_failed false false f argument fine = absurd (cc)
 none_failed false true true argument fine = absurd (cc)
 none_failed false true false argument fine = refl
 
-has_none : (s : ReaderView) (argument : Option Reason)
+has_none : (s : ReaderView) (argument : Option LineFault)
     → option_or (cond s.has_plan (Some reason.LineAfterPlan) (cond (not (is_some s.open_exchange)) (Some reason.NoExchange) (cond s.has_fault (Some reason.MarkAfterFault) None))) argument ≡ None
     → s.has_fault ≡ false
 has_none s argument fine = none_failed s.has_plan (is_some s.open_exchange) s.has_fault argument fine

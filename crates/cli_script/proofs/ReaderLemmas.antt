@@ -18,8 +18,8 @@ use Rattle.cli_script.specs.Peers.{line_peer}
 use Rattle.cli_script.specs.ScriptExchanges.{line_headers, line_layers, line_marks, line_params, line_peers, line_locals, line_conns, line_entries, plan, exchange_of, exchanges}
 use Rattle.cli_script.specs.ExchangeSinks.{open_exchanges}
 use Rattle.cli_script.specs.Reader.{ReaderView, header_count, word_fault, reader_fault, refusal, after_line, completed_by, with_headers, with_layers, with_marks, with_params, with_peer, with_local, with_conn}
-use Rattle.cli_script.specs.declared.reason.Reason.{Reason}
-use Rattle.cli_script.specs.declared.reason.Reason.TheVariants as reason
+use Rattle.cli_script.specs.declared.reason.LineFault.{LineFault}
+use Rattle.cli_script.specs.declared.reason.LineFault.TheVariants as reason
 use Rattle.cli_script.specs.declared.line.Word.{Word}
 use Rattle.cli_script.specs.declared.line.Word.TheVariants as word
 use Rattle.web_texts.proofs.LastCutLemmas.{or_false, after_last_at, before_first_at, before_first_none}
@@ -340,7 +340,7 @@ headers_counted head rest =
 -- The test of a line by what is kept is the test by the lines before it.
 
 -- the tests of a line: whether a plan came, whether an exchange is begun, whether it has a fault and as many headers as it may have
-tests : Bool → Bool → Bool → Bool → Line → Option Reason
+tests : Bool → Bool → Bool → Bool → Line → Option LineFault
 tests planned begun failed full l =
     cond (has word.Skipped l) None
     (cond (has word.Unknown l) (Some reason.UnknownLine)

@@ -19,7 +19,7 @@ use Rattle.cli_script.specs.ScriptExchanges.{exchanges}
 use Rattle.cli_script.specs.ScriptReading.{IsWholeRead, with_line}
 use Rattle.cli_script.specs.ScriptedView.{ScriptedExchangeView}
 use Rattle.cli_script.specs.Reader.{ReaderView, new_reader, refusal, after_line, completed_by, Reads}
-use Rattle.cli_script.specs.declared.reason.Reason.{Reason}
+use Rattle.cli_script.specs.declared.reason.LineFault.{LineFault}
 use Rattle.cli_script.specs.declared.script.InvalidScript.{InvalidScript}
 use Rattle.cli_script.proofs.ReaderLemmas.{IsRead, read_more, refusal_is, exchanges_read}
 use Rattle.cli_script.proofs.MarksLemmas.{IsSound, sound_start, sound_more, bodies_read, open_body}
@@ -53,7 +53,7 @@ at_next lines before x left whole s at fine = record {
   sound = sound_more whole s x.word x.argument fine at.sound;
 }
 
-at_fault : (lines before : List Line) (x : Line) (left : List Line) (whole : List ScriptedExchangeView) (s : ReaderView) (r : Reason) → IsAt lines before (x ∷ left) whole s → refusal s x ≡ Some r
+at_fault : (lines before : List Line) (x : Line) (left : List Line) (whole : List ScriptedExchangeView) (s : ReaderView) (r : LineFault) → IsAt lines before (x ∷ left) whole s → refusal s x ≡ Some r
     → first_fault lines ≡ Some (record { line = length before + 1; reason = r })
 at_fault lines before x left whole s r at bad =
     let faulty : fault_of before x ≡ Some r = sym (refusal_is before whole s x.word x.argument at.read) ∙ bad in
@@ -61,7 +61,7 @@ at_fault lines before x left whole s r at bad =
 
 -- ---- the exchanges of a valid script have bodies
 
-by_line : (lines before : List Line) (x : Line) (left : List Line) (whole : List ScriptedExchangeView) (s : ReaderView) (bad : Option Reason) → refusal s x ≡ bad → IsAt lines before (x ∷ left) whole s → first_fault lines ≡ None
+by_line : (lines before : List Line) (x : Line) (left : List Line) (whole : List ScriptedExchangeView) (s : ReaderView) (bad : Option LineFault) → refusal s x ≡ bad → IsAt lines before (x ∷ left) whole s → first_fault lines ≡ None
     → (refusal s x ≡ None → AllPass (λ e. is_body e.marks) (exchanges lines)) → AllPass (λ e. is_body e.marks) (exchanges lines)
 by_line lines before x left whole s (Some r) is at valid rest = let bad = at_fault lines before x left whole s r at is in absurd (cc)
 by_line lines before x left whole s None is at valid rest = rest is
@@ -91,18 +91,18 @@ on_ok (Err e) p = tt
 
 -- ---- what a line with a number comes to
 
-pub line_fine : (r : Result Unit (Fail Reason)) (number : ℕ) (u : Unit) (fault : Option Reason) (P : Type 0) → Ok u ≡ with_line number r → Accepts r fault (λ _. P) → (fault ≡ None) × P
+pub line_fine : (r : Result Unit (Fail LineFault)) (number : ℕ) (u : Unit) (fault : Option LineFault) (P : Type 0) → Ok u ≡ with_line number r → Accepts r fault (λ _. P) → (fault ≡ None) × P
 line_fine (Ok u) number v fault P is accepts = accepts
 line_fine (Err fail.NoMemory) number v fault P is accepts = absurd (cc)
 line_fine (Err (fail.Of r)) number v fault P is accepts = absurd (cc)
 
-pub on_fine : (r : Result Unit (Fail Reason)) (number : ℕ) (u : Unit) (P : Type 0) → Ok u ≡ with_line number r → OnOk r P → P
+pub on_fine : (r : Result Unit (Fail LineFault)) (number : ℕ) (u : Unit) (P : Type 0) → Ok u ≡ with_line number r → OnOk r P → P
 on_fine (Ok u) number v P is p = p
 on_fine (Err fail.NoMemory) number v P is p = absurd (cc)
 on_fine (Err (fail.Of r)) number v P is p = absurd (cc)
 
-line_refused : (r : Result Unit (Fail Reason)) (number : ℕ) (e : Fail InvalidScript) (fault : Option Reason) (first : Option InvalidScript) (P : Type 0) → Err e ≡ with_line number r
-    → ((x : Reason) → fault ≡ Some x → first ≡ Some (record { line = number; reason = x })) → Accepts r fault (λ _. P) → Refuses e first
+line_refused : (r : Result Unit (Fail LineFault)) (number : ℕ) (e : Fail InvalidScript) (fault : Option LineFault) (first : Option InvalidScript) (P : Type 0) → Err e ≡ with_line number r
+    → ((x : LineFault) → fault ≡ Some x → first ≡ Some (record { line = number; reason = x })) → Accepts r fault (λ _. P) → Refuses e first
 line_refused (Ok u) number e fault first P is told accepts = absurd (cc)
 line_refused (Err fail.NoMemory) number e fault first P is told accepts =
     let same : e ≡ fail.NoMemory = cc in
@@ -160,19 +160,19 @@ module _ {S : Type 0} (holds : S → List ScriptedExchangeView → Type 0) where
     valid_added : (new : S) → Adds holds old new (completed_by s (line_at first).word) → Adds holds start new (h.whole ++ completed_by s (line_at first).word)
     valid_added new added = adds_more start old new h.whole _ h.added added
 
-    faulty_line : (r : Reason) → refusal s (line_at first) ≡ Some r → first_fault (script_lines bytes) ≡ Some (record { line = number; reason = r })
+    faulty_line : (r : LineFault) → refusal s (line_at first) ≡ Some r → first_fault (script_lines bytes) ≡ Some (record { line = number; reason = r })
     faulty_line r bad = rw h.number_is (at_fault (script_lines bytes) h.before (line_at first) more h.whole s r now bad)
 
   -- a line after which others come
 
-  pub refused_line : (bytes left first rest : List ℕ) (start old : S) (number : ℕ) (s t : ReaderView) (r : Result Unit (Fail Reason)) (e : Fail InvalidScript)
+  pub refused_line : (bytes left first rest : List ℕ) (start old : S) (number : ℕ) (s t : ReaderView) (r : Result Unit (Fail LineFault)) (e : Fail InvalidScript)
       → slice_split is_newline left ≡ first ∷ slice_split is_newline rest → Reads s t (line_at first) r → Err e ≡ with_line number r → IsAtLine bytes left start old number s
       → Refuses e (first_fault (script_lines bytes))
   refused_line bytes left first rest start old number s t r e cut reads is h =
       line_refused r number e (refusal s (line_at first)) (first_fault (script_lines bytes)) (t ≡ after_line s (line_at first).word (line_at first).argument) is
       (faulty_line bytes left first (script_lines rest) start old number s (first_line left first rest cut) h) reads
 
-  pub next_line : (bytes left first rest : List ℕ) (start old new : S) (number : ℕ) (s t : ReaderView) (r : Result Unit (Fail Reason)) (u : Unit)
+  pub next_line : (bytes left first rest : List ℕ) (start old new : S) (number : ℕ) (s t : ReaderView) (r : Result Unit (Fail LineFault)) (u : Unit)
       → slice_split is_newline left ≡ first ∷ slice_split is_newline rest → Reads s t (line_at first) r → OnOk r (Adds holds old new (completed_by s (line_at first).word))
       → Ok u ≡ with_line number r → IsAtLine bytes left start old number s → IsAtLine bytes rest start new (number + 1) t
   next_line bytes left first rest start old new number s t r u cut reads added is h =
@@ -204,7 +204,7 @@ module _ {S : Type 0} (holds : S → List ScriptedExchangeView → Type 0) where
         },
       )
 
-  last_of : (bytes left first : List ℕ) (start old new : S) (number : ℕ) (s t : ReaderView) (r : Result Unit (Fail Reason)) → length bytes < 2 ^ 63 → script_lines left ≡ line_at first ∷ []
+  last_of : (bytes left first : List ℕ) (start old new : S) (number : ℕ) (s t : ReaderView) (r : Result Unit (Fail LineFault)) → length bytes < 2 ^ 63 → script_lines left ≡ line_at first ∷ []
       → Reads s t (line_at first) r → OnOk r (Adds holds old new (completed_by s (line_at first).word)) → IsAtLine bytes left start old number s
       → Accepts (with_line number r) (first_fault (script_lines bytes)) (λ _. IsWholeRead holds (script_lines bytes) start new t)
   last_of bytes left first start old new number s t (Ok u) small cut reads added h =
@@ -212,7 +212,7 @@ module _ {S : Type 0} (holds : S → List ScriptedExchangeView → Type 0) where
   last_of bytes left first start old new number s t (Err fail.NoMemory) small cut reads added h = tt
   last_of bytes left first start old new number s t (Err (fail.Of x)) small cut reads added h = faulty_line bytes left first [] start old number s cut h x reads
 
-  pub last_line_reads : (bytes left : List ℕ) (n : ℕ) (start old new : S) (number : ℕ) (s t : ReaderView) (r : Result Unit (Fail Reason)) (result : Result Unit (Fail InvalidScript)) → length bytes < 2 ^ 63
+  pub last_line_reads : (bytes left : List ℕ) (n : ℕ) (start old new : S) (number : ℕ) (s t : ReaderView) (r : Result Unit (Fail LineFault)) (result : Result Unit (Fail InvalidScript)) → length bytes < 2 ^ 63
       → slice_split is_newline left ≡ left ∷ [] → n ≡ length left
       → Reads s t (line_at (take n left)) r → OnOk r (Adds holds old new (completed_by s (line_at (take n left)).word))
       → result ≡ with_line number r → IsAtLine bytes left start old number s → Accepts result (first_fault (script_lines bytes)) (λ _. IsWholeRead holds (script_lines bytes) start new t)

@@ -9,8 +9,8 @@ use Rattle.web_texts.specs.Pairs.{Pair}
 use Rattle.cli_script.specs.Line.{is_space}
 use Rattle.web_request.specs.Head.{Target}
 use Rattle.cli_script.specs.Targets.{target_of}
-use Rattle.cli_script.specs.declared.reason.Reason.{Reason}
-use Rattle.cli_script.specs.declared.reason.Reason.TheVariants as reason
+use Rattle.cli_script.specs.declared.reason.LineFault.{LineFault}
+use Rattle.cli_script.specs.declared.reason.LineFault.TheVariants as reason
 
 -- the text before the first space, and the text after it
 abbrev pub before_space : List ℕ → List ℕ
@@ -27,7 +27,7 @@ unfoldable pub is_method : List ℕ → Bool
 is_method text = nat_lt 0 (length text) && list_all is_token_byte text
 
 -- why TARGET is faulty
-abbrev pub target_fault : Option Target → Option Reason
+abbrev pub target_fault : Option Target → Option LineFault
 target_fault target = if is_some target then None else Some reason.BadExchange
 
 -- METHOD, one space and TARGET, which has no space
@@ -36,7 +36,7 @@ is_request text =
     has_space text && (not (has_space (after_space text)) && is_method (before_space text))
 
 -- why the argument of an `exchange` line is faulty
-abbrev pub request_fault : List ℕ → Option Reason
+abbrev pub request_fault : List ℕ → Option LineFault
 request_fault text =
     if is_request text then target_fault (target_of (after_space text))
     else Some reason.BadExchange

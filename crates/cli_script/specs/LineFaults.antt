@@ -14,8 +14,8 @@ use Rattle.cli_script.specs.Peers.{peer_of}
 use Rattle.cli_script.specs.PlanEntries.{entries_of}
 use Rattle.cli_script.specs.declared.line.Word.{Word}
 use Rattle.cli_script.specs.declared.line.Word.TheVariants as word
-use Rattle.cli_script.specs.declared.reason.Reason.{Reason}
-use Rattle.cli_script.specs.declared.reason.Reason.TheVariants as reason
+use Rattle.cli_script.specs.declared.reason.LineFault.{LineFault}
+use Rattle.cli_script.specs.declared.reason.LineFault.TheVariants as reason
 
 -- some of the lines has this word
 abbrev pub has_line : Word → List Line → Bool
@@ -30,12 +30,12 @@ abbrev pub max_headers : ℕ
 max_headers = 1024
 
 -- the reason, where the test is not met
-abbrev pub unless : Bool → Reason → Option Reason
+abbrev pub unless : Bool → LineFault → Option LineFault
 unless true r = None
 unless false r = Some r
 
 -- why the argument of a line of this word is faulty
-abbrev pub argument_fault : Word → List ℕ → Option Reason
+abbrev pub argument_fault : Word → List ℕ → Option LineFault
 argument_fault word.Exchange text = request_fault text
 argument_fault word.Header text = unless (is_header text) reason.BadHeader
 argument_fault word.Param text = unless (is_param text) reason.BadParam
@@ -50,7 +50,7 @@ argument_fault word.Plan text = unless (is_some (entries_of text)) reason.BadPla
 argument_fault _ text = None
 
 -- Why no line of this word may stand after these lines: the first test that applies.
-abbrev pub place_fault : List Line → Line → Option Reason
+abbrev pub place_fault : List Line → Line → Option LineFault
 place_fault before line =
     if has word.Skipped line then None
     else if has word.Unknown line then Some reason.UnknownLine
@@ -65,5 +65,5 @@ place_fault before line =
     else None
 
 -- Why a line is faulty, given the lines before it: its place is tested before its argument.
-abbrev pub fault_of : List Line → Line → Option Reason
+abbrev pub fault_of : List Line → Line → Option LineFault
 fault_of before line = option_or (place_fault before line) (argument_fault line.word line.argument)

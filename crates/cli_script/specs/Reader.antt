@@ -19,8 +19,8 @@ use Rattle.cli_script.specs.Peers.{line_peer}
 use Rattle.cli_script.specs.ScriptExchanges.{line_headers, line_layers, line_marks, line_params}
 use Rattle.cli_script.specs.ScriptExchanges.{exchange_of, line_entries}
 use Rattle.cli_script.specs.declared.layer.LayerSettings.{LayerSettings}
-use Rattle.cli_script.specs.declared.reason.Reason.{Reason}
-use Rattle.cli_script.specs.declared.reason.Reason.TheVariants as reason
+use Rattle.cli_script.specs.declared.reason.LineFault.{LineFault}
+use Rattle.cli_script.specs.declared.reason.LineFault.TheVariants as reason
 use Rattle.cli_script.specs.declared.line.Word.{Word}
 use Rattle.cli_script.specs.declared.line.Word.TheVariants as word
 
@@ -42,7 +42,7 @@ header_count (Some e) = value_count e.headers
 
 -- Why no line of this word may stand here: whether a plan came, whether an exchange is begun, and
 -- whether it has a fault and as many headers as it may have.
-abbrev pub word_fault : Bool → Bool → Bool → Bool → Word → Option Reason
+abbrev pub word_fault : Bool → Bool → Bool → Bool → Word → Option LineFault
 word_fault planned begun failed full word.Skipped = None
 word_fault planned begun failed full word.Unknown = Some reason.UnknownLine
 word_fault planned begun failed full word.Plan = None
@@ -79,13 +79,13 @@ word_fault planned begun failed full _ =
     else if failed then Some reason.MarkAfterFault
     else None
 
-abbrev pub reader_fault : ReaderView → Word → Option Reason
+abbrev pub reader_fault : ReaderView → Word → Option LineFault
 reader_fault s w =
     word_fault s.has_plan (is_some s.open_exchange) s.has_fault
     (nat_le max_headers (header_count s.open_exchange)) w
 
 -- why the reader refuses a line
-abbrev pub refusal : ReaderView → Line → Option Reason
+abbrev pub refusal : ReaderView → Line → Option LineFault
 refusal s line = option_or (reader_fault s line.word) (argument_fault line.word line.argument)
 
 -- an exchange without headers, parameters, layers, body and data
@@ -170,6 +170,6 @@ completed_by s word.Exchange = open_exchanges s.open_exchange
 completed_by s _ = []
 
 -- The line is valid and changes the reader, or it is refused.
-abbrev pub Reads : ReaderView → ReaderView → Line → Result Unit (Fail Reason) → Type 0
+abbrev pub Reads : ReaderView → ReaderView → Line → Result Unit (Fail LineFault) → Type 0
 Reads old new line result =
     Accepts result (refusal old line) (λ _. new ≡ after_line old line.word line.argument)

@@ -1,9 +1,9 @@
 -- The text of each reason.
 use Rattle.std.specs.Prelude.{ℕ, List, codes}
-use Rattle.cli_script.specs.declared.reason.Reason.{Reason}
-use Rattle.cli_script.specs.declared.reason.Reason.TheVariants as reason
+use Rattle.cli_script.specs.declared.reason.LineFault.{LineFault}
+use Rattle.cli_script.specs.declared.reason.LineFault.TheVariants as reason
 
-abbrev pub reason_text : Reason → List ℕ
+abbrev pub reason_text : LineFault → List ℕ
 reason_text reason.UnknownLine = codes "unknown line"
 reason_text reason.LineAfterPlan = codes "line after plan"
 reason_text reason.NoExchange = codes "no exchange"

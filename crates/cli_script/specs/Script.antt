@@ -8,7 +8,7 @@ use Rattle.cli_script.specs.ScriptedView.{ScriptedExchangeView}
 use Rattle.cli_script.specs.Line.{Line, line_of}
 use Rattle.cli_script.specs.LineFaults.{fault_of}
 use Rattle.cli_script.specs.ScriptExchanges.{exchanges, plan}
-use Rattle.cli_script.specs.declared.reason.Reason.{Reason}
+use Rattle.cli_script.specs.declared.reason.LineFault.{LineFault}
 use Rattle.cli_script.specs.declared.script.InvalidScript.{InvalidScript}
 
 -- Lines end at a newline, and one carriage return at a line's end is dropped.
@@ -17,7 +17,7 @@ script_lines bytes =
     map (λ text. line_of (strip_carriage_return text)) (slice_split is_newline bytes)
 
 -- this fault of the line with this number, or else the next one
-abbrev pub fault_or : Option Reason → ℕ → Option InvalidScript → Option InvalidScript
+abbrev pub fault_or : Option LineFault → ℕ → Option InvalidScript → Option InvalidScript
 fault_or (Some r) number next = Some (record { line = number; reason = r })
 fault_or None number next = next
 

@@ -10,7 +10,7 @@ use Rattle.cli_script.specs.Line.{Line}
 use Rattle.cli_script.specs.Reader.{ReaderView}
 use Rattle.cli_script.specs.ScriptedView.{ScriptedExchangeView}
 use Rattle.cli_script.specs.ScriptExchanges.{exchanges, plan}
-use Rattle.cli_script.specs.declared.reason.Reason.{Reason}
+use Rattle.cli_script.specs.declared.reason.LineFault.{LineFault}
 use Rattle.cli_script.specs.declared.script.InvalidScript.{InvalidScript}
 
 pub record IsWholeRead {S : Type 0} (holds : S → List ScriptedExchangeView → Type 0)
@@ -24,7 +24,7 @@ pub record IsWholeRead {S : Type 0} (holds : S → List ScriptedExchangeView →
   pub small : ForSome reader.open_exchange (λ e. length (piece_bytes e.marks) < 2 ^ 63)
 
 -- what reading the line with this number comes to
-abbrev pub with_line : ℕ → Result Unit (Fail Reason) → Result Unit (Fail InvalidScript)
+abbrev pub with_line : ℕ → Result Unit (Fail LineFault) → Result Unit (Fail InvalidScript)
 with_line number (Ok u) = Ok u
 with_line number (Err NoMemory) = Err NoMemory
 with_line number (Err (Of r)) = Err (Of (record { line = number; reason = r }))

@@ -7,10 +7,10 @@ ghost use Rattle.cli_script.specs.LineFaults.{unless};
 ghost use Rattle.cli_script.specs.Reader.{bare_exchange, new_exchange};
 ghost use Rattle.web_request.specs.Head.{uri_view};
 ghost use Rattle.cli_script.specs.Targets.{target_of};
-ghost use Rattle.cli_script.specs.declared.reason.Reason.TheVariants.{BadExchange};
+ghost use Rattle.cli_script.specs.declared.reason.LineFault.TheVariants.{BadExchange};
 
 use crate::layer::LayerSettings;
-use crate::reason::Reason;
+use crate::reason::LineFault;
 use bytes::Bytes;
 use http::Method;
 use http::method::MethodError;
@@ -70,25 +70,25 @@ fn has_space(text: &[u8]) -> bool
 }
 
 /// The method that is written so, if the text is a token.
-fn read_method(alloc: Global, text: &[u8]) -> Result<Method, Fail<Reason>>
+fn read_method(alloc: Global, text: &[u8]) -> Result<Method, Fail<LineFault>>
     ensures { Accepts result (unless (is_method text.now) BadExchange)
         (λ method. method ≡ text.now) }
 {
     match Method::from_bytes(alloc, text) {
         Ok(method) => Ok(method),
-        Err(MethodError::Invalid) => Err(Fail::Of(Reason::BadExchange)),
+        Err(MethodError::Invalid) => Err(Fail::Of(LineFault::BadExchange)),
         Err(MethodError::OutOfMemory) => Err(Fail::NoMemory),
     }
 }
 
 /// The target that is written so, if the text has the form of one. It is not copied.
-fn read_target(text: Bytes) -> Result<Uri, Fail<Reason>>
+fn read_target(text: Bytes) -> Result<Uri, Fail<LineFault>>
     ensures { Accepts result (target_fault (target_of text))
         (λ uri. target_of text ≡ Some (uri_view uri)) }
 {
     match Uri::from_shared(text) {
         Ok(uri) => Ok(uri),
-        Err(UriError::Invalid(_)) => Err(Fail::Of(Reason::BadExchange)),
+        Err(UriError::Invalid(_)) => Err(Fail::Of(LineFault::BadExchange)),
         Err(UriError::OutOfMemory) => Err(Fail::NoMemory),
     }
 }
@@ -102,15 +102,15 @@ pub struct RequestLine {
 
 /// The method and the target of the argument of an `exchange` line, with one space between. The
 /// target is what is left of the argument, which is not copied.
-pub fn read_request(alloc: Global, text: Bytes) -> Result<RequestLine, Fail<Reason>>
+pub fn read_request(alloc: Global, text: Bytes) -> Result<RequestLine, Fail<LineFault>>
     ensures { Accepts result (request_fault text)
         (λ line. bare_exchange line.method (uri_view line.uri) ≡ new_exchange text) }
 {
     let Some((method, target)) = split_once_at(text.as_slice(), b' ') else {
-        return Err(Fail::Of(Reason::BadExchange));
+        return Err(Fail::Of(LineFault::BadExchange));
     };
     if has_space(target) {
-        return Err(Fail::Of(Reason::BadExchange));
+        return Err(Fail::Of(LineFault::BadExchange));
     }
     let start = text.len() - target.len();
     let method = read_method(alloc, method)?;

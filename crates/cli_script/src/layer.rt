@@ -6,9 +6,9 @@ ghost use Rattle.cli_script.specs.LayerLines.{is_layer, layer_of, mime_of, no_se
 ghost use Rattle.cli_script.specs.LayerLines.{plain_setting, setting_of, valued_setting};
 ghost use Rattle.cli_script.specs.LayerLines.{with_setting, IsSet};
 ghost use Rattle.cli_script.specs.LineFaults.{unless};
-ghost use Rattle.cli_script.specs.declared.reason.Reason.TheVariants.{BadLayer};
+ghost use Rattle.cli_script.specs.declared.reason.LineFault.TheVariants.{BadLayer};
 
-use crate::reason::Reason;
+use crate::reason::LineFault;
 use std::alloc::Global;
 use std::str;
 use web_texts::{Fail, Mime, NoMemory, bytes_equal, number_of, split_once_at};
@@ -174,20 +174,20 @@ impl LayerSettings {
     }
 
     /// Reads one setting and sets it.
-    fn read(&mut self, alloc: Global, text: &[u8]) -> Result<(), Fail<Reason>>
+    fn read(&mut self, alloc: Global, text: &[u8]) -> Result<(), Fail<LineFault>>
         ensures { Accepts result (unless (is_some (setting_of text.now)) BadLayer)
             (λ _. IsSet self.old self.new (setting_of text.now)) }
     {
         match read_setting(alloc, text)? {
             Some(setting) => Ok(self.set(setting)),
-            None => Err(Fail::Of(Reason::BadLayer)),
+            None => Err(Fail::Of(LineFault::BadLayer)),
         }
     }
 }
 
 /// What the argument of a `layer` line sets: one or more settings with one space between. Of a
 /// setting that is repeated, the last counts.
-pub fn read_layer(alloc: Global, text: &[u8]) -> Result<LayerSettings, Fail<Reason>>
+pub fn read_layer(alloc: Global, text: &[u8]) -> Result<LayerSettings, Fail<LineFault>>
     ensures { Accepts result (unless (is_layer text.now) BadLayer)
         (λ layer. layer ≡ layer_of text.now) }
 {

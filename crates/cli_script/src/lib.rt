@@ -20,7 +20,7 @@ mod sink;
 pub use exchange::ScriptedExchange;
 pub use law::{first_fault_law, target_law};
 pub use layer::LayerSettings;
-pub use reason::Reason;
+pub use reason::LineFault;
 pub use script::{InvalidScript, Script, read_script, read_script_into};
 pub use segment::first_segment;
 pub use sink::ExchangeSink;

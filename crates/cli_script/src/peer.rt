@@ -5,21 +5,21 @@ ghost use Rattle.web_texts.specs.Bytes.{is_dot};
 ghost use Rattle.cli_script.specs.Acceptance.{Accepts};
 ghost use Rattle.cli_script.specs.LineFaults.{unless};
 ghost use Rattle.cli_script.specs.Peers.{line_peer, octet_of, octets_of, peer_of};
-ghost use Rattle.cli_script.specs.declared.reason.Reason.TheVariants.{BadPeer};
+ghost use Rattle.cli_script.specs.declared.reason.LineFault.TheVariants.{BadPeer};
 
-use crate::reason::Reason;
+use crate::reason::LineFault;
 use web_request::{IpAddr, SocketAddr};
 use web_texts::{Fail, number_of, split_once_at};
 
 /// The address of a `peer` line, whose argument is four numbers of at most 255 with dots between, a
 /// colon, and a port.
-pub(crate) fn read_peer(text: &[u8]) -> Result<SocketAddr, Fail<Reason>>
+pub(crate) fn read_peer(text: &[u8]) -> Result<SocketAddr, Fail<LineFault>>
     ensures { Accepts result (unless (is_some (peer_of text.now)) BadPeer)
         (λ peer. peer ≡ line_peer text.now) }
 {
     match peer_of(text) {
         Some(peer) => Ok(peer),
-        None => Err(Fail::Of(Reason::BadPeer)),
+        None => Err(Fail::Of(LineFault::BadPeer)),
     }
 }
 

@@ -7,9 +7,9 @@ ghost use Rattle.std.specs.Result.{is_ok, result_unwrap_or};
 ghost use Rattle.std.specs.Str.Lines.{strip_carriage_return};
 ghost use Rattle.hex.specs.Hex.{decode_of};
 ghost use Rattle.cli_script.specs.declared.line.Word.TheVariants.{Exchange, Header, Text};
-ghost use Rattle.cli_script.specs.declared.reason.Reason.TheVariants.{BadHeader, BadParam};
-ghost use Rattle.cli_script.specs.declared.reason.Reason.TheVariants.{BadLayer, BadNumber};
-ghost use Rattle.cli_script.specs.declared.reason.Reason.TheVariants.{BadPeer, BadPiece};
+ghost use Rattle.cli_script.specs.declared.reason.LineFault.TheVariants.{BadHeader, BadParam};
+ghost use Rattle.cli_script.specs.declared.reason.LineFault.TheVariants.{BadLayer, BadNumber};
+ghost use Rattle.cli_script.specs.declared.reason.LineFault.TheVariants.{BadPeer, BadPiece};
 
 use crate::entries::read_entries;
 use crate::exchange::{RequestLine, ScriptedExchange, read_request};
@@ -20,7 +20,7 @@ use crate::number::read_number;
 use crate::param::read_param;
 use crate::part::part_of;
 use crate::peer::read_peer;
-use crate::reason::Reason;
+use crate::reason::LineFault;
 use crate::sink::{ExchangeSink, add_open};
 use bytes::Bytes;
 use hex::FromHexError;
@@ -107,19 +107,19 @@ impl Reader {
     }
 
     /// Why no line of this word may stand here.
-    fn fault_of(&self, word: Word) -> Option<Reason>
+    fn fault_of(&self, word: Word) -> Option<LineFault>
         ensures { result ≡ reader_fault self.now word }
     {
         match word {
             Word::Skipped | Word::Plan => None,
-            Word::Unknown => Some(Reason::UnknownLine),
-            _ if self.has_plan => Some(Reason::LineAfterPlan),
+            Word::Unknown => Some(LineFault::UnknownLine),
+            _ if self.has_plan => Some(LineFault::LineAfterPlan),
             Word::Exchange => None,
-            _ if self.open_exchange.is_none() => Some(Reason::NoExchange),
+            _ if self.open_exchange.is_none() => Some(LineFault::NoExchange),
             Word::Text | Word::Piece | Word::Stall | Word::Fault if self.has_fault => {
-                Some(Reason::MarkAfterFault)
+                Some(LineFault::MarkAfterFault)
             }
-            Word::Header if self.is_full() => Some(Reason::TooManyHeaders),
+            Word::Header if self.is_full() => Some(LineFault::TooManyHeaders),
             _ => None,
         }
     }
@@ -151,7 +151,7 @@ impl Reader {
     }
 
     /// Adds the piece of these digits.
-    fn add_digits(&mut self, alloc: Global, digits: &[u8]) -> Result<(), Fail<Reason>>
+    fn add_digits(&mut self, alloc: Global, digits: &[u8]) -> Result<(), Fail<LineFault>>
         ensures { Accepts result (unless (is_ok (decode_of digits.now)) BadPiece)
             (λ _. self.new ≡ record self.old {
               open_exchange = option_map
@@ -162,11 +162,11 @@ impl Reader {
         match hex::decode(alloc, digits) {
             Ok(piece) => Ok(self.add_piece(Bytes::from_vec(piece)?)?),
             Err(FromHexError::OutOfMemory) => Err(Fail::NoMemory),
-            Err(_) => Err(Fail::Of(Reason::BadPiece)),
+            Err(_) => Err(Fail::Of(LineFault::BadPiece)),
         }
     }
 
-    fn add_header(&mut self, alloc: Global, text: Bytes) -> Result<(), Fail<Reason>>
+    fn add_header(&mut self, alloc: Global, text: Bytes) -> Result<(), Fail<LineFault>>
         ensures { Accepts result (unless (is_header text) BadHeader)
             (λ _. self.new ≡ record self.old {
               open_exchange = option_map
@@ -181,7 +181,7 @@ impl Reader {
         Ok(())
     }
 
-    fn add_layer(&mut self, alloc: Global, text: &[u8]) -> Result<(), Fail<Reason>>
+    fn add_layer(&mut self, alloc: Global, text: &[u8]) -> Result<(), Fail<LineFault>>
         ensures { Accepts result (unless (is_layer text.now) BadLayer)
             (λ _. self.new ≡ record self.old {
               open_exchange = option_map
@@ -196,7 +196,7 @@ impl Reader {
         Ok(())
     }
 
-    fn add_param(&mut self, alloc: Global, text: &[u8]) -> Result<(), Fail<Reason>>
+    fn add_param(&mut self, alloc: Global, text: &[u8]) -> Result<(), Fail<LineFault>>
         ensures { Accepts result (unless (is_param text.now) BadParam)
             (λ _. self.new ≡ record self.old {
               open_exchange = option_map
@@ -211,7 +211,7 @@ impl Reader {
         Ok(())
     }
 
-    fn set_peer(&mut self, text: &[u8]) -> Result<(), Fail<Reason>>
+    fn set_peer(&mut self, text: &[u8]) -> Result<(), Fail<LineFault>>
         ensures { Accepts result (unless (is_some (peer_of text.now)) BadPeer)
             (λ _. self.new ≡ record self.old {
               open_exchange = option_map
@@ -226,7 +226,7 @@ impl Reader {
         Ok(())
     }
 
-    fn set_local(&mut self, text: &[u8]) -> Result<(), Fail<Reason>>
+    fn set_local(&mut self, text: &[u8]) -> Result<(), Fail<LineFault>>
         ensures { Accepts result (unless (is_some (number_of text.now)) BadNumber)
             (λ _. self.new ≡ record self.old {
               open_exchange = option_map
@@ -241,7 +241,7 @@ impl Reader {
         Ok(())
     }
 
-    fn set_conn(&mut self, text: &[u8]) -> Result<(), Fail<Reason>>
+    fn set_conn(&mut self, text: &[u8]) -> Result<(), Fail<LineFault>>
         ensures { Accepts result (unless (is_some (number_of text.now)) BadNumber)
             (λ _. self.new ≡ record self.old {
               open_exchange = option_map
@@ -262,7 +262,7 @@ impl Reader {
         alloc: Global,
         head: Bytes,
         sink: &mut S,
-    ) -> Result<(), Fail<Reason>>
+    ) -> Result<(), Fail<LineFault>>
         requires body { ForSome self.old.open_exchange (λ e. is_body e.marks ≡ true) }
         requires small { ForSome self.old.open_exchange
             (λ e. length (piece_bytes e.marks) < 2 ^ 63) }
@@ -282,7 +282,7 @@ impl Reader {
     }
 
     /// Reads a line of another word than `text`, `exchange` and `header`.
-    fn add(&mut self, alloc: Global, word: Word, argument: &[u8]) -> Result<(), Fail<Reason>>
+    fn add(&mut self, alloc: Global, word: Word, argument: &[u8]) -> Result<(), Fail<LineFault>>
         requires no_text { word ≢ Text }
         requires no_exchange { word ≢ Exchange }
         requires no_header { word ≢ Header }
@@ -297,7 +297,7 @@ impl Reader {
             Word::Conn => return self.set_conn(argument),
             Word::Piece => return self.add_digits(alloc, argument),
             Word::Stall | Word::Fault if !argument.is_empty() => {
-                return Err(Fail::Of(Reason::BadMark));
+                return Err(Fail::Of(LineFault::BadMark));
             }
             Word::Stall => self.add_mark(Mark::Stall)?,
             Word::Fault => {
@@ -306,7 +306,7 @@ impl Reader {
             }
             Word::Plan => {
                 if !read_entries(&mut self.plan, argument)? {
-                    return Err(Fail::Of(Reason::BadPlan));
+                    return Err(Fail::Of(LineFault::BadPlan));
                 }
                 self.has_plan = true;
             }
@@ -323,7 +323,7 @@ impl Reader {
         word: Word,
         argument: Bytes,
         sink: &mut S,
-    ) -> Result<(), Fail<Reason>>
+    ) -> Result<(), Fail<LineFault>>
         requires word { (word ≡ Exchange) ⊎ ((word ≡ Header) ⊎ (word ≡ Text)) }
         requires body { ForSome self.old.open_exchange (λ e. is_body e.marks ≡ true) }
         requires small { ForSome self.old.open_exchange
@@ -350,7 +350,7 @@ impl Reader {
         script: &Bytes,
         size: usize,
         sink: &mut S,
-    ) -> Result<(), Fail<Reason>>
+    ) -> Result<(), Fail<LineFault>>
         requires size { size ≤ length script.now }
         requires body { ForSome self.old.open_exchange (λ e. is_body e.marks ≡ true) }
         requires small { ForSome self.old.open_exchange
@@ -372,7 +372,7 @@ impl Reader {
     // Long bodies come in many of these, so all that one goes through is inlined into the loop over
     // the lines: a line of one byte takes 128 instructions so, and 246 by calls.
     #[inline(always)]
-    fn read_text(&mut self, script: &Bytes, line: &[u8], text: &[u8]) -> Result<(), Fail<Reason>>
+    fn read_text(&mut self, script: &Bytes, line: &[u8], text: &[u8]) -> Result<(), Fail<LineFault>>
         requires line { line.now ≡ take (length line.now) script.now }
         requires end { text.now ≡ drop (length line.now - length text.now) line.now }
         requires short { length text.now ≤ length line.now }
@@ -393,7 +393,7 @@ impl Reader {
         script: &Bytes,
         line: &[u8],
         sink: &mut S,
-    ) -> Result<(), Fail<Reason>>
+    ) -> Result<(), Fail<LineFault>>
         requires line { line.now ≡ take (length line.now) script.now }
         requires body { ForSome self.old.open_exchange (λ e. is_body e.marks ≡ true) }
         requires small { ForSome self.old.open_exchange

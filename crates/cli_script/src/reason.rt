@@ -3,7 +3,7 @@ use std::fmt;
 
 /// Why a line of a script is faulty. The text of each is that of a refusal.
 #[derive(Clone, Copy, Debug, PartialEq, Eq)]
-pub enum Reason {
+pub enum LineFault {
     /// The word is none that a script has.
     UnknownLine,
     /// A line of another word than `plan` after a `plan` line.
@@ -34,7 +34,7 @@ pub enum Reason {
     BadPlan,
 }
 
-impl fmt::Display for Reason {
+impl fmt::Display for LineFault {
     ghost use Rattle.std.specs.Prelude.{Some};
     ghost use Rattle.cli_script.specs.ReasonTexts.{reason_text};
 
@@ -42,20 +42,20 @@ impl fmt::Display for Reason {
 
     fn fmt<W: fmt::Write>(&self, f: &mut fmt::Formatter<W>) -> fmt::Result {
         f.write_str(match self {
-            Reason::UnknownLine => "unknown line",
-            Reason::LineAfterPlan => "line after plan",
-            Reason::NoExchange => "no exchange",
-            Reason::MarkAfterFault => "mark after fault",
-            Reason::TooManyHeaders => "too many headers",
-            Reason::BadExchange => "bad exchange",
-            Reason::BadHeader => "bad header",
-            Reason::BadParam => "bad param",
-            Reason::BadLayer => "bad layer",
-            Reason::BadPiece => "bad piece",
-            Reason::BadPeer => "bad peer",
-            Reason::BadNumber => "bad number",
-            Reason::BadMark => "bad mark",
-            Reason::BadPlan => "bad plan",
+            LineFault::UnknownLine => "unknown line",
+            LineFault::LineAfterPlan => "line after plan",
+            LineFault::NoExchange => "no exchange",
+            LineFault::MarkAfterFault => "mark after fault",
+            LineFault::TooManyHeaders => "too many headers",
+            LineFault::BadExchange => "bad exchange",
+            LineFault::BadHeader => "bad header",
+            LineFault::BadParam => "bad param",
+            LineFault::BadLayer => "bad layer",
+            LineFault::BadPiece => "bad piece",
+            LineFault::BadPeer => "bad peer",
+            LineFault::BadNumber => "bad number",
+            LineFault::BadMark => "bad mark",
+            LineFault::BadPlan => "bad plan",
         })
     }
 }

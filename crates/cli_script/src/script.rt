@@ -13,7 +13,7 @@ ghost use Rattle.cli_script.specs.ScriptReading.{IsWholeRead, with_line};
 
 use crate::exchange::ScriptedExchange;
 use crate::reader::Reader;
-use crate::reason::Reason;
+use crate::reason::LineFault;
 use crate::sink::ExchangeSink;
 use bytes::Bytes;
 use memchr::memchr;
@@ -44,7 +44,7 @@ pub struct InvalidScript {
     /// The number of the line, from 1. Empty lines and comments are counted.
     pub line: u64,
     /// Why it is faulty: the first test that applies.
-    pub reason: Reason,
+    pub reason: LineFault,
 }
 
 /// Where the first line ends, if its newline is there.
@@ -59,7 +59,7 @@ fn line_end(text: &[u8]) -> Option<usize>
 }
 
 /// What reading the line with this number comes to.
-fn numbered(line: u64, read: Result<(), Fail<Reason>>) -> Result<(), Fail<InvalidScript>>
+fn numbered(line: u64, read: Result<(), Fail<LineFault>>) -> Result<(), Fail<InvalidScript>>
     ensures { result ≡ with_line line read }
 {
     match read {

@@ -1,9 +1,8 @@
 -- The request that a script describes, as the program's worker begins it.
 use Rattle.std.specs.Prelude.{ℕ, [], ◌∷◌, codes, map, option_map, false}
 use Rattle.http.specs.declared.version.TheConstants.Version.{HTTP_11}
-use Rattle.web_request.specs.declared.peers.address.IpAddr.TheVariants.{V4}
-use Rattle.web_request.specs.declared.config.AppConfig.{AppConfig}
 use Rattle.web_request.specs.Head.{Head}
+use Rattle.web_request.specs.LocalConfigs.{local_config}
 use Rattle.web_request.specs.Request.{Parts, Request}
 use Rattle.cli_script.specs.ScriptedView.{ScriptedExchangeView}
 use Rattle.demo_app.specs.declared.app.DemoLocal.{DemoLocal}
@@ -13,14 +12,6 @@ use Rattle.demo_app.specs.DemoLayers.{demo_layer, no_layer}
 
 abbrev pub DemoRequest : Type 0
 DemoRequest = Request DemoLayer DemoLocal DemoConn
-
--- `localhost:8080`, not secure, on 127.0.0.1:8080
-abbrev pub demo_config : AppConfig
-demo_config = record {
-  host = codes "localhost:8080";
-  secure = false;
-  local_addr = record { ip = V4 (127 ∷ 0 ∷ 0 ∷ 1 ∷ []); port = 8080 };
-}
 
 -- of this method and target, HTTP/1.1, with these headers, from this peer
 abbrev pub demo_head : ScriptedExchangeView → Head
@@ -58,5 +49,5 @@ demo_request e = record {
   layers = no_layer ∷ map demo_layer e.layers;
   conn = option_map conn_of e.conn;
   local = option_map local_of e.local;
-  config = demo_config;
+  config = local_config;
 }

@@ -13,9 +13,7 @@ use std::alloc::Global;
 use std::rc::Rc;
 use web_body::{Mark, Marks, Payload};
 use web_extract::Ready;
-use web_request::{
-    AppConfig, IpAddr, NoData, NoMemory, PlainApp, RequestHead, SocketAddr, Source, Text,
-};
+use web_request::{AppConfig, NoData, NoMemory, PlainApp, RequestHead, Source};
 use web_worker::{Exchange, FnHandler, Outcome, Worker, serve_all};
 
 /// An application without configuration or data of its own, whose bodies are in memory.
@@ -25,14 +23,7 @@ pub type Site = PlainApp<Marks>;
 fn new_worker(alloc: Global) -> Result<Worker<Site>, NoMemory>
     ensures { IfOk result (λ worker. worker.made ≡ 0) }
 {
-    let config = AppConfig {
-        host: Text::of(alloc, "localhost:8080")?,
-        secure: false,
-        local_addr: SocketAddr {
-            ip: IpAddr::V4([127, 0, 0, 1]),
-            port: 8080,
-        },
-    };
+    let config = AppConfig::local(alloc)?;
     let root = Rc::new(alloc, NoData)?;
     Worker::new(alloc, root, config, 0)
 }

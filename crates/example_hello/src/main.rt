@@ -4,18 +4,14 @@
 ghost use Rattle.std.specs.Prelude.{◌≡◌, IfOk};
 
 use anyhow::Result;
-use bytes::Bytes;
-use http::{Method, Version};
-use http_header::HeaderMap;
-use http_uri::Uri;
 use std::alloc::Global;
 use std::rc::Rc;
 use std::str;
-use web_body::{Marks, Payload};
-use web_extract::Ready;
-use web_reply::{BoxBody, HttpResponse};
-use web_request::{AppConfig, IpAddr, NoData, NoMemory, PlainApp, RequestHead, SocketAddr, Text};
-use web_worker::{Exchange, FnHandler, Outcome, Worker, serve_all};
+use web::header::HeaderMap;
+use web::{
+    AppConfig, BoxBody, Bytes, Exchange, FnHandler, HttpResponse, Marks, Method, NoData, NoMemory,
+    Outcome, Payload, PlainApp, Ready, RequestHead, Uri, Version, Worker, serve_all,
+};
 
 /// An application without configuration or data of its own, whose bodies are in memory.
 type Site = PlainApp<Marks>;
@@ -24,12 +20,7 @@ type Site = PlainApp<Marks>;
 fn new_worker(alloc: Global) -> Result<Worker<Site>, NoMemory>
     ensures { IfOk result (λ worker. worker.made ≡ 0) }
 {
-    let ip = IpAddr::V4([127, 0, 0, 1]);
-    let config = AppConfig {
-        host: Text::of(alloc, "localhost:8080")?,
-        secure: false,
-        local_addr: SocketAddr { ip, port: 8080 },
-    };
+    let config = AppConfig::local(alloc)?;
     Worker::new(alloc, Rc::new(alloc, NoData)?, config, 1)
 }
 

@@ -12,10 +12,6 @@ use web_request::{App, AppLayer, NoData, NoMemory, RequestHead, Text};
 pub struct Unprocessable;
 
 impl Refuse<JsonPayloadError> for Unprocessable {
-    ghost use Rattle.std.specs.Prelude.{⊤};
-
-    ghost refuses = { λ h e head x. ⊤ };
-
     fn refuse(
         &self,
         alloc: Global,

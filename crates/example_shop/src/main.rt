@@ -27,7 +27,7 @@ use std::str;
 use web_body::{Mark, Marks, Payload};
 use web_extract::Ready;
 use web_reply::BoxBody;
-use web_request::{AppConfig, IpAddr, NoMemory, RequestHead, SocketAddr, Text};
+use web_request::{AppConfig, NoMemory, RequestHead};
 use web_worker::{Exchange, FnHandler, Outcome, Worker, serve_all};
 
 /// The most bytes of an item.
@@ -37,12 +37,7 @@ const LIMIT: usize = 200;
 fn new_worker(alloc: Global) -> Result<Worker<Shop>, NoMemory>
     ensures { IfOk result (λ worker. worker.made ≡ 0) }
 {
-    let ip = IpAddr::V4([127, 0, 0, 1]);
-    let config = AppConfig {
-        host: Text::of(alloc, "localhost:8080")?,
-        secure: false,
-        local_addr: SocketAddr { ip, port: 8080 },
-    };
+    let config = AppConfig::local(alloc)?;
     Worker::new(alloc, Rc::new(alloc, ShopLayer::new(LIMIT))?, config, 1)
 }
 

@@ -9,10 +9,13 @@ use web_entities::EntityTag;
 use web_request::HttpRequest;
 use web_texts::{Fail, Mime, NoMemory, Text};
 
-/// When the document was last changed, in seconds since 1970.
+/// When the documents were last changed, in seconds since 1970.
 const LAST_CHANGE: u64 = 1_700_000_000;
 
 const GUIDE: &[u8] = b"0123456789\nThis is a document: ask for a part of it.\n";
+
+const ICON: &[u8] = b"<svg xmlns=\"http://www.w3.org/2000/svg\" viewBox=\"0 0 8 8\">\
+    <circle cx=\"4\" cy=\"4\" r=\"3\" fill=\"teal\"/></svg>\n";
 
 /// A media type that is known to be one.
 pub fn media_type(alloc: Global, text: &str) -> Result<Mime> {
@@ -23,23 +26,32 @@ pub fn media_type(alloc: Global, text: &str) -> Result<Mime> {
     }
 }
 
-/// The one document.
-fn guide(alloc: Global) -> Result<Document> {
+/// A document of this path, media type and content.
+fn document(alloc: Global, path: &str, kind: &str, body: &'static [u8]) -> Result<Document> {
     let Ok(modified) = HttpDate::from_unix_secs(LAST_CHANGE) else {
         bail!("no date");
     };
     Ok(Document {
-        path: Text::of(alloc, "/files/guide.txt")?,
-        media_type: media_type(alloc, "text/plain")?,
+        path: Text::of(alloc, path)?,
+        media_type: media_type(alloc, kind)?,
         tag: EntityTag::new_strong(Text::of(alloc, "v1")?),
         modified,
-        body: Bytes::from_static(GUIDE),
+        body: Bytes::from_static(body),
     })
 }
 
 /// The documents of the site.
 pub fn new_store(alloc: Global) -> Result<Store> {
-    match Store::new(alloc, vec![in alloc; guide(alloc)?]?) {
+    let documents = vec![in alloc;
+        document(
+            alloc,
+            "/files/guide.txt",
+            "text/plain; charset=utf-8",
+            GUIDE
+        )?,
+        document(alloc, "/files/icon.svg", "image/svg+xml", ICON)?,
+    ]?;
+    match Store::new(alloc, documents) {
         Ok(store) => Ok(store),
         Err(Fail::NoMemory) => Err(NoMemory.into()),
         Err(Fail::Of(fault)) => Err(fault.into()),

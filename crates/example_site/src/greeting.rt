@@ -7,7 +7,7 @@ use std::alloc::Global;
 use web_headers::Encoding;
 use web_request::HttpRequest;
 use web_texts::{Fail, LanguageTag, NoMemory};
-use web_variants::{Variant, Variants, answer_variant};
+use web_variants::{Page, Variant, Variants, answer_page};
 
 /// The page in a language.
 fn variant(alloc: Global, language: &str, body: &'static [u8]) -> Result<Variant> {
@@ -24,13 +24,13 @@ fn variant(alloc: Global, language: &str, body: &'static [u8]) -> Result<Variant
     })
 }
 
-/// The page in English, which comes where the client says nothing, and in German.
-pub fn new_greetings(alloc: Global) -> Result<Variants> {
+/// The page in English, which comes where the client says nothing or reads neither, and in German.
+pub fn new_greetings(alloc: Global) -> Result<Page> {
     let mut variants = Vec::new(alloc);
     variants.push(variant(alloc, "en", b"<p lang=en>Good morning</p>\n")?)?;
     variants.push(variant(alloc, "de", b"<p lang=de>Guten Morgen</p>\n")?)?;
     match Variants::new(alloc, variants) {
-        Ok(variants) => Ok(variants),
+        Ok(variants) => Ok(Page::with_fallback(variants, 0)?),
         Err(Fail::NoMemory) => Err(NoMemory.into()),
         Err(Fail::Of(fault)) => Err(fault.into()),
     }
@@ -39,8 +39,8 @@ pub fn new_greetings(alloc: Global) -> Result<Variants> {
 /// Responds with the page in the language that the client would rather read.
 pub fn answer_greeting(
     alloc: Global,
-    greetings: &Variants,
+    greetings: &Page,
     request: &HttpRequest<Plain>,
 ) -> Result<Reply, NoMemory> {
-    answer_variant(alloc, greetings, request)?.map_into_boxed_body(alloc)
+    answer_page(alloc, greetings, request)?.map_into_boxed_body(alloc)
 }

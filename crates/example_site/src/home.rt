@@ -1,9 +1,11 @@
-//! `GET /`: the page with the form, and the bookings of this connection.
-use crate::bookings::{Booking, Posted, Refused, form};
-use crate::reply::{Reply, page};
+//! `GET /`: the page with the form.
+use crate::bookings::{Refused, write_form};
+use crate::page::Page;
+use crate::posted::Posted;
+use crate::reply::Reply;
 use http::StatusCode;
 use std::alloc::Global;
-use web_texts::NoMemory;
+use web_texts::{NoMemory, Text};
 
 /// What stands below the form.
 const BELOW: &str = "<h2>Upload</h2>\n\
@@ -15,15 +17,13 @@ const BELOW: &str = "<h2>Upload</h2>\n\
     <a href=\"/old\">the old page</a></p>\n";
 
 /// The page with an empty form.
-pub fn home(alloc: Global, bookings: &[Booking]) -> Result<Reply, NoMemory> {
+pub fn home(alloc: Global) -> Result<Reply, NoMemory> {
     let posted = Posted {
-        name: String::new(alloc),
-        seats: String::new(alloc),
+        name: Text::of(alloc, "")?,
+        seats: Text::of(alloc, "")?,
     };
-    let form = form(alloc, &posted, Refused::default(), bookings)?;
-    page(
-        alloc,
-        StatusCode::OK,
-        format!(in alloc; "{form}{BELOW}")?.as_str(),
-    )
+    let mut page = Page::new(alloc, "Bookings")?;
+    write_form(&mut page, &posted, Refused::default())?;
+    page.push(BELOW)?;
+    page.reply(alloc, StatusCode::OK)
 }

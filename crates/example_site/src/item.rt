@@ -1,76 +1,81 @@
-//! `GET /items/{id}` and `POST /items`: an item as JSON.
-use crate::extracted::extracted;
-use crate::missing::no_such_page;
-use crate::reply::{Answer, Plain, Reply};
-use http::StatusCode;
-use serde::{Deserialize, Serialize};
-use serde_json::Value;
+//! `Item`, as `types.txt` lists it. Written by tools/new-type.
+
+use serde_json::{Value, json};
 use std::alloc::Global;
-use web_body::{Marks, Payload};
-use web_build::prelude::*;
-use web_codec::{ReadFault, ReadJson, WriteFault, WriteJson};
-use web_extract_body::Json;
-use web_reply::HttpResponse;
-use web_request::HttpRequest;
-use web_texts::{Fail, NoMemory, read_digits};
+use web_codec::{
+    ReadData, ReadFault, ReadPairs, WriteData, WriteFault, WriteField, WritePairs, all_fields,
+    member_or, object, required, required_field,
+};
+use web_texts::{Fail, Items, NoMemory, Pair, Text};
 
 /// An item: a number, a name, and tags that may be left out.
-#[derive(Debug, Drop, Serialize, Deserialize)]
+#[derive(Debug, Drop)]
 pub struct Item {
+    /// The member `id`.
     pub id: u64,
-    pub name: String,
-    #[serde(default)]
-    pub tags: Vec<String>,
+    /// The member `name`.
+    pub name: Text,
+    /// The member `tags`.
+    pub tags: Items<Text>,
 }
 
-impl ReadJson for Item {
-    ghost use Rattle.std.specs.Prelude.{⊤};
+impl ReadData for Item {
+    ghost use Rattle.example_site.specs.Item.{item_of};
 
-    ghost reads = { λ d x. ⊤ };
+    ghost read = { item_of };
 
-    fn read_json(alloc: Global, value: &Value) -> Result<Item, Fail<ReadFault>> {
-        match serde_json::from_value(alloc, value.clone()?) {
-            Ok(item) => Ok(item),
-            Err(error) if error.is_memory() => Err(Fail::NoMemory),
-            Err(error) => Err(ReadFault::refusal(alloc, format!(in alloc; "{error}")?.as_str())),
-        }
+    fn read_data(alloc: Global, value: &Value) -> Result<Item, Fail<ReadFault>> {
+        object(alloc, value)?;
+        Ok(Item {
+            id: required(alloc, value, "id")?,
+            name: required(alloc, value, "name")?,
+            tags: member_or(alloc, value, "tags", Items::of(Vec::new(alloc)))?,
+        })
     }
 }
 
-impl WriteJson for Item {
-    ghost use Rattle.std.specs.Prelude.{⊤};
+impl WriteData for Item {
+    ghost use Rattle.example_site.specs.Item.{data_of_item, item_no_float};
 
-    ghost writes = { λ x y. ⊤ };
+    ghost written = { data_of_item };
 
-    fn write_json(&self, alloc: Global) -> Result<Value, Fail<WriteFault>> {
-        match serde_json::to_value(alloc, self) {
-            Ok(value) => Ok(value),
-            Err(error) if error.is_memory() => Err(Fail::NoMemory),
-            Err(error) => Err(WriteFault::refusal(alloc, format!(in alloc; "{error}")?.as_str())),
-        }
+    ghost no_float = { item_no_float };
+
+    fn write_data(&self, alloc: Global) -> Result<Value, NoMemory> {
+        Ok(json!(in alloc; {
+            "id": self.id.write_data(alloc)?,
+            "name": self.name.write_data(alloc)?,
+            "tags": self.tags.write_data(alloc)?,
+        })?)
     }
 }
 
-/// A response of an item.
-fn written(alloc: Global, status: StatusCode, item: &Item) -> Result<Reply, NoMemory> {
-    HttpResponse::build(alloc, status).json(item)
-}
+impl ReadPairs for Item {
+    ghost use Rattle.std.specs.Prelude.{◌≡◌};
+    ghost use Rattle.example_site.specs.Item.{item_of_pairs};
 
-/// The item of a number. Where `id` is none, there is no such page.
-pub fn show_item(alloc: Global, id: &str) -> Result<Reply, NoMemory> {
-    match read_digits(id, u64::MAX) {
-        Some(id) => {
-            let name = format!(in alloc; "item {id}")?;
-            let tags = Vec::new(alloc);
-            written(alloc, StatusCode::OK, &Item { id, name, tags })
-        }
-        None => no_such_page(alloc),
+    ghost reads_pairs = { λ pairs x. x ≡ item_of_pairs pairs };
+
+    fn read_pairs(alloc: Global, pairs: &[Pair]) -> Result<Item, Fail<ReadFault>> {
+        Ok(Item {
+            id: required_field(alloc, pairs, "id")?,
+            name: required_field(alloc, pairs, "name")?,
+            tags: all_fields(alloc, pairs, "tags")?,
+        })
     }
 }
 
-/// Takes an item, and responds with what was read of it. It is not kept.
-pub fn take_item(alloc: Global, request: &HttpRequest<Plain>, payload: Payload<Marks>) -> Answer {
-    let mut payload = payload;
-    let Json(item) = extracted::<Json<Item>>(alloc, request, &mut payload)?;
-    Ok(written(alloc, StatusCode::CREATED, &item)?)
+impl WritePairs for Item {
+    ghost use Rattle.std.specs.Prelude.{◌≡◌, Ok};
+    ghost use Rattle.example_site.specs.Item.{pairs_of_item};
+
+    ghost writes_pairs = { λ x y. y ≡ Ok (pairs_of_item x) };
+
+    fn write_pairs(&self, alloc: Global) -> Result<Vec<Pair>, Fail<WriteFault>> {
+        let mut pairs = Vec::new(alloc);
+        self.id.write_field(alloc, "id", &mut pairs)?;
+        self.name.write_field(alloc, "name", &mut pairs)?;
+        self.tags.write_field(alloc, "tags", &mut pairs)?;
+        Ok(pairs)
+    }
 }

@@ -1,18 +1,22 @@
 //! A site that a browser can use, behind a program that opens the socket: it reads the bytes of one
 //! connection from standard input, and writes the replies to standard output.
 //!
-//! What it keeps, it keeps for one connection: each has a program of its own.
+//! It keeps nothing from one request to the next, since behind a front that pools connections those
+//! of several clients come over one.
 #![tactic(auto)]
 
+mod booking;
 mod bookings;
-mod escaping;
 mod extracted;
 mod files;
 mod greeting;
 mod home;
 mod item;
+mod items;
 mod missing;
 mod moved;
+mod page;
+mod posted;
 mod reply;
 mod routes;
 mod serving;

@@ -1,8 +1,11 @@
 //! Replies of the site.
-use http::StatusCode;
+use crate::missing::error_page;
+use http_header::{
+    CACHE_CONTROL, CONTENT_SECURITY_POLICY, CONTENT_TYPE, HeaderName, HeaderValue,
+    X_CONTENT_TYPE_OPTIONS,
+};
 use std::alloc::Global;
 use web_body::Marks;
-use web_build::prelude::*;
 use web_reply::{BoxBody, Error, HttpResponse};
 use web_request::PlainApp;
 use web_texts::{Fail, NoMemory};
@@ -16,24 +19,47 @@ pub type Reply = HttpResponse<BoxBody<Marks>>;
 /// What a handler of the site returns: a response, or an error that becomes one.
 pub type Answer = Result<Reply, Fail<Error>>;
 
-/// What stands before the content of each page.
-const FRONT: &str = "<!doctype html>\n<html lang=\"en\">\n<meta charset=\"utf-8\">\n\
-    <title>Bookings</title>\n";
-
-/// A page with this content, which is HTML.
-pub fn page(alloc: Global, status: StatusCode, content: &str) -> Result<Reply, NoMemory> {
-    let mut builder = HttpResponse::build(alloc, status);
-    builder.content_type("text/html; charset=utf-8")?;
-    builder
-        .take()
-        .body(format!(in alloc; "{FRONT}{content}</html>\n")?)
-}
-
-/// The response of an answer.
+/// The response of an answer. An error becomes a page.
 pub fn replied(alloc: Global, answer: Answer) -> Result<Reply, NoMemory> {
     match answer {
         Ok(reply) => Ok(reply),
-        Err(Fail::Of(error)) => HttpResponse::from_error(alloc, error)?.map_into_boxed_body(alloc),
+        Err(Fail::Of(error)) => error_page(alloc, error),
         Err(Fail::NoMemory) => Err(NoMemory),
     }
+}
+
+/// A page shows what the site sends and nothing else, and stands in no frame of another site.
+const POLICY: &str = "default-src 'none'; img-src 'self'; form-action 'self'; base-uri 'none'; \
+    frame-ancestors 'none'";
+
+fn is_page(reply: &Reply) -> bool {
+    match reply.headers().get(CONTENT_TYPE) {
+        Some(value) => value.as_bytes().starts_with(b"text/html"),
+        None => false,
+    }
+}
+
+fn insert(reply: &mut Reply, name: HeaderName, value: HeaderValue) -> Result<(), NoMemory> {
+    match reply.headers_mut().insert(name, value) {
+        Ok(_) => Ok(()),
+        Err(_) => Err(NoMemory),
+    }
+}
+
+/// The reply with the headers that each one has, and those that each page has. A client asks again
+/// before it shows what it kept.
+pub fn with_headers(reply: Reply) -> Result<Reply, NoMemory> {
+    let mut reply = reply;
+    let asked_again = HeaderValue::from_static("no-cache");
+    insert(&mut reply, CACHE_CONTROL, asked_again)?;
+    let as_said = HeaderValue::from_static("nosniff");
+    insert(&mut reply, X_CONTENT_TYPE_OPTIONS, as_said)?;
+    if is_page(&reply) {
+        insert(
+            &mut reply,
+            CONTENT_SECURITY_POLICY,
+            HeaderValue::from_static(POLICY),
+        )?;
+    }
+    Ok(reply)
 }

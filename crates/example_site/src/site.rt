@@ -1,16 +1,18 @@
 //! The handler of the site, which hands each request to that of its route.
-use crate::bookings::{Booking, take_booking};
+use crate::bookings::{show_booking, take_booking};
 use crate::files::{answer_file, new_store};
 use crate::greeting::{answer_greeting, new_greetings};
 use crate::home::home;
-use crate::item::{show_item, take_item};
-use crate::missing::{no_such_method, no_such_page};
+use crate::items::{show_item, take_item};
+use crate::missing::{no_such_method, no_such_page, options};
 use crate::moved::moved;
-use crate::reply::{Answer, Plain, Reply, replied};
+use crate::reply::{Answer, Plain, Reply, replied, with_headers};
 use crate::routes::{Found, Route, find, routes};
 use crate::upload::list_parts;
 use crate::visits::count_visit;
 use anyhow::Result;
+use http::Method;
+use http_header::HeaderValue;
 use matchit::Router;
 use std::alloc::Global;
 use web_body::{Marks, Payload};
@@ -18,17 +20,15 @@ use web_docs::Store;
 use web_extract::Ready;
 use web_request::HttpRequest;
 use web_texts::NoMemory;
-use web_variants::Variants;
+use web_variants::Page;
 use web_worker::Handler;
 
-/// The site, as one connection sees it.
+/// The site. It keeps nothing from one request to the next.
 #[derive(Drop)]
 pub struct Site {
     router: Router<Route>,
     files: Store,
-    greetings: Variants,
-    /// The bookings of this connection. They end with it.
-    bookings: Vec<Booking>,
+    greetings: Page,
 }
 
 impl Site {
@@ -38,26 +38,29 @@ impl Site {
             router: routes(alloc)?,
             files: new_store(alloc)?,
             greetings: new_greetings(alloc)?,
-            bookings: Vec::new(alloc),
         })
     }
 
     /// The answer of the handler of a route.
     fn answer_route(
-        &mut self,
+        &self,
         alloc: Global,
         found: &Found,
         request: HttpRequest<Plain>,
         payload: Payload<Marks>,
     ) -> Answer {
+        if *request.method() == Method::OPTIONS {
+            return Ok(options(alloc, found.route.allowed())?);
+        }
         if !found.route.takes(request.method()) {
             return Ok(no_such_method(alloc, found.route)?);
         }
         match found.route {
-            Route::Home => Ok(home(alloc, &self.bookings)?),
-            Route::Bookings => take_booking(alloc, &mut self.bookings, &request, payload),
+            Route::Home => Ok(home(alloc)?),
+            Route::Bookings => take_booking(alloc, &request, payload),
+            Route::Booked => show_booking(alloc, &request),
             Route::Upload => list_parts(alloc, &request, payload),
-            Route::Items => take_item(alloc, &request, payload),
+            Route::Items => Ok(take_item(alloc, &request, payload)?),
             Route::Item => Ok(show_item(alloc, found.id.as_str())?),
             Route::Files => Ok(answer_file(alloc, &self.files, &request)?),
             Route::Greeting => Ok(answer_greeting(alloc, &self.greetings, &request)?),
@@ -66,13 +69,16 @@ impl Site {
         }
     }
 
-    /// The response to a request.
-    fn reply(
-        &mut self,
+    /// The response to a request, without the headers that each one has.
+    fn bare_reply(
+        &self,
         alloc: Global,
         request: HttpRequest<Plain>,
         payload: Payload<Marks>,
     ) -> Result<Reply, NoMemory> {
+        if *request.method() == Method::OPTIONS && request.path() == "*" {
+            return options(alloc, HeaderValue::from_static("GET, HEAD, POST, OPTIONS"));
+        }
         match find(alloc, &self.router, request.path())? {
             Some(found) => replied(alloc, self.answer_route(alloc, &found, request, payload)),
             None => no_such_page(alloc),
@@ -91,6 +97,7 @@ impl Handler<(HttpRequest<Plain>, Payload<Marks>)> for Site {
         args: (HttpRequest<Plain>, Payload<Marks>),
     ) -> Result<Ready<Reply>, NoMemory> {
         let (request, payload) = args;
-        Ok(Ready::new(self.reply(alloc, request, payload)?))
+        let reply = self.bare_reply(alloc, request, payload)?;
+        Ok(Ready::new(with_headers(reply)?))
     }
 }

@@ -20,7 +20,7 @@ use web_extract::{
 use web_extract_body::{either_law, form_law, json_law};
 use web_extract_head::{date_header_law, header_law, path_law, query_law};
 use web_headers::ContentLength;
-use web_http1::{answers_law, pieces_law};
+use web_http1::{answers_law, calls_law, pieces_law};
 use web_multipart::multipart_law;
 use web_request::{NoData, NoMemory, PlainApp};
 use web_worker::{Handler, distinct_serials_law, isolation_law};
@@ -120,6 +120,7 @@ fn laws_of_serving() {
     distinct_serials_law::<Site>();
     answers_law::<Site, Arguments, Echo>();
     pieces_law::<Site, Arguments, Echo>();
+    calls_law::<Site, Arguments, Echo>();
 }
 
 #[test]

@@ -9,14 +9,14 @@ use Rattle.web_texts.specs.Blanks.{is_blank, without_front}
 use Rattle.web_texts.specs.QuotedText.{is_closed}
 use Rattle.web_entities.specs.CutPlaces.{CutsBehind, HasClosingQuote, IsNoOpenQuote, IsWholeParameter}
 use Rattle.web_entities.specs.DispositionPlaces.{ends_parameter, in_parameters, next_place}
-use Rattle.web_entities.specs.declared.disposition_places.Place.{Place}
-use Rattle.web_entities.specs.declared.disposition_places.Place.TheVariants as place
+use Rattle.web_entities.specs.declared.disposition_places.ParameterState.{ParameterState}
+use Rattle.web_entities.specs.declared.disposition_places.ParameterState.TheVariants as place
 use Rattle.web_entities.proofs.CutPlaceLemmas.{cuts_behind, other_byte}
 use Rattle.web_entities.proofs.QuotedPlaceLemmas.{closed_at, closed_kept, closed_more, through}
 use Rattle.web_texts.proofs.TestLemmas.{same_byte}
 
 -- it cuts in this mode exactly where this holds
-record Cuts (p : Place) (holds : Type 0) : Type 0 where
+record Cuts (p : ParameterState) (holds : Type 0) : Type 0 where
   yes : ends_parameter p ≡ true → holds
   no : ends_parameter p ≡ false → holds → ⊥
 
@@ -26,7 +26,7 @@ stays : (text : List ℕ) → fold next_place place.Value text ≡ place.Value
 stays [] = refl
 stays (b ∷ rest) = stays rest
 
-always : (p : Place) (holds : Type 0) → p ≡ place.Value → holds → Cuts p holds
+always : (p : ParameterState) (holds : Type 0) → p ≡ place.Value → holds → Cuts p holds
 always p holds is h = rw is (record { yes = λ e. h; no = λ e k. false≢true (sym e) })
 
 not_quote : (b : ℕ) → (b == 92) ≡ true → (b == 34) ≡ false
@@ -37,7 +37,7 @@ closed_through =
     through next_place place.Quoted place.Escaped place.Value
     (λ b is. rw is refl) (λ b is. rw (not_quote b is, is) refl) (λ b no_quote no_back. rw (no_quote, no_back) refl) (λ b. refl)
 
-abbrev Closes : Place → List ℕ → Type 0
+abbrev Closes : ParameterState → List ℕ → Type 0
 Closes place.Quoted text = HasClosingQuote text
 Closes place.Escaped text = (b : ℕ) × (rest : List ℕ) × (text ≡ b ∷ rest) × HasClosingQuote rest
 Closes place.Name text = Unit {0}
@@ -53,7 +53,7 @@ inside_more : (b : ℕ) (rest : List ℕ) → (b == 34) ≡ false → (b == 92) 
 inside_more b rest no_quote no_back (inner, more, is, closed) =
     (b ∷ inner, more, ap (λ (t : List ℕ). b ∷ t) is, closed_more b inner no_quote no_back closed)
 
-closes : (p : Place) (text : List ℕ) → ends_parameter (fold next_place p text) ≡ true → Closes p text
+closes : (p : ParameterState) (text : List ℕ) → ends_parameter (fold next_place p text) ≡ true → Closes p text
 closes place.Name text h = tt
 closes place.Starred text h = tt
 closes place.Lead text h = tt
@@ -103,7 +103,7 @@ lead (b ∷ rest) = by (b == 34) refl (is_blank b) refl (lead rest)
 abbrev starred : List ℕ → Bool
 starred back = slice_index (without_front back) 0 == 42
 
-abbrev in_name : Bool → Place
+abbrev in_name : Bool → ParameterState
 in_name true = place.Starred
 in_name false = place.Name
 
@@ -165,7 +165,7 @@ later_equals b rest is =
     let k : suc n + 1 ≡ suc (n + 1) = omega arith in
     rw (is, e, k) (refl, refl, refl)
 
-turn : (p q : Place) (holds same : Type 0) → p ≡ q → (same → holds) → (holds → same) → Cuts q same → Cuts p holds
+turn : (p q : ParameterState) (holds same : Type 0) → p ≡ q → (same → holds) → (holds → same) → Cuts q same → Cuts p holds
 turn p q holds same is to from it = rw is (record { yes = λ e. to (it.yes e); no = λ e h. it.no e (from h) })
 
 name_says : (back front : List ℕ) → Cuts (fold next_place (in_name (starred back)) front) (Whole back front)
@@ -182,7 +182,7 @@ name_says back (b ∷ rest) = by (b == 61) refl (name_says (b ∷ back) rest)
         let at = first_equals b rest is in
         turn (fold next_place (next_place (in_name (starred back)) b) rest) (fold next_place (cond (starred back) place.Value place.Lead) rest)
         (Whole back (b ∷ rest)) ((starred back ≡ true) ⊎ IsNoOpenQuote (without_front rest))
-        (ap (λ (p : Place). fold next_place p rest) (equals_next b (starred back) is))
+        (ap (λ (p : ParameterState). fold next_place p rest) (equals_next b (starred back) is))
         (λ h. (at.0, rw (at.1, at.2) h)) (λ h. rw (at.1, at.2) at h.1) (at_equals back rest (starred back) refl)
     by false is more =
         let later = later_equals b rest is in
@@ -190,7 +190,7 @@ name_says back (b ∷ rest) = by (b == 61) refl (name_says (b ∷ back) rest)
         ap (λ (r : List ℕ). r ++ back) (reverse-append (b ∷ []) (before_first is_equals rest)) ∙ append_assoc (reverse (before_first is_equals rest)) (b ∷ []) back in
         turn (fold next_place (next_place (in_name (starred back)) b) rest) (fold next_place (in_name (starred (b ∷ back))) rest)
         (Whole back (b ∷ rest)) (Whole (b ∷ back) rest)
-        (ap (λ (p : Place). fold next_place p rest) (next_in_name b back is))
+        (ap (λ (p : ParameterState). fold next_place p rest) (next_in_name b back is))
         (λ h. rw (later.0, later.1, later.2, name) h) (λ h. rw (later.0, later.1, later.2, name) at h) more
 
 no_back : (front : List ℕ) → reverse (before_first is_equals front) ++ [] ≡ reverse (before_first is_equals front)

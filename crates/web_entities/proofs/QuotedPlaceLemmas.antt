@@ -5,8 +5,8 @@ use Rattle.std.specs.List.{concat, fold, list_all}
 use Rattle.web_texts.specs.ParameterPlaces.{is_outside, place_behind, semicolons}
 use Rattle.web_texts.specs.PieceItems.{is_empty}
 use Rattle.web_texts.specs.QuotedText.{is_closed}
-use Rattle.web_texts.specs.declared.grammar.parameters.Place.{Place}
-use Rattle.web_texts.specs.declared.grammar.parameters.Place.TheVariants.{Outside, Quoted, Escaped}
+use Rattle.web_texts.specs.declared.grammar.parameters.Quoting.{Quoting}
+use Rattle.web_texts.specs.declared.grammar.parameters.Quoting.TheVariants.{Outside, Quoted, Escaped}
 use Rattle.web_entities.specs.CutPlaces.{CutsBehind, IsOutsideQuotes, is_part}
 use Rattle.web_entities.proofs.CutPlaceLemmas.{cuts_behind}
 use Rattle.web_texts.proofs.TestLemmas.{same_byte}
@@ -79,7 +79,7 @@ closed_through = through place_behind Quoted Escaped Outside outside_ends outsid
 abbrev ClosesInto : List ℕ → Type 0
 ClosesInto text = (inner more : List ℕ) × (text ≡ inner ++ more) × (is_closed inner ≡ true) × IsOutsideQuotes more
 
-abbrev Reads : Place → List ℕ → Type 0
+abbrev Reads : Quoting → List ℕ → Type 0
 Reads Outside text = IsOutsideQuotes text
 Reads Quoted text = ClosesInto text
 Reads Escaped text = (b : ℕ) × (rest : List ℕ) × (text ≡ b ∷ rest) × ClosesInto rest
@@ -99,7 +99,7 @@ inside_more : (b : ℕ) (rest : List ℕ) → (b == 34) ≡ false → (b == 92) 
 inside_more b rest no_quote no_back (inner, more, is, closed, out) =
     (b ∷ inner, more, ap (λ (t : List ℕ). b ∷ t) is, closed_more b inner no_quote no_back closed, out)
 
-inside_or_kept : (b : ℕ) (rest : List ℕ) → (b == 34) ≡ false → ((p : Place) → fold place_behind p rest ≡ Outside → Reads p rest)
+inside_or_kept : (b : ℕ) (rest : List ℕ) → (b == 34) ≡ false → ((p : Quoting) → fold place_behind p rest ≡ Outside → Reads p rest)
     → fold place_behind (cond (b == 92) Escaped Quoted) rest ≡ Outside → ClosesInto (b ∷ rest)
 inside_or_kept b rest no_quote reads = by (b == 92) refl
   where
@@ -107,19 +107,19 @@ inside_or_kept b rest no_quote reads = by (b == 92) refl
     by true is h = kept_more b rest is (reads Escaped h)
     by false is h = inside_more b rest no_quote is (reads Quoted h)
 
-reads_from : (p : Place) (text : List ℕ) → fold place_behind p text ≡ Outside → Reads p text
+reads_from : (p : Quoting) (text : List ℕ) → fold place_behind p text ≡ Outside → Reads p text
 reads_from Outside [] h = ([], refl, refl)
 reads_from Quoted [] h = absurd (cc)
 reads_from Escaped [] h = absurd (cc)
 reads_from Outside (b ∷ rest) h = by (b == 34) refl (λ p. reads_from p rest) h
   where
-    by : (e : Bool) → (b == 34) ≡ e → ((p : Place) → fold place_behind p rest ≡ Outside → Reads p rest)
+    by : (e : Bool) → (b == 34) ≡ e → ((p : Quoting) → fold place_behind p rest ≡ Outside → Reads p rest)
         → fold place_behind (cond e Quoted Outside) rest ≡ Outside → IsOutsideQuotes (b ∷ rest)
     by true is reads h = quoted_more b rest is (reads Quoted h)
     by false is reads h = plain_more b rest is (reads Outside h)
 reads_from Quoted (b ∷ rest) h = by (b == 34) refl (λ p. reads_from p rest) h
   where
-    by : (e : Bool) → (b == 34) ≡ e → ((p : Place) → fold place_behind p rest ≡ Outside → Reads p rest)
+    by : (e : Bool) → (b == 34) ≡ e → ((p : Quoting) → fold place_behind p rest ≡ Outside → Reads p rest)
         → fold place_behind (cond e Outside (cond (b == 92) Escaped Quoted)) rest ≡ Outside → ClosesInto (b ∷ rest)
     by true is reads h = (b ∷ [], rest, refl, closed_at b is, reads Outside h)
     by false is reads h = inside_or_kept b rest is reads h
@@ -137,7 +137,7 @@ ends_outside ((b ∷ more) ∷ parts) all =
     by true is closed rest = closed_through more (concat parts) closed ∙ rest
     by false is empty rest = ap (λ (t : List ℕ). fold place_behind Outside (t ++ concat parts)) (nothing_left more empty) ∙ rest
 
-outside_is : (p : Place) → is_outside p ≡ true → p ≡ Outside
+outside_is : (p : Quoting) → is_outside p ≡ true → p ≡ Outside
 outside_is Outside e = refl
 outside_is Quoted e = absurd (false≢true e)
 outside_is Escaped e = absurd (false≢true e)

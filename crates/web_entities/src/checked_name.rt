@@ -4,7 +4,7 @@ ghost use Rattle.web_entities.specs.CheckedNames.{GivesChecked};
 ghost use Rattle.web_entities.specs.declared.disposition_param.DispositionParam.TheVariants.{Name};
 
 use crate::disposition_param::DispositionParam;
-use crate::disposition_places::Place;
+use crate::disposition_places::ParameterState;
 use std::alloc::Global;
 use web_texts::{Fail, InvalidHeaderValue, Text, read_each};
 
@@ -38,7 +38,7 @@ impl DispositionParam {
         ensures { GivesChecked (Name name.now) result }
     {
         let text = format!(in alloc; " name={name}")?;
-        match read_each::<Place, DispositionParam>(alloc, text.as_str()) {
+        match read_each::<ParameterState, DispositionParam>(alloc, text.as_str()) {
             Ok(found) if is_only_name(found.as_slice(), name) => {
                 Ok(DispositionParam::Name(Text::of(alloc, name)?))
             }

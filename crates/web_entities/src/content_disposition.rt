@@ -15,7 +15,7 @@ use crate::disposition_param::{
     DispositionParam, FilenameExtPart, FilenamePart, NamePart, UnknownExtPart, UnknownPart,
     first_match, found_text,
 };
-use crate::disposition_places::Place;
+use crate::disposition_places::ParameterState;
 use http_header::{CONTENT_DISPOSITION, HeaderMap, HeaderName, HeaderValue};
 use std::alloc::Global;
 use std::str;
@@ -89,7 +89,7 @@ fn read_typed(
         return Err(Fail::Of(ParseError::Header));
     }
     let disposition = DispositionType::of(alloc, name)?;
-    let parameters = read_each::<Place, DispositionParam>(alloc, params)?;
+    let parameters = read_each::<ParameterState, DispositionParam>(alloc, params)?;
     Ok(ContentDisposition {
         disposition,
         parameters: Items::of(parameters),

@@ -5,7 +5,7 @@ use web_texts::Mode;
 
 /// A place in the parameters.
 #[derive(Clone, Copy, Debug, PartialEq, Eq)]
-pub enum Place {
+pub enum ParameterState {
     /// In a name.
     Name,
     /// In a name, after an asterisk and blanks alone.
@@ -20,37 +20,37 @@ pub enum Place {
     Escaped,
 }
 
-impl Mode for Place {
+impl Mode for ParameterState {
     ghost use Rattle.std.proofs.Common.{lit<};
     ghost use Rattle.web_entities.specs.DispositionPlaces.{in_parameters};
 
     ghost rule = { in_parameters };
 
     fn first() -> Self {
-        Place::Name
+        ParameterState::Name
     }
 
     fn ends(self, b: u8) -> bool {
         match self {
-            Place::Lead | Place::Value => b == b';',
+            ParameterState::Lead | ParameterState::Value => b == b';',
             _ => false,
         }
     }
 
     fn behind(self, b: u8) -> Self {
         match (self, b) {
-            (Place::Name | Place::Starred, b'*') => Place::Starred,
-            (Place::Name, b'=') => Place::Lead,
-            (Place::Name, _) => Place::Name,
-            (Place::Starred, b'=') => Place::Value,
-            (Place::Starred, b' ' | b'\t') => Place::Starred,
-            (Place::Starred, _) => Place::Name,
-            (Place::Lead, b'"') => Place::Quoted,
-            (Place::Lead, b' ' | b'\t') => Place::Lead,
-            (Place::Lead | Place::Value, _) => Place::Value,
-            (Place::Quoted, b'"') => Place::Value,
-            (Place::Quoted, b'\\') => Place::Escaped,
-            (Place::Quoted | Place::Escaped, _) => Place::Quoted,
+            (ParameterState::Name | ParameterState::Starred, b'*') => ParameterState::Starred,
+            (ParameterState::Name, b'=') => ParameterState::Lead,
+            (ParameterState::Name, _) => ParameterState::Name,
+            (ParameterState::Starred, b'=') => ParameterState::Value,
+            (ParameterState::Starred, b' ' | b'\t') => ParameterState::Starred,
+            (ParameterState::Starred, _) => ParameterState::Name,
+            (ParameterState::Lead, b'"') => ParameterState::Quoted,
+            (ParameterState::Lead, b' ' | b'\t') => ParameterState::Lead,
+            (ParameterState::Lead | ParameterState::Value, _) => ParameterState::Value,
+            (ParameterState::Quoted, b'"') => ParameterState::Value,
+            (ParameterState::Quoted, b'\\') => ParameterState::Escaped,
+            (ParameterState::Quoted | ParameterState::Escaped, _) => ParameterState::Quoted,
         }
     }
 

@@ -4,7 +4,7 @@ use Rattle.web_request.specs.declared.source.Mark.{Mark}
 use Rattle.web_reply.specs.Replies.{Fault}
 use Rattle.web_extract.specs.CollectedResults.{One, collected1, collected2, collected3, collected4}
 use Rattle.web_extract.specs.CollectedResults.{map_value}
-use Rattle.web_extract.specs.ListMeanings.{Meaning}
+use Rattle.web_extract.specs.ListMeanings.{Meaning, Means1, Means2, Means3, Means4}
 
 -- a result, and the number of polls that return Pending before it
 pub record DelayedResult (T : Type 0) : Type 0 where
@@ -48,6 +48,41 @@ list4 a b c d = record {
   result = collected4 a.result b.result c.result d.result;
 }
 
+-- where each argument leaves certain marks of those that it gets and allows one result, so does the
+-- list
+abbrev pub Decides1 : {A : Type 0} → Meaning A → Type 0
+Decides1 {A} first =
+    (m m1 : List Mark) (a : DelayedResult A) → Exactly first m m1 a
+    → Exactly (Means1 first) m m1 (list1 a)
+
+abbrev pub Decides2 : {A B : Type 0} → Meaning A → Meaning B → Type 0
+Decides2 {A} {B} first second =
+    (m m1 m2 : List Mark) (a : DelayedResult A) (b : DelayedResult B)
+    → Exactly first m m1 a → Exactly second m1 m2 b → Exactly (Means2 first second) m m2 (list2 a b)
+
+abbrev pub Decides3 : {A B C : Type 0} → Meaning A → Meaning B → Meaning C → Type 0
+Decides3 {A} {B} {C} first second third =
+    (m m1 m2 m3 : List Mark) (a : DelayedResult A) (b : DelayedResult B) (c : DelayedResult C)
+    → Exactly first m m1 a → Exactly second m1 m2 b → Exactly third m2 m3 c
+    → Exactly (Means3 first second third) m m3 (list3 a b c)
+
+abbrev pub Decides4 : {A B C D : Type 0} → Meaning A → Meaning B → Meaning C → Meaning D → Type 0
+Decides4 {A} {B} {C} {D} first second third fourth =
+    (m m1 m2 m3 m4 : List Mark) (a : DelayedResult A) (b : DelayedResult B) (c : DelayedResult C)
+    (d : DelayedResult D)
+    → Exactly first m m1 a → Exactly second m1 m2 b → Exactly third m2 m3 c → Exactly fourth m3 m4 d
+    → Exactly (Means4 first second third fourth) m m4 (list4 a b c d)
+
 -- the same with another form of the value
 abbrev pub with_value : {T U : Type 0} → (T → U) → DelayedResult T → DelayedResult U
 with_value group v = record { delay = v.delay; result = map_value group v.result }
+
+-- it has the delay and the error or values of the list of the four
+abbrev pub AsList4 :
+    {A B C D T : Type 0} → Meaning A → Meaning B → Meaning C → Meaning D → (A × B × C × D → T)
+    → Meaning T → Type 0
+AsList4 {A} {B} {C} {D} first second third fourth group nested =
+    (m m1 m2 m3 m4 : List Mark) (a : DelayedResult A) (b : DelayedResult B) (c : DelayedResult C)
+    (d : DelayedResult D)
+    → Exactly first m m1 a → Exactly second m1 m2 b → Exactly third m2 m3 c → Exactly fourth m3 m4 d
+    → Exactly nested m m4 (with_value group (list4 a b c d))

@@ -9,8 +9,8 @@ use Rattle.web_body.specs.Payload.{GivesBytes, bytes_between}
 use Rattle.web_body.proofs.PayloadCountLemmas.{gave_more}
 use Rattle.web_lines.specs.declared.lines_collector.LineStep.{LineStep}
 use Rattle.web_lines.specs.declared.lines_collector.LineStep.TheVariants as line
-use Rattle.web_lines.specs.declared.lines_collector.Progress.{Progress}
-use Rattle.web_lines.specs.declared.lines_collector.Progress.TheVariants.{Over, Reading, Refused}
+use Rattle.web_lines.specs.declared.lines_collector.LinesState.{LinesState}
+use Rattle.web_lines.specs.declared.lines_collector.LinesState.TheVariants.{Over, Reading, Refused}
 use Rattle.web_lines.specs.LineReading.{HoldsNothing, IsReading}
 use Rattle.web_lines.specs.LastPieces.{LastTaken, last_size}
 use Rattle.web_lines.specs.LineCuts.{TakesFirst}
@@ -19,7 +19,7 @@ use Rattle.web_lines.proofs.LineCutLemmas.{first_size}
 use Rattle.web_lines.proofs.NextLineLemmas.{ReadsOn, between}
 
 -- nothing is held where nothing is read
-pub held_nothing : (p : Progress) (came : List ℕ) → HoldsNothing p came → (IsReading p → ⊥) → length came ≡ 0
+pub held_nothing : (p : LinesState) (came : List ℕ) → HoldsNothing p came → (IsReading p → ⊥) → length came ≡ 0
 held_nothing (Refused error) came holds stops = ap length holds
 held_nothing Reading came holds stops = absurd (stops tt)
 held_nothing Over came holds stops = ap length holds

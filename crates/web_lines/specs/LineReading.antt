@@ -16,8 +16,8 @@ use Rattle.web_body.specs.PollSteps.{IsPending, NeverNoMemory, OnPending, Unless
 use Rattle.web_body.specs.Collector.{StallsNext}
 use Rattle.web_body.specs.MessageBody.{default_limit}
 use Rattle.web_body.specs.Payload.{KeepsPayload, bytes_between, payload_feed}
-use Rattle.web_lines.specs.declared.lines_collector.Progress.{Progress}
-use Rattle.web_lines.specs.declared.lines_collector.Progress.TheVariants.{Over, Reading, Refused}
+use Rattle.web_lines.specs.declared.lines_collector.LinesState.{LinesState}
+use Rattle.web_lines.specs.declared.lines_collector.LinesState.TheVariants.{Over, Reading, Refused}
 use Rattle.web_lines.specs.Lines.{Answer}
 use Rattle.web_lines.specs.LastPieces.{LastTaken}
 use Rattle.web_lines.specs.LineCuts.{IsUnfinished}
@@ -49,7 +49,7 @@ abbrev pub taken_from : {M : Type 0} → Result (Unit {0}) ContentTypeError → 
 taken_from (Ok done) without_payload message = without_payload
 taken_from (Err error) without_payload message = message
 
-abbrev pub IsOpen : Progress → Type 0
+abbrev pub IsOpen : LinesState → Type 0
 IsOpen (Refused error) = ⊤
 IsOpen Reading = ⊤
 IsOpen Over = ⊥
@@ -59,24 +59,24 @@ pub record IsUnpolled {S : Type 0} (r : LineReader S) : Type 0 where
   pub none_came : r.came ≡ []
   pub is_open : IsOpen r.progress
 
-abbrev pub IsReading : Progress → Type 0
+abbrev pub IsReading : LinesState → Type 0
 IsReading (Refused error) = ⊥
 IsReading Reading = ⊤
 IsReading Over = ⊥
 
 -- the message was refused for its content type
-abbrev pub OnRefused : Progress → (ContentTypeError → Type 0) → Type 0
+abbrev pub OnRefused : LinesState → (ContentTypeError → Type 0) → Type 0
 OnRefused (Refused error) P = P error
 OnRefused Reading P = ⊤
 OnRefused Over P = ⊤
 
 -- what came stays only while it reads
-abbrev pub HoldsNothing : Progress → List ℕ → Type 0
+abbrev pub HoldsNothing : LinesState → List ℕ → Type 0
 HoldsNothing (Refused error) came = came ≡ []
 HoldsNothing Reading came = ⊤
 HoldsNothing Over came = came ≡ []
 
-abbrev pub schedule_at : {S : Type 0} → (S → Feed) → Progress → LineReader S → Option Schedule
+abbrev pub schedule_at : {S : Type 0} → (S → Feed) → LinesState → LineReader S → Option Schedule
 schedule_at feed (Refused error) r = Some (error_due (lines.ContentTypeError error))
 schedule_at feed Reading r =
     option_map (schedule r.limit r.came) (payload_feed feed r.payload).marks
@@ -97,7 +97,7 @@ StepGives old (step.Ready (Some (Err error))) new =
 StepGives old step.NoMemory new = new ≡ Some nothing_due
 
 -- the end, an error and want of memory end it
-abbrev pub progress_after : Progress → Step (Option Answer) → Progress
+abbrev pub progress_after : LinesState → Step (Option Answer) → LinesState
 progress_after p step.Pending = p
 progress_after p (step.Ready None) = Over
 progress_after p (step.Ready (Some (Ok line))) = p

@@ -17,7 +17,7 @@ ghost use Rattle.web_lines.specs.LineReading.{schedule_of, taken_from, work_left
 ghost use Rattle.web_lines.specs.NextLines.{BuffersLine, LastLine, MayGoOn, NextLine};
 ghost use Rattle.web_body.specs.declared.errors.lines_error.ReadlinesError.TheVariants as readlines;
 ghost use Rattle.web_body.specs.declared.poll.Step.TheVariants.{Ready};
-ghost use Rattle.web_lines.specs.declared.lines_collector.Progress.TheVariants.{Over, Reading};
+ghost use Rattle.web_lines.specs.declared.lines_collector.LinesState.TheVariants.{Over, Reading};
 
 use crate::line_cut::{LineCut, hold_piece, next_cut, take_line};
 use bytes::Bytes;
@@ -34,7 +34,7 @@ const _: () = prove!(DEFAULT_LIMIT == 262_144);
 
 /// How far the lines were read.
 #[derive(Clone, Copy, Drop)]
-pub enum Progress {
+pub enum LinesState {
     /// Not polled yet, and refused for the content type of the message.
     Refused(ContentTypeError),
     /// Read so far.
@@ -60,7 +60,7 @@ pub struct Readlines<S> {
     /// Whether the piece was searched and has no newline.
     is_searched: bool,
     limit: usize,
-    progress: Progress,
+    progress: LinesState,
 }
 
 impl<S> Model for Readlines<S> {
@@ -192,17 +192,17 @@ impl<S: Source> Readlines<S> {
         match req.encoding(alloc) {
             Ok(()) => {
                 let payload = req.take_payload();
-                Ok(Readlines::with_progress(alloc, payload, Progress::Reading))
+                Ok(Readlines::with_progress(alloc, payload, LinesState::Reading))
             }
             Err(Fail::NoMemory) => Err(NoMemory),
             Err(Fail::Of(error)) => {
-                let progress = Progress::Refused(error);
+                let progress = LinesState::Refused(error);
                 Ok(Readlines::with_progress(alloc, Payload::None, progress))
             }
         }
     }
 
-    fn with_progress(alloc: Global, payload: Payload<S>, progress: Progress) -> Readlines<S>
+    fn with_progress(alloc: Global, payload: Payload<S>, progress: LinesState) -> Readlines<S>
         ensures { result ≡ record {
           payload = payload;
           came = [];
@@ -287,12 +287,12 @@ impl<S: Source> Readlines<S> {
             → (result ≡ Ready None) × (self.new ≡ self.old) }
     {
         match self.progress {
-            Progress::Refused(error) => {
-                self.progress = Progress::Over;
+            LinesState::Refused(error) => {
+                self.progress = LinesState::Over;
                 Step::Ready(Some(Err(ReadlinesError::ContentTypeError(error))))
             }
-            Progress::Reading => self.read_on(alloc),
-            Progress::Over => Step::Ready(None),
+            LinesState::Reading => self.read_on(alloc),
+            LinesState::Over => Step::Ready(None),
         }
     }
 
@@ -313,16 +313,16 @@ impl<S: Source> Readlines<S> {
             LineStep::Pending => Step::Pending,
             LineStep::Line(line) => Step::Ready(Some(Ok(line))),
             LineStep::Failed(error) => {
-                self.progress = Progress::Over;
+                self.progress = LinesState::Over;
                 drop_rest(&mut self.held, &mut self.piece);
                 Step::Ready(Some(Err(error)))
             }
             LineStep::End => {
-                self.progress = Progress::Over;
+                self.progress = LinesState::Over;
                 Step::Ready(None)
             }
             LineStep::NoMemory => {
-                self.progress = Progress::Over;
+                self.progress = LinesState::Over;
                 drop_rest(&mut self.held, &mut self.piece);
                 Step::NoMemory
             }

@@ -8,7 +8,7 @@ use Rattle.web_multipart_parts.specs.PieceParts.{NothingMore, PartsAre, SameDue,
 use Rattle.web_multipart_parts.proofs.BoundaryLemmas.{open_cut}
 use Rattle.web_multipart_parts.specs.declared.part.Part.{Part}
 use Rattle.web_multipart_parts.specs.declared.part.PartError.{PartError}
-use Rattle.web_multipart_parts.specs.declared.part_machine.Place.TheVariants as place
+use Rattle.web_multipart_parts.specs.declared.part_machine.PartState.TheVariants as place
 use Rattle.web_multipart_parts.specs.declared.piece_parts.BodyEnd.{BodyEnd}
 use Rattle.web_multipart_parts.specs.declared.piece_parts.BodyEnd.TheVariants as end
 

@@ -5,8 +5,8 @@ use Rattle.web_multipart_parts.specs.Places.{place_of}
 use Rattle.web_multipart_parts.specs.PartSteps.{BoundaryGives, ContentGives, HeadGives, OpeningGives}
 use Rattle.web_multipart_parts.specs.Settled.{IsSettledAt}
 use Rattle.web_multipart_parts.specs.declared.part_head.PartHead.{PartHead}
-use Rattle.web_multipart_parts.specs.declared.part_machine.Place.{Place}
-use Rattle.web_multipart_parts.specs.declared.part_machine.Place.TheVariants as place
+use Rattle.web_multipart_parts.specs.declared.part_machine.PartState.{PartState}
+use Rattle.web_multipart_parts.specs.declared.part_machine.PartState.TheVariants as place
 use Rattle.web_multipart_parts.specs.declared.part_machine.BoundaryStep.TheVariants as boundary
 use Rattle.web_multipart_parts.specs.declared.part_machine.ContentStep.TheVariants as content
 use Rattle.web_multipart_parts.specs.declared.part_machine.HeadStep.TheVariants as head
@@ -27,5 +27,5 @@ not_whole came is more = let a = is.1 in let b = more.0 in cc (a, b)
 pub not_filled : (delimiter came : List ℕ) (limit n : ℕ) → ContentGives delimiter limit came (content.Content n) → ContentGives delimiter limit came content.More → ⊥
 not_filled delimiter came limit n is more = let a = is.0 in let b = more.0 in cc (a, b)
 
-pub at_boundary : (form : Form) (p : Place) (came : List ℕ) → p ≡ place.Boundary → BoundaryGives came boundary.More → IsSettledAt form p came
-at_boundary form p came is h = subst (λ (q : Place). IsSettledAt form q came) (sym is) h
+pub at_boundary : (form : Form) (p : PartState) (came : List ℕ) → p ≡ place.Boundary → BoundaryGives came boundary.More → IsSettledAt form p came
+at_boundary form p came is h = subst (λ (q : PartState). IsSettledAt form q came) (sym is) h

@@ -2,8 +2,8 @@
 use Rattle.std.proofs.Common.{ℕ, ◌+◌, List, ◌++◌, refl, sym, ap, ◌∙◌, arith}
 use Rattle.web_multipart_parts.specs.Parts.{Closes, Fails, Form, behind, empty_line}
 use Rattle.web_multipart_parts.specs.PartMachines.{SearchedAt}
-use Rattle.web_multipart_parts.specs.declared.part_machine.Place.{Place}
-use Rattle.web_multipart_parts.specs.declared.part_machine.Place.TheVariants as place
+use Rattle.web_multipart_parts.specs.declared.part_machine.PartState.{PartState}
+use Rattle.web_multipart_parts.specs.declared.part_machine.PartState.TheVariants as place
 use Rattle.web_multipart_parts.proofs.PlaceLemmas.{searched_more}
 use Rattle.web_multipart_parts.specs.PartReading.{GivesEnd, GivesPart, GoesOn, Keeps, Reader, StepGives, parts_with}
 use Rattle.web_multipart_parts.specs.declared.part.Part.{Part}
@@ -71,7 +71,7 @@ gives_further a b (step.Failed error) c g h = fails_further a b error g h
 gives_further a b step.NoMemory c g h = tt
 
 -- what is not searched again stays so when more bytes come
-pub searched_fed : (form : Form) (p : Place) (came piece : List ℕ) (n : ℕ) → SearchedAt form p came n → SearchedAt form p (came ++ piece) n
+pub searched_fed : (form : Form) (p : PartState) (came piece : List ℕ) (n : ℕ) → SearchedAt form p came n → SearchedAt form p (came ++ piece) n
 searched_fed form place.Opening came piece n s = tt
 searched_fed form place.Boundary came piece n s = tt
 searched_fed form place.Head came piece n s = searched_more empty_line came piece n s

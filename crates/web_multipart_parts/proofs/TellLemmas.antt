@@ -13,8 +13,8 @@ use Rattle.web_multipart_parts.specs.declared.part_head.PartHead.{PartHead}
 use Rattle.web_multipart_parts.specs.declared.part_machine.ContentStep.TheVariants as content
 use Rattle.web_multipart_parts.specs.declared.part_machine.HeadStep.TheVariants as head
 use Rattle.web_multipart_parts.specs.declared.part_machine.OpeningStep.{OpeningStep}
-use Rattle.web_multipart_parts.specs.declared.part_machine.Place.{Place}
-use Rattle.web_multipart_parts.specs.declared.part_machine.Place.TheVariants as place
+use Rattle.web_multipart_parts.specs.declared.part_machine.PartState.{PartState}
+use Rattle.web_multipart_parts.specs.declared.part_machine.PartState.TheVariants as place
 use Rattle.web_multipart_parts.proofs.BoundaryLemmas.{begins, boundary_cut, boundary_later, boundary_short, boundary_suc, boundary_wrong, boundary_zero, closes, open_cut, open_later, open_wrong, opened}
 use Rattle.web_multipart_parts.proofs.CommonLemmas.{common_le_bytes}
 use Rattle.web_multipart_parts.proofs.ContentLemmas.{content_cut, content_found, content_waits, head_cut, head_fits, head_found, head_later, head_waits}
@@ -22,7 +22,7 @@ use Rattle.web_multipart_parts.proofs.LaterLemmas.{behind_zero, fails_later}
 use Rattle.web_multipart_parts.proofs.PlaceLemmas.{place_fits}
 use Rattle.web_multipart_parts.proofs.StepLemmas.{goes_nowhere}
 
-abbrev reader : Form → Place → ℕ → List ℕ → Reader
+abbrev reader : Form → PartState → ℕ → List ℕ → Reader
 reader form place left came = record { form = form; place = place; left = left; came = came }
 
 -- ---- an opening
@@ -34,7 +34,7 @@ module _ (form : Form) (left : ℕ) (came : List ℕ) where
   pub opened_fits : common_len (dash_boundary form) came ≡ length (dash_boundary form) → (n : ℕ) → n ≡ length form.delimiter → n - 2 ≤ length came
   opened_fits is n size = omega (arith, is, size, common_le_bytes (dash_boundary form) came, length-drop 2 form.delimiter)
 
-  pub opened_tells : common_len (dash_boundary form) came ≡ length (dash_boundary form) → (n : ℕ) → n ≡ length form.delimiter → (rest : List ℕ) → rest ≡ drop (n - 2) came → (p : Place) → p ≡ place.Boundary
+  pub opened_tells : common_len (dash_boundary form) came ≡ length (dash_boundary form) → (n : ℕ) → n ≡ length form.delimiter → (rest : List ℕ) → rest ≡ drop (n - 2) came → (p : PartState) → p ≡ place.Boundary
       → GoesOn (reader form place.Opening left came) (reader form p left rest) × (rank p < 3)
   opened_tells is n size rest rest_is p p_is =
       let long : n - 2 ≡ length (dash_boundary form) = omega (arith, size, length-drop 2 form.delimiter) in
@@ -131,7 +131,7 @@ module _ (form : Form) (came : List ℕ) (gives : (common_len hyphens came < 2) 
   waits_cut zero = boundary_zero form (came ++ []) ∙ boundary_cut (λ more. no_part (Fails 2 part_error.TooMany)) came gives.0 gives.1 gives.2
   waits_cut (suc n) = boundary_suc form n (came ++ []) ∙ boundary_cut (at_head form (at_boundary form n)) came gives.0 gives.1 gives.2
 
-  pub boundary_more : (left : ℕ) (p : Place) → p ≡ place.Boundary → GoesOn (reader form place.Boundary left came) (reader form p left came) × Waits (reader form p left came)
+  pub boundary_more : (left : ℕ) (p : PartState) → p ≡ place.Boundary → GoesOn (reader form place.Boundary left came) (reader form p left came) × Waits (reader form p left came)
   boundary_more left p p_is =
       let short = boundary_short (λ more. no_part (Fails 2 part_error.TooMany)) came gives.0 gives.1 gives.2 in
       rw p_is (
@@ -186,7 +186,7 @@ module _ (form : Form) (left : ℕ) (came : List ℕ) where
 
 module _ (form : Form) (some : 0 < length form.delimiter) (left : ℕ) (found : PartHead) (came : List ℕ) where
   pub content_tells : (n : ℕ) → ContentGives form.delimiter form.limit came (content.Content n) → (size : ℕ) → size ≡ length form.delimiter
-      → (rest body : List ℕ) → rest ≡ drop (n + size) came → body ≡ take n came → (part : Part) → part ≡ part_of found body → (p : Place) → p ≡ place.Boundary
+      → (rest body : List ℕ) → rest ≡ drop (n + size) came → body ≡ take n came → (part : Part) → part ≡ part_of found body → (p : PartState) → p ≡ place.Boundary
       → GivesPart (reader form (place.Content found) left came) part (reader form p left rest)
   content_tells n gives size size_is rest body rest_is body_is part part_is p p_is =
       let fits = place_fits form.delimiter came [] some n gives.0 in

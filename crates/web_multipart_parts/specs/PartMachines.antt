@@ -4,15 +4,15 @@ use Rattle.web_multipart_parts.specs.Places.{IsSearched}
 use Rattle.web_multipart_parts.specs.Parts.{Form, empty_line}
 use Rattle.web_multipart_parts.specs.PartReading.{GoesOn, Reader, StepGives, rank}
 use Rattle.web_multipart_parts.specs.declared.part_machine.PartMachine.{PartMachine}
-use Rattle.web_multipart_parts.specs.declared.part_machine.Place.{Place}
-use Rattle.web_multipart_parts.specs.declared.part_machine.Place.TheVariants as place
+use Rattle.web_multipart_parts.specs.declared.part_machine.PartState.{PartState}
+use Rattle.web_multipart_parts.specs.declared.part_machine.PartState.TheVariants as place
 use Rattle.web_multipart_parts.specs.declared.part_machine.PartStep.{PartStep}
 
 abbrev pub form_of : PartMachine → Form
 form_of m = record { delimiter = m.delimiter.items; limit = m.limit }
 
 -- the reader that a machine is, at this place
-abbrev pub reader_at : Place → PartMachine → Reader
+abbrev pub reader_at : PartState → PartMachine → Reader
 reader_at place m =
     record { form = form_of m; place = place; left = m.left; came = m.held.items }
 
@@ -20,13 +20,13 @@ abbrev pub reader_of : PartMachine → Reader
 reader_of m = reader_at m.place m
 
 -- what is searched for at a place does not begin before so many bytes
-abbrev pub SearchedAt : Form → Place → List ℕ → ℕ → Type 0
+abbrev pub SearchedAt : Form → PartState → List ℕ → ℕ → Type 0
 SearchedAt form place.Opening came n = ⊤
 SearchedAt form place.Boundary came n = ⊤
 SearchedAt form place.Head came n = IsSearched empty_line came n
 SearchedAt form (place.Content head) came n = IsSearched form.delimiter came n
 
-pub record IsMachineAt (place : Place) (m : PartMachine) : Type 0 where
+pub record IsMachineAt (place : PartState) (m : PartMachine) : Type 0 where
   pub delimiter : 4 ≤ length m.delimiter.items
   pub limit : m.limit ≤ 2 ^ 62
   pub searched : SearchedAt (form_of m) place m.held.items m.searched

@@ -7,13 +7,13 @@ use Rattle.web_multipart_parts.specs.Parts.{at_content, at_head, at_opening, beh
 use Rattle.web_multipart_parts.specs.Parts.{no_part}
 use Rattle.web_multipart_parts.specs.Parts.{part_then}
 use Rattle.web_multipart_parts.specs.declared.part.Part.{Part}
-use Rattle.web_multipart_parts.specs.declared.part_machine.Place.{Place}
-use Rattle.web_multipart_parts.specs.declared.part_machine.Place.TheVariants as place
+use Rattle.web_multipart_parts.specs.declared.part_machine.PartState.{PartState}
+use Rattle.web_multipart_parts.specs.declared.part_machine.PartState.TheVariants as place
 use Rattle.web_multipart_parts.specs.declared.part_machine.PartStep.{PartStep}
 use Rattle.web_multipart_parts.specs.declared.part_machine.PartStep.TheVariants as step
 
 -- the parts of the bytes from a position on
-abbrev pub parts_at : Form → Place → ℕ → List ℕ → Parts
+abbrev pub parts_at : Form → PartState → ℕ → List ℕ → Parts
 parts_at form place.Opening left bytes = at_opening form left bytes
 parts_at form place.Boundary left bytes = at_boundary form left bytes
 parts_at form place.Head left bytes = at_head form (at_boundary form left) bytes
@@ -22,7 +22,7 @@ parts_at form (place.Content head) left bytes =
 
 pub record Reader : Type 0 where
   pub form : Form
-  pub place : Place
+  pub place : PartState
   -- how many parts may still begin
   pub left : ℕ
   -- the bytes that came and are not read yet
@@ -39,7 +39,7 @@ new_reader boundary limit = record {
 }
 
 -- one part has begun and was not given yet
-abbrev pub begun : Place → ℕ
+abbrev pub begun : PartState → ℕ
 begun place.Opening = 0
 begun place.Boundary = 0
 begun place.Head = 1
@@ -116,7 +116,7 @@ Keeps old new =
     × (parts_left new ≤ parts_left old)
 
 -- how many places there are still before a part is given
-abbrev pub rank : Place → ℕ
+abbrev pub rank : PartState → ℕ
 rank place.Opening = 3
 rank place.Boundary = 2
 rank place.Head = 1

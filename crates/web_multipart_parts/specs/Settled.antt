@@ -8,13 +8,13 @@ use Rattle.web_multipart_parts.specs.declared.part_machine.BoundaryStep.TheVaria
 use Rattle.web_multipart_parts.specs.declared.part_machine.ContentStep.TheVariants as content
 use Rattle.web_multipart_parts.specs.declared.part_machine.HeadStep.TheVariants as head
 use Rattle.web_multipart_parts.specs.declared.part_machine.OpeningStep.TheVariants as opening
-use Rattle.web_multipart_parts.specs.declared.part_machine.Place.{Place}
-use Rattle.web_multipart_parts.specs.declared.part_machine.Place.TheVariants as place
+use Rattle.web_multipart_parts.specs.declared.part_machine.PartState.{PartState}
+use Rattle.web_multipart_parts.specs.declared.part_machine.PartState.TheVariants as place
 use Rattle.web_multipart_parts.specs.declared.part_machine.PartStep.{PartStep}
 use Rattle.web_multipart_parts.specs.declared.part_machine.PartStep.TheVariants as step
 
 -- at its place stands a front of what may stand there
-abbrev pub IsSettledAt : Form → Place → List ℕ → Type 0
+abbrev pub IsSettledAt : Form → PartState → List ℕ → Type 0
 IsSettledAt form place.Opening came = OpeningGives (drop 2 form.delimiter) came opening.More
 IsSettledAt form place.Boundary came = BoundaryGives came boundary.More
 IsSettledAt form place.Head came = HeadGives came head.More

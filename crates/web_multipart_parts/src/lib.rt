@@ -10,6 +10,6 @@ mod places;
 
 pub use part::{Part, PartError};
 pub use part_head::{HeadField, PartHead, read_part_head};
-pub use part_machine::{PartMachine, PartStep, Place};
+pub use part_machine::{PartMachine, PartState, PartStep};
 pub use part_reader::PartReader;
 pub use piece_parts::{BodyEnd, parts_of_pieces};

@@ -8,7 +8,7 @@ ghost use Rattle.web_multipart_parts.specs.PartMachines.{reader_at, reader_of};
 ghost use Rattle.web_multipart_parts.specs.PartSteps.{BoundaryGives, ContentGives, HeadGives};
 ghost use Rattle.web_multipart_parts.specs.PartSteps.{OpeningGives, ReadsHead};
 ghost use Rattle.web_multipart_parts.specs.Settled.{IsQuiet, IsSettled, OnMoreStep};
-ghost use Rattle.web_multipart_parts.specs.declared.part_machine.Place.TheVariants as place;
+ghost use Rattle.web_multipart_parts.specs.declared.part_machine.PartState.TheVariants as place;
 
 use crate::part::{Part, PartError};
 use crate::part_head::{PartHead, read_part_head};
@@ -23,7 +23,7 @@ const HEAD_SIZE: usize = 4098;
 
 /// What the bytes that come next are.
 #[derive(Drop)]
-pub enum Place {
+pub enum PartState {
     /// The first boundary.
     Opening,
     /// What follows a boundary.
@@ -61,7 +61,7 @@ pub struct PartMachine {
     /// The most bytes of a part's content.
     pub limit: usize,
     /// What is read next.
-    pub place: Place,
+    pub place: PartState,
     /// How many parts may still begin.
     pub left: u8,
 }
@@ -226,11 +226,11 @@ impl PartMachine {
         ensures settles { OnMoreStep result (IsSettled (reader_of self.new)) }
         ensures quiet { IsSettled (reader_of self.old) → IsQuiet result }
     {
-        match mem::replace(&mut self.place, Place::Boundary) {
-            Place::Opening => self.read_opening(),
-            Place::Boundary => self.read_boundary(),
-            Place::Head => self.read_head(alloc),
-            Place::Content(head) => self.read_content(head),
+        match mem::replace(&mut self.place, PartState::Boundary) {
+            PartState::Opening => self.read_opening(),
+            PartState::Boundary => self.read_boundary(),
+            PartState::Head => self.read_head(alloc),
+            PartState::Content(head) => self.read_content(head),
         }
     }
 
@@ -249,7 +249,7 @@ impl PartMachine {
                 None
             }
             OpeningStep::More => {
-                self.place = Place::Opening;
+                self.place = PartState::Opening;
                 Some(PartStep::More)
             }
             OpeningStep::Wrong => Some(PartStep::Failed(PartError::Grammar)),
@@ -273,7 +273,7 @@ impl PartMachine {
                 }
                 self.left -= 1;
                 self.searched = 0;
-                self.place = Place::Head;
+                self.place = PartState::Head;
                 None
             }
             BoundaryStep::More => Some(PartStep::More),
@@ -294,12 +294,12 @@ impl PartMachine {
             HeadStep::Head(head, size) => {
                 self.held.advance(size);
                 self.searched = 0;
-                self.place = Place::Content(head);
+                self.place = PartState::Content(head);
                 None
             }
             HeadStep::More => {
                 self.searched = places_searched(self.held.as_slice(), b"\r\n\r\n");
-                self.place = Place::Head;
+                self.place = PartState::Head;
                 Some(PartStep::More)
             }
             HeadStep::Failed(error) => Some(PartStep::Failed(error)),
@@ -330,7 +330,7 @@ impl PartMachine {
             }
             ContentStep::More => {
                 self.searched = places_searched(self.held.as_slice(), self.delimiter.as_slice());
-                self.place = Place::Content(head);
+                self.place = PartState::Content(head);
                 Some(PartStep::More)
             }
             ContentStep::TooLong => Some(PartStep::Failed(PartError::PartOverflow)),

@@ -5,7 +5,7 @@ ghost use Rattle.web_multipart_parts.specs.PartMachines.{IsMachine, reader_of};
 ghost use Rattle.web_multipart_parts.specs.Settled.{HasMemory, IsSettled, OnMore};
 ghost use Rattle.web_multipart_parts.specs.PartReading.{Keeps, StepGives, new_reader, parts_left};
 
-use crate::part_machine::{PartMachine, PartStep, Place};
+use crate::part_machine::{PartMachine, PartState, PartStep};
 use bytes::BytesMut;
 use std::alloc::Global;
 use std::marker::Model;
@@ -71,7 +71,7 @@ impl PartReader {
                 searched: 0,
                 delimiter,
                 limit,
-                place: Place::Opening,
+                place: PartState::Opening,
                 left: PARTS,
             },
         })

@@ -21,18 +21,19 @@ use Rattle.web_multipart_stream.specs.PartSchedules.{part_due, schedule}
 use Rattle.web_multipart_stream.specs.MultipartErrors.{IfIo}
 use Rattle.web_multipart_stream.specs.StreamViews.{StreamView}
 use Rattle.web_multipart_stream.specs.declared.error.MultipartError.{MultipartError}
-use Rattle.web_multipart_stream.specs.declared.stream.Progress.{Progress}
-use Rattle.web_multipart_stream.specs.declared.stream.Progress.TheVariants.{Over, Reading, Refused}
+use Rattle.web_multipart_stream.specs.declared.stream.StreamState.{StreamState}
+use Rattle.web_multipart_stream.specs.declared.stream.StreamState.TheVariants.{Over, Reading}
+use Rattle.web_multipart_stream.specs.declared.stream.StreamState.TheVariants.{Refused}
 
 abbrev pub Answer : Type 0
 Answer = Result Part MultipartError
 
-abbrev pub IsReading : Progress → Type 0
+abbrev pub IsReading : StreamState → Type 0
 IsReading (Refused error) = ⊥
 IsReading Reading = ⊤
 IsReading Over = ⊥
 
-abbrev pub schedule_at : {S : Type 0} → (S → Feed) → Progress → StreamView S → Option Schedule
+abbrev pub schedule_at : {S : Type 0} → (S → Feed) → StreamState → StreamView S → Option Schedule
 schedule_at feed (Refused error) s = Some (ended (Failed error))
 schedule_at feed Reading s = option_map (schedule s.reader) (payload_feed feed s.payload).marks
 schedule_at feed Over s = Some (ended Closed)
@@ -52,7 +53,7 @@ PollGives old (step.Ready (Some (Err error))) new =
 PollGives old step.NoMemory new = new ≡ Some (ended Closed)
 
 -- the end, an error and want of memory end it
-abbrev pub progress_after : Progress → Step (Option Answer) → Progress
+abbrev pub progress_after : StreamState → Step (Option Answer) → StreamState
 progress_after p step.Pending = p
 progress_after p (step.Ready None) = Over
 progress_after p (step.Ready (Some (Ok part))) = p

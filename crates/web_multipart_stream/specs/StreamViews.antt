@@ -12,8 +12,9 @@ use Rattle.web_multipart_stream.specs.FormBoundaries.{boundary_of}
 use Rattle.web_multipart_stream.specs.PartSchedules.{Failed, Schedule, ended, schedule}
 use Rattle.web_multipart_stream.specs.MultipartErrors.{IfIo}
 use Rattle.web_multipart_stream.specs.declared.error.MultipartError.TheVariants as multipart
-use Rattle.web_multipart_stream.specs.declared.stream.Progress.{Progress}
-use Rattle.web_multipart_stream.specs.declared.stream.Progress.TheVariants.{Over, Reading, Refused}
+use Rattle.web_multipart_stream.specs.declared.stream.StreamState.{StreamState}
+use Rattle.web_multipart_stream.specs.declared.stream.StreamState.TheVariants.{Over, Reading}
+use Rattle.web_multipart_stream.specs.declared.stream.StreamState.TheVariants.{Refused}
 
 pub record StreamView (S : Type 0) : Type 0 where
   -- what is left of the payload that was taken
@@ -22,16 +23,16 @@ pub record StreamView (S : Type 0) : Type 0 where
   pub reader : Reader
   -- the number of bytes of the last piece that came, and 0 before the first
   pub last : ℕ
-  pub progress : Progress
+  pub progress : StreamState
 
 -- a head refuses for its content type or its coding
-abbrev pub IsHeadRefusal : Progress → Type 0
+abbrev pub IsHeadRefusal : StreamState → Type 0
 IsHeadRefusal (Refused error) = IfIo error ⊥
 IsHeadRefusal Reading = ⊤
 IsHeadRefusal Over = ⊤
 
 -- a stream that was not polled yet
-abbrev pub fresh : {S : Type 0} → Payload S → List ℕ → ℕ → Progress → StreamView S
+abbrev pub fresh : {S : Type 0} → Payload S → List ℕ → ℕ → StreamState → StreamView S
 fresh payload boundary limit progress = record {
   payload = payload;
   reader = new_reader boundary limit;

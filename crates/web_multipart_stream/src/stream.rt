@@ -18,7 +18,7 @@ ghost use Rattle.web_multipart_stream.specs.PartStreams.{parts_given, progress_a
 ghost use Rattle.web_multipart_stream.specs.PartTurns.{NextPart, NoPieceNext};
 ghost use Rattle.web_multipart_stream.specs.StreamViews.{IsHeadRefusal, body_schedule, fresh};
 ghost use Rattle.web_multipart_stream.specs.StreamViews.{left_by, new_stream, stream_by};
-ghost use Rattle.web_multipart_stream.specs.declared.stream.Progress.TheVariants.{Over, Reading};
+ghost use Rattle.web_multipart_stream.specs.declared.stream.StreamState.TheVariants.{Over, Reading};
 
 use crate::boundary::boundary_in;
 use crate::error::MultipartError;
@@ -31,7 +31,7 @@ use web_texts::{Fail, Mime, NoMemory};
 
 /// How far the parts were read.
 #[derive(Clone, Copy, Drop)]
-pub enum Progress {
+pub enum StreamState {
     /// Not polled yet, and refused by the head of the request.
     Refused(MultipartError),
     /// Read so far.
@@ -63,7 +63,7 @@ pub struct MultipartStream<S> {
     reader: PartReader,
     /// How many bytes the last piece had.
     last: usize,
-    progress: Progress,
+    progress: StreamState,
 }
 
 impl<S> Model for MultipartStream<S> {
@@ -203,14 +203,14 @@ impl<S: Source> MultipartStream<S> {
         ensures err { OnErr result (payload.new ≡ payload.old) }
     {
         let Some(boundary) = boundary else {
-            let refused = Progress::Refused(MultipartError::ContentType);
+            let refused = StreamState::Refused(MultipartError::ContentType);
             return MultipartStream::fresh(alloc, &mut Payload::None, "", limit, refused);
         };
         if is_coded {
             let error = MultipartError::Payload(PayloadError::UnsupportedEncoding);
-            return MultipartStream::fresh(alloc, payload, "", limit, Progress::Refused(error));
+            return MultipartStream::fresh(alloc, payload, "", limit, StreamState::Refused(error));
         }
-        MultipartStream::fresh(alloc, payload, boundary, limit, Progress::Reading)
+        MultipartStream::fresh(alloc, payload, boundary, limit, StreamState::Reading)
     }
 
     /// A stream that was not polled yet. It takes the payload.
@@ -219,7 +219,7 @@ impl<S: Source> MultipartStream<S> {
         payload: &mut Payload<S>,
         boundary: &str,
         limit: usize,
-        progress: Progress,
+        progress: StreamState,
     ) -> Result<MultipartStream<S>, NoMemory>
         requires limit { limit ≤ 2 ^ 62 }
         requires refusal { IsHeadRefusal progress }
@@ -284,12 +284,12 @@ impl<S: Source> MultipartStream<S> {
             → (result ≡ Ready None) × (self.new ≡ self.old) }
     {
         match self.progress {
-            Progress::Refused(error) => {
-                self.progress = Progress::Over;
+            StreamState::Refused(error) => {
+                self.progress = StreamState::Over;
                 Step::Ready(Some(Err(error)))
             }
-            Progress::Reading => self.read_on(alloc),
-            Progress::Over => Step::Ready(None),
+            StreamState::Reading => self.read_on(alloc),
+            StreamState::Over => Step::Ready(None),
         }
     }
 
@@ -302,15 +302,15 @@ impl<S: Source> MultipartStream<S> {
             PartTurn::Pending => Step::Pending,
             PartTurn::Part(part) => Step::Ready(Some(Ok(part))),
             PartTurn::Closed => {
-                self.progress = Progress::Over;
+                self.progress = StreamState::Over;
                 Step::Ready(None)
             }
             PartTurn::Failed(error) => {
-                self.progress = Progress::Over;
+                self.progress = StreamState::Over;
                 Step::Ready(Some(Err(error)))
             }
             PartTurn::NoMemory => {
-                self.progress = Progress::Over;
+                self.progress = StreamState::Over;
                 Step::NoMemory
             }
         }

@@ -16,3 +16,4 @@ pub mod Body
 pub mod Feed
 pub mod Reading
 pub mod NetAddresses
+pub mod LocalConfigs

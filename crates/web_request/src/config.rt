@@ -1,7 +1,10 @@
 //! The configuration of a worker.
+ghost use Rattle.std.specs.Prelude.{◌≡◌, IfOk};
+ghost use Rattle.web_request.specs.LocalConfigs.{local_config};
 
-use crate::peers::address::SocketAddr;
-use web_texts::Text;
+use crate::peers::address::{IpAddr, SocketAddr};
+use std::alloc::Global;
+use web_texts::{NoMemory, Text};
 
 /// The settings of a worker that its requests see.
 #[derive(Debug, Drop)]
@@ -12,4 +15,21 @@ pub struct AppConfig {
     pub secure: bool,
     /// The address on which the worker listens.
     pub local_addr: SocketAddr,
+}
+
+impl AppConfig {
+    /// A worker at port 8080 of this machine alone (`127.0.0.1`), over connections that are not
+    /// encrypted, whose host name is `localhost:8080`.
+    pub fn local(alloc: Global) -> Result<AppConfig, NoMemory>
+        ensures { IfOk result (λ config. config ≡ local_config) }
+    {
+        Ok(AppConfig {
+            host: Text::of(alloc, "localhost:8080")?,
+            secure: false,
+            local_addr: SocketAddr {
+                ip: IpAddr::V4([127, 0, 0, 1]),
+                port: 8080,
+            },
+        })
+    }
 }

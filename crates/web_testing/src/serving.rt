@@ -10,8 +10,8 @@ use std::alloc::Global;
 use std::rc::Rc;
 use web_extract::FromRequest;
 use web_reply::Responder;
-use web_request::{App, AppConfig, IpAddr, SocketAddr};
-use web_texts::{NoMemory, Text};
+use web_request::{App, AppConfig};
+use web_texts::NoMemory;
 use web_worker::{Exchange, Handler, Outcome, Serves, Worker, serve_all};
 
 /// How often `serve_request` polls a request, and a body of a reply is polled, at most.
@@ -26,12 +26,7 @@ pub fn test_worker<A: App>(alloc: Global, root: A::Layer) -> Result<Worker<A>, N
     requires { A.Layer.ready root }
     ensures { IfOk result (λ worker. worker ≡ new_test_pool root) }
 {
-    let ip = IpAddr::V4([127, 0, 0, 1]);
-    let config = AppConfig {
-        host: Text::of(alloc, "localhost:8080")?,
-        secure: false,
-        local_addr: SocketAddr { ip, port: 8080 },
-    };
+    let config = AppConfig::local(alloc)?;
     Worker::new(alloc, Rc::new(alloc, root)?, config, 0)
 }
 

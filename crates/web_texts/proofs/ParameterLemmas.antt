@@ -8,7 +8,7 @@ use Rattle.web_texts.specs.Pieces.{pieces, IsFirstPiece}
 use Rattle.web_texts.specs.QuotedText.{is_closed}
 use Rattle.web_texts.specs.ParameterPlaces.{semicolons}
 use Rattle.web_texts.specs.MediaTypes.{parameter_of, and_parameters, parameters_of, with_parameters, media_type_of_pieces, media_type_of}
-use Rattle.web_texts.specs.declared.grammar.parameters.Place.TheVariants.{Outside}
+use Rattle.web_texts.specs.declared.grammar.parameters.Quoting.TheVariants.{Outside}
 use Rattle.web_texts.proofs.PieceLemmas.{IsCons, pieces_cons}
 use Rattle.web_texts.proofs.TestLemmas.{and_right}
 

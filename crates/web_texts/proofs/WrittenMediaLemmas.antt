@@ -16,7 +16,7 @@ use Rattle.web_texts.specs.Tokens.{is_token, is_token_byte}
 use Rattle.web_texts.specs.MediaTypes.{is_slash, media_type_of, of_essence, parameter_of, parameters_of}
 use Rattle.web_texts.specs.WrittenMediaTypes.{AreKeptParameters, ArePlain, IsKept, IsKeptParameter, ParameterThen, unquoted}
 use Rattle.web_texts.specs.Pairs.{Pair}
-use Rattle.web_texts.specs.declared.grammar.parameters.Place.TheVariants.{Outside}
+use Rattle.web_texts.specs.declared.grammar.parameters.Quoting.TheVariants.{Outside}
 use Rattle.web_texts.proofs.EssenceLemmas.{slash_back}
 use Rattle.web_texts.proofs.KeptMediaLemmas.{differs, kept_essence, token_bytes}
 use Rattle.web_texts.proofs.LastCutLemmas.{list_any-reverse, or_false}

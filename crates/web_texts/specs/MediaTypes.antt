@@ -17,7 +17,7 @@ use Rattle.web_texts.specs.ParameterPlaces.{semicolons}
 use Rattle.web_texts.specs.Pairs.{Pair, pair_eq}
 use Rattle.web_texts.specs.declared.memory.Fail.{Fail}
 use Rattle.web_texts.specs.declared.memory.Fail.TheVariants as fail
-use Rattle.web_texts.specs.declared.grammar.parameters.Place.TheVariants.{Outside}
+use Rattle.web_texts.specs.declared.grammar.parameters.Quoting.TheVariants.{Outside}
 
 pub record MediaType : Type 0 where
   pub type_ : List ℕ

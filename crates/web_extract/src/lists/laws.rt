@@ -6,6 +6,8 @@ ghost use Rattle.web_request.specs.declared.source.Mark.{Mark};
 ghost use Rattle.web_extract.specs.FirstTaker.{FirstTakes2, FirstTakes3, FirstTakes4};
 ghost use Rattle.web_extract.specs.FirstTaker.{LeavesAllOrNone};
 ghost use Rattle.web_extract.specs.ListMeanings.{Member};
+ghost use Rattle.web_extract.specs.ListResults.{AsList4, Decides1, Decides2, Decides3};
+ghost use Rattle.web_extract.specs.ListResults.{Decides4};
 ghost use Rattle.web_extract.specs.Never.{NeverRefuses};
 ghost use Rattle.web_extract.specs.PerPlace.{PerPlace3, PerPlace4};
 ghost use Rattle.web_extract.specs.SeenResults.{Sees1, Sees2, Sees3, Sees4, SeesExactly};
@@ -40,6 +42,9 @@ where
 /// Each argument gets the marks that the one before leaves, and the list leaves what the last one
 /// leaves. That some result is allowed is said of each extractor (`FromRequest`).
 ///
+/// The clauses `exactly_one` to `exactly_four` say it both ways, of arguments each of which allows
+/// exactly one result and leaves certain marks: so does the list.
+///
 /// An argument that allows exactly one result is seen as that one by every view, `Itself` too.
 /// `bytes_law`, `string_law` and `seen_places_law` say it of the built-in ones.
 pub fn list_law<
@@ -69,6 +74,20 @@ pub fn list_law<
         (Member B.Error.converts (B.means q))
         (Member C.Error.converts (C.means q))
         (Member D.Error.converts (D.means q)) }
+    ensures exactly_one { (q : Request P.Layer P.Local P.Conn)
+        → Decides1 (Member A.Error.converts (A.means q)) }
+    ensures exactly_two { (q : Request P.Layer P.Local P.Conn) → Decides2
+        (Member A.Error.converts (A.means q))
+        (Member B.Error.converts (B.means q)) }
+    ensures exactly_three { (q : Request P.Layer P.Local P.Conn) → Decides3
+        (Member A.Error.converts (A.means q))
+        (Member B.Error.converts (B.means q))
+        (Member C.Error.converts (C.means q)) }
+    ensures exactly_four { (q : Request P.Layer P.Local P.Conn) → Decides4
+        (Member A.Error.converts (A.means q))
+        (Member B.Error.converts (B.means q))
+        (Member C.Error.converts (C.means q))
+        (Member D.Error.converts (D.means q)) }
 {}
 
 /// A list of three or four arguments place by place, whatever they allow: what a result of each
@@ -94,7 +113,7 @@ pub fn place_law<
 
 /// Four arguments nested in pairs, in any of the five ways that keep their order, have the same
 /// delay and the same error or values as the list of four, where each of them allows one result as
-/// its view sees it.
+/// its view sees it. Where each allows exactly one, so do they (`exactly_pairs` and those below).
 pub fn nesting_law<
     P: App,
     A: FromRequest<P>,
@@ -134,6 +153,31 @@ pub fn nesting_law<
         (Member A.Error.converts (A.means q)) (Member B.Error.converts (B.means q))
         (Member C.Error.converts (C.means q)) (Member D.Error.converts (D.means q))
         (view2 (view2 V.view (view2 W.view X.view)) Y.view)
+        (λ v. ((v.0, (v.1, v.2)), v.3))
+        (⟦<((A, (B, C)), D) as FromRequest<P>>⟧.means q) }
+    ensures exactly_pairs { (q : Request P.Layer P.Local P.Conn) → AsList4
+        (Member A.Error.converts (A.means q)) (Member B.Error.converts (B.means q))
+        (Member C.Error.converts (C.means q)) (Member D.Error.converts (D.means q))
+        (λ v. ((v.0, v.1), (v.2, v.3)))
+        (⟦<((A, B), (C, D)) as FromRequest<P>>⟧.means q) }
+    ensures exactly_right { (q : Request P.Layer P.Local P.Conn) → AsList4
+        (Member A.Error.converts (A.means q)) (Member B.Error.converts (B.means q))
+        (Member C.Error.converts (C.means q)) (Member D.Error.converts (D.means q))
+        (λ v. (v.0, (v.1, (v.2, v.3))))
+        (⟦<(A, (B, (C, D))) as FromRequest<P>>⟧.means q) }
+    ensures exactly_left { (q : Request P.Layer P.Local P.Conn) → AsList4
+        (Member A.Error.converts (A.means q)) (Member B.Error.converts (B.means q))
+        (Member C.Error.converts (C.means q)) (Member D.Error.converts (D.means q))
+        (λ v. (((v.0, v.1), v.2), v.3))
+        (⟦<(((A, B), C), D) as FromRequest<P>>⟧.means q) }
+    ensures exactly_inner { (q : Request P.Layer P.Local P.Conn) → AsList4
+        (Member A.Error.converts (A.means q)) (Member B.Error.converts (B.means q))
+        (Member C.Error.converts (C.means q)) (Member D.Error.converts (D.means q))
+        (λ v. (v.0, ((v.1, v.2), v.3)))
+        (⟦<(A, ((B, C), D)) as FromRequest<P>>⟧.means q) }
+    ensures exactly_outer { (q : Request P.Layer P.Local P.Conn) → AsList4
+        (Member A.Error.converts (A.means q)) (Member B.Error.converts (B.means q))
+        (Member C.Error.converts (C.means q)) (Member D.Error.converts (D.means q))
         (λ v. ((v.0, (v.1, v.2)), v.3))
         (⟦<((A, (B, C)), D) as FromRequest<P>>⟧.means q) }
 {}

@@ -7,7 +7,7 @@ ghost use Rattle.web_texts.specs.QuotedText.{is_closed as closed_test};
 ghost use Rattle.web_texts.specs.ParameterPlaces.{semicolons};
 ghost use Rattle.web_texts.specs.MediaTypes.{parameter_value, parameter, parameter_of};
 ghost use Rattle.web_texts.specs.MediaTypes.{parameters_of, AddsParameter};
-ghost use Rattle.web_texts.specs.declared.grammar.parameters.Place.TheVariants as place;
+ghost use Rattle.web_texts.specs.declared.grammar.parameters.Quoting.TheVariants as place;
 
 use crate::errors::MimeFault;
 use crate::grammar::blanks::{trim, trim_front};
@@ -23,7 +23,7 @@ use std::alloc::Global;
 
 /// A place in a media type.
 #[derive(Clone, Copy, Debug, PartialEq, Eq)]
-pub enum Place {
+pub enum Quoting {
     /// Outside of quoted text, where a semicolon ends a piece.
     Outside,
     /// In quoted text.
@@ -32,29 +32,29 @@ pub enum Place {
     Escaped,
 }
 
-impl Mode for Place {
+impl Mode for Quoting {
     ghost use Rattle.std.proofs.Common.{lit<};
 
     ghost rule = { semicolons };
 
     fn first() -> Self {
-        Place::Outside
+        Quoting::Outside
     }
 
     fn ends(self, b: u8) -> bool {
         match self {
-            Place::Outside => b == b';',
+            Quoting::Outside => b == b';',
             _ => false,
         }
     }
 
     fn behind(self, b: u8) -> Self {
         match (self, b) {
-            (Place::Outside, b'"') => Place::Quoted,
-            (Place::Outside, _) => Place::Outside,
-            (Place::Quoted, b'"') => Place::Outside,
-            (Place::Quoted, b'\\') => Place::Escaped,
-            (Place::Quoted | Place::Escaped, _) => Place::Quoted,
+            (Quoting::Outside, b'"') => Quoting::Quoted,
+            (Quoting::Outside, _) => Quoting::Outside,
+            (Quoting::Quoted, b'"') => Quoting::Outside,
+            (Quoting::Quoted, b'\\') => Quoting::Escaped,
+            (Quoting::Quoted | Quoting::Escaped, _) => Quoting::Quoted,
         }
     }
 
@@ -132,7 +132,7 @@ pub fn read_parameters(alloc: Global, text: &str) -> Result<Vec<Pair>, Fail<Mime
     let mut params = Vec::new(alloc);
     let mut rest = text;
     'pieces: loop {
-        let (piece, behind) = first_piece::<Place>(rest);
+        let (piece, behind) = first_piece::<Quoting>(rest);
         match behind {
             Some(behind) => {
                 push_parameter(alloc, &mut params, trim(piece))?;

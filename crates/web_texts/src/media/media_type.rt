@@ -12,7 +12,7 @@ ghost use Rattle.web_texts.specs.WrittenMediaTypes.{AreKeptParameters};
 use crate::errors::{MimeFault, ParseError};
 use crate::grammar::blanks::trim_end;
 use crate::grammar::cut::{cut_at, cut_at_last, split_str_once};
-use crate::grammar::parameters::{Place, read_parameters};
+use crate::grammar::parameters::{Quoting, read_parameters};
 use crate::grammar::pieces::first_piece;
 use crate::grammar::readers::ReadText;
 use crate::grammar::tokens::{is_token, to_lowercase};
@@ -107,7 +107,7 @@ impl Mime {
     pub fn parse(alloc: Global, text: &str) -> Result<Mime, Fail<MimeFault>>
         ensures { Reads result (media_type_of text.now) }
     {
-        let (essence, behind) = first_piece::<Place>(text);
+        let (essence, behind) = first_piece::<Quoting>(text);
         match behind {
             None => with_params(alloc, essence, Vec::new(alloc)),
             Some(behind) => {

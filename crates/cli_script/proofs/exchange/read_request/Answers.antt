@@ -4,7 +4,7 @@ use Rattle.cli_script.specs.LineArguments.{is_method, request_fault, target_faul
 use Rattle.cli_script.specs.LineFaults.{unless}
 use Rattle.web_request.specs.Head.{uri_view}
 use Rattle.cli_script.specs.Targets.{target_of}
-use Rattle.cli_script.specs.declared.reason.Reason.TheVariants.{BadExchange}
+use Rattle.cli_script.specs.declared.reason.LineFault.TheVariants.{BadExchange}
 use Rattle.cli_script.proofs.AcceptanceLemmas.{passed_on}
 use Rattle.cli_script.proofs.LineArgumentsLemmas.{unspaced_request, spaced_target, no_method, no_target, asked_for, cut_end}
 use Rattle.cli_script.proofs.exchange.read_request.Goals as goal

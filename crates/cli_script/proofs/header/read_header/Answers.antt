@@ -2,7 +2,7 @@ use Rattle.std.proofs.Common.{◌≡◌, ◌-◌, length, drop, refl, sym, ◌�
 use Rattle.std.proofs.lemmas.Result.{err_from_is_err_and}
 use Rattle.cli_script.specs.LineArguments.{after_space, before_space, is_field_name, is_field_value, is_header}
 use Rattle.cli_script.specs.LineFaults.{unless}
-use Rattle.cli_script.specs.declared.reason.Reason.TheVariants.{BadHeader}
+use Rattle.cli_script.specs.declared.reason.LineFault.TheVariants.{BadHeader}
 use Rattle.cli_script.proofs.AcceptanceLemmas.{both_met, passed_on, second_unmet}
 use Rattle.cli_script.proofs.LineArgumentsLemmas.{after_is_end}
 use Rattle.cli_script.proofs.header.read_header.Goals as goal

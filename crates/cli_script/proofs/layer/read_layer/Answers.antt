@@ -2,7 +2,7 @@ use Rattle.std.specs.Prelude.{is_some}
 use Rattle.std.proofs.lemmas.Result.{err_from_is_err_and}
 use Rattle.cli_script.specs.LayerLines.{is_layer, setting_of}
 use Rattle.cli_script.specs.LineFaults.{unless}
-use Rattle.cli_script.specs.declared.reason.Reason.TheVariants.{BadLayer}
+use Rattle.cli_script.specs.declared.reason.LineFault.TheVariants.{BadLayer}
 use Rattle.cli_script.proofs.AcceptanceLemmas.{passed_on}
 use Rattle.cli_script.proofs.LayerLinesLemmas.{all_set, last_setting, next_setting, no_last_setting, no_setting}
 use Rattle.cli_script.proofs.layer.read_layer.Goals as goal

@@ -3,7 +3,7 @@ use Rattle.std.specs.Str.{is_utf8}
 use Rattle.std.proofs.lemmas.Result.{err_from_is_err_and}
 use Rattle.cli_script.specs.LineArguments.{is_param}
 use Rattle.cli_script.specs.LineFaults.{unless}
-use Rattle.cli_script.specs.declared.reason.Reason.TheVariants.{BadParam}
+use Rattle.cli_script.specs.declared.reason.LineFault.TheVariants.{BadParam}
 use Rattle.cli_script.proofs.AcceptanceLemmas.{passed_on}
 use Rattle.cli_script.proofs.LineArgumentsLemmas.{unspaced_param, no_name, name_refused, value_refused, param_read}
 use Rattle.cli_script.proofs.param.read_param.Goals as goal

@@ -1,12 +1,12 @@
-use Rattle.std.proofs.Common.{◌≡◌, ◌+◌, ◌-◌, ◌≤◌, length, None}
-use Rattle.web_http1.specs.Connections.{WaitsForMore}
+use Rattle.std.proofs.Common.{◌≡◌, ◌+◌, ◌-◌, ◌≤◌, None}
+use Rattle.web_http1.specs.Connections.{WaitsForMore, bytes_open}
 use Rattle.example_site.proofs.serving.serve_pieces.Given as goal
 
 abbrev pub invariant-pieces : goal.invariant-pieces
 invariant-pieces g l = record {
   unended : l.connection.ended ≡ None;
   waits : WaitsForMore l.connection;
-  made : l.worker.made + length l.connection.left ≤ l.taken;
+  made : l.worker.made + bytes_open l.connection ≤ l.taken;
 }
 
 abbrev pub decreases-pieces : goal.decreases-pieces

@@ -1,7 +1,7 @@
 use denote.Text.{Utf8}
 use denote.Shadow.{shadow}
 use Rattle.std.proofs.Common.{◌≡◌, length}
-use Rattle.web_texts.specs.declared.grammar.parameters.Place.TheVariants.{Outside}
+use Rattle.web_texts.specs.declared.grammar.parameters.Quoting.TheVariants.{Outside}
 use Rattle.web_texts.specs.Pieces.{pieces}
 use Rattle.web_texts.specs.PieceItems.{with_front}
 use Rattle.web_texts.specs.ParameterPlaces.{semicolons}

@@ -1,6 +1,6 @@
 use Rattle.web_texts.specs.ParameterPlaces.{semicolons}
 use Rattle.web_texts.specs.Pieces.{pieces}
-use Rattle.web_texts.specs.declared.grammar.parameters.Place.TheVariants.{Outside}
+use Rattle.web_texts.specs.declared.grammar.parameters.Quoting.TheVariants.{Outside}
 use Rattle.web_texts.proofs.KeptMediaLemmas.{parameters_kept}
 use Rattle.web_texts.proofs.ParameterLemmas.{behind_essence}
 use Rattle.web_texts.proofs.media.media_type.Mime.parse.Goals as goal

@@ -1,0 +1,13 @@
+use Rattle.web_body.specs.Payload.{payload_feed}
+use Rattle.web_routing.specs.HandlerServices.{rules_of}
+use Rattle.web_routing.proofs.ServiceLemmas.{begun}
+use Rattle.web_routing.proofs.handler_service.HandlerServiceService.begin.Goals as goal
+
+pub returns-clause-begins : goal.returns-clause-begins
+returns-clause-begins g c =
+    begun (rules_of g.Args.FromRequest.means g.Args.Error.Into.converts
+    (g.H.Handler.answers c.args.self.now.handler) g.H.Output.Responder.responds)
+    g.Args.Future.Poll.gives g.H.Future.Poll.gives c.args.request.now.request
+    c.in_ok-from_request.field-0 (payload_feed g.A.Source.Source.feed c.args.payload.now).marks
+    (payload_feed g.A.Source.Source.feed c.from_request.new.payload).marks
+    c.in_ok-from_request.ensures.extracts

@@ -1,0 +1,10 @@
+pub mod HandlerServices
+pub mod ImmediateAnswers
+pub mod ReplyHeaders
+pub mod RequestPaths
+pub mod ServedExchanges
+pub mod ServiceFlights
+pub mod ServicePromises
+pub mod ServiceRoutes
+pub mod ServiceStates
+pub mod StateServices

@@ -1,0 +1,103 @@
+//! One of two services, chosen by the request. Nested, it is one of many.
+use crate::service::Service;
+use std::alloc::Global;
+use web_body::{Payload, Step};
+use web_reply::{BoxBody, HttpResponse};
+use web_request::{App, HttpRequest};
+use web_texts::NoMemory;
+
+/// A value of one of two types.
+#[derive(Drop)]
+pub enum OneOf<X, Y> {
+    First(X),
+    Other(Y),
+}
+
+/// Which requests the first of two services serves.
+pub trait Choose<A: App> {
+    ghost use Rattle.std.specs.Prelude.{◌≡◌, Bool};
+    ghost use Rattle.web_request.specs.Request.{Request};
+
+    /// Whether it takes this request.
+    ghost chosen: { Self → Request A.Layer A.Local A.Conn → Bool };
+
+    /// Whether the first service serves this request.
+    fn takes(&self, request: &HttpRequest<A>) -> bool
+        ensures { result ≡ chosen self.now request.now.request };
+}
+
+/// Two services, of which a chooser takes one for each request. The other is often such a pair
+/// again.
+#[derive(Drop)]
+pub struct Route<C, S, T> {
+    chooser: C,
+    first: S,
+    other: T,
+}
+
+impl<C, S, T> Route<C, S, T> {
+    ghost use Rattle.std.specs.Prelude.{◌≡◌};
+
+    /// The first service serves the requests that the chooser takes, the other one all others.
+    pub fn new(chooser: C, first: S, other: T) -> Route<C, S, T>
+        ensures chooser { result.chooser ≡ chooser }
+        ensures first { result.first ≡ first }
+        ensures other { result.other ≡ other }
+    {
+        Route {
+            chooser,
+            first,
+            other,
+        }
+    }
+}
+
+impl<A: App, C: Choose<A>, S: Service<A>, T: Service<A>> Service<A> for Route<C, S, T> {
+    ghost use Rattle.web_routing.specs.ServiceRoutes.{both_states, chosen_promise};
+    ghost use Rattle.web_routing.specs.ServiceRoutes.{chosen_request, one_finished, one_open};
+    ghost use Rattle.web_routing.specs.ServiceRoutes.{one_promise};
+
+    type Call = OneOf<S::Call, T::Call>;
+
+    ghost completed = { λ s q. chosen_request (C.chosen s.chooser q)
+        (S.completed s.first q) (T.completed s.other q) };
+
+    ghost promise = { λ s q m. chosen_promise (C.chosen s.chooser q)
+        (S.promise s.first q m) (T.promise s.other q m) };
+
+    ghost left = { λ s c q. one_promise (S.left s.first) (T.left s.other) c q };
+
+    ghost is_finished = { λ c. one_finished S.is_finished T.is_finished c };
+
+    ghost ready = { λ s. S.ready s.first × T.ready s.other };
+
+    ghost states = { both_states (λ s. s.first) (λ s. s.other) S.states T.states };
+
+    ghost open = { λ s c q. one_open S.is_finished T.is_finished (S.left s.first) (T.left s.other)
+        (S.open s.first) (T.open s.other) c q };
+
+    fn begin(
+        &mut self,
+        alloc: Global,
+        request: &mut HttpRequest<A>,
+        payload: &mut Payload<A::Source>,
+    ) -> Result<OneOf<S::Call, T::Call>, NoMemory> {
+        if self.chooser.takes(request) {
+            Ok(OneOf::First(self.first.begin(alloc, request, payload)?))
+        } else {
+            Ok(OneOf::Other(self.other.begin(alloc, request, payload)?))
+        }
+    }
+
+    fn poll(
+        &mut self,
+        alloc: Global,
+        call: &mut OneOf<S::Call, T::Call>,
+        request: &HttpRequest<A>,
+    ) -> Step<HttpResponse<BoxBody<A::Source>>> {
+        match call {
+            OneOf::First(call) => self.first.poll(alloc, call, request),
+            OneOf::Other(call) => self.other.poll(alloc, call, request),
+        }
+    }
+}
