@@ -2,7 +2,7 @@
 SCRIPT ?= examples/pieces.script
 PLAIN = bench/target/release/plain
 
-.PHONY: help run site test rows faults gate prove check try lint fmt wrong-bodies costs graphs bench plain
+.PHONY: help run site test rows faults gate prove check try lint fmt index mutants wrong-bodies costs graphs bench plain
 
 help:
 	@echo "make run SCRIPT=FILE      serves a script and prints the replies (default: $(SCRIPT))"
@@ -16,7 +16,9 @@ help:
 	@echo "make try CRATE=NAME       runs a program without proof, or the tests of a library; of a program with WORDS=--test"
 	@echo "make lint                 checks layout, columns and the pages, in seconds"
 	@echo "make fmt                  lays out the sources of all crates"
-	@echo "make wrong-bodies CRATE=N tries all wrong bodies of a crate that was checked"
+	@echo "make index                writes docs/API.md, and out/INDEX.md, the index of definitions"
+	@echo "make mutants              lists all mutants, or those of CRATE=NAME"
+	@echo "make wrong-bodies CRATE=N tries all mutants of a crate that was checked"
 	@echo "make costs                prints what each crate cost the gate, beside what it cost before"
 	@echo "make graphs               lists the functions whose proofs cost most"
 	@echo "make bench                compares the program with one in plain Rust, and one on Rust's crates"
@@ -53,6 +55,13 @@ lint:
 fmt:
 	@for crate in crates/*; do (cd $$crate && rt fmt) || exit 1; done
 	@tools/format-tests
+
+index:
+	@tools/index-api
+	@tools/index-definitions
+
+mutants:
+	@tools/list-mutants $(CRATE)
 
 wrong-bodies:
 	@tools/try-wrong-bodies $(CRATE)

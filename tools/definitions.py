@@ -6,17 +6,17 @@ import re
 
 import repository
 
-PAGE = "docs/INDEX.md"
+PAGE = "out/INDEX.md"
 HEAD = """# Index of definitions
 
-The [laws](#laws), and then the definitions that contracts cite, by crate. `tools/index-definitions` writes this page
-from the sources: do not edit it. A file `Body` of `web_request` is `crates/web_request/specs/Body.antt`. Beside each
-name stands the first sentence of the comment above it. [DEFINITIONS](DEFINITIONS.md) says how a contract is read.
+The [laws](#laws), and then the definitions that contracts cite, by crate. `make index` writes this page from the
+sources. A file `Body` of `web_request` is `crates/web_request/specs/Body.antt`. Next to each name is the first sentence
+of the comment above it. [DEFINITIONS](../docs/DEFINITIONS.md) says how to read a contract.
 """
 LAWS = """## Laws
 
-Functions without a result, whose contract is what they prove of definitions, for proofs to cite. What is said here
-begins the law's comment; its premises stand in its contract.
+Functions without a result. The contract of a law is what it proves, for other proofs to cite. The sentence here is the
+first of its comment; its premises are in its contract.
 
 | Law | Says |
 |---|---|

@@ -23,7 +23,8 @@ OF_ROOT = ("#![", "//!")
 def folders():
     """The folder of each group whose tests stand in files `.rs`, and that of the helpers."""
     top = os.path.join(repository.TOP, "tests")
-    found = {it: os.path.join(top, it) for it in sorted(os.listdir(top)) if os.path.isdir(os.path.join(top, it))}
+    named = sorted(os.listdir(top)) if os.path.isdir(top) else []
+    found = {it: os.path.join(top, it) for it in named if os.path.isdir(os.path.join(top, it))}
     for crate in repository.crates():
         folder = os.path.join(repository.TOP, "crates", crate, "tests")
         if os.path.isdir(folder):

@@ -96,8 +96,10 @@ def headings(page):
 
 
 def documents():
-    """The pages of docs/."""
-    return sorted(f"docs/{it}" for it in os.listdir(os.path.join(repository.TOP, "docs")) if it.endswith(".md"))
+    """The pages of docs/ and of its folders."""
+    top = os.path.join(repository.TOP, "docs")
+    found = (os.path.join(folder, it) for folder, _, files in os.walk(top) for it in files if it.endswith(".md"))
+    return sorted(os.path.relpath(it, repository.TOP) for it in found)
 
 
 def example(page):

@@ -1,13 +1,38 @@
-"""A copy of the toolchain's folder, made of links, in which some of its programs are others.
+"""Which toolchain is there, and a copy of its folder, made of links, in which some of its programs are others.
 
 `rt` finds the programs that it starts beside itself. So a copy of it starts what stands in the copy."""
 import os
 import shutil
+import subprocess
 
 import repository
 
 # The part of `rt try` that looks for reserved names, and nothing else: as long as a build, and no use to one.
 NO_SEARCH = {"bin/rattle": "#!/bin/sh\nexit 0\n"}
+
+
+# The file that names the kit which the repository was last proved with.
+KIT = os.path.join(repository.TOP, "KIT")
+
+
+def version():
+    """What `rt version` says, or None where there is no `rt`."""
+    try:
+        return subprocess.run(["rt", "version"], stdout=subprocess.PIPE, text=True, check=True).stdout.strip()
+    except (OSError, subprocess.CalledProcessError):
+        return None
+
+
+def other_kit():
+    """A line that says so where the kit is another than the one of the file KIT, or None."""
+    if not os.path.isfile(KIT):
+        return None
+    with open(KIT, encoding="utf-8") as it:
+        wanted = it.read().strip()
+    found = version()
+    if found is None or found == wanted:
+        return None
+    return f"note: this kit is {found}; the repository was last proved with {wanted} (file KIT)"
 
 
 def folder():

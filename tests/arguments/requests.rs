@@ -8,8 +8,8 @@ use std::process::Abort;
 use std::rc::Rc;
 use web_body::Marks;
 use web_request::{
-    App, AppConfig, AppLayer, Duplicate, Holds, HttpRequest, HttpRequestPool, IpAddr, NoMemory,
-    RequestHead, RequestParts, SocketAddr, Text,
+    App, AppConfig, AppLayer, Duplicate, Holds, HttpRequest, HttpRequestPool, NoMemory,
+    RequestHead, RequestParts,
 };
 
 /// The Content-Type of JSON.
@@ -67,14 +67,7 @@ impl<L: AppLayer> App for Site<L> {
 }
 
 fn config(rt: &impl Abort, alloc: Global) -> AppConfig {
-    AppConfig {
-        host: Text::of(alloc, "localhost:8080").expect(rt, "memory"),
-        secure: false,
-        local_addr: SocketAddr {
-            ip: IpAddr::V4([127, 0, 0, 1]),
-            port: 8080,
-        },
-    }
+    AppConfig::local(alloc).expect(rt, "memory")
 }
 
 /// The head of a PUT request for this target, without header fields.

@@ -7,22 +7,14 @@ use std::process::Abort;
 use std::rc::Rc;
 use web_body::Marks;
 use web_request::{
-    AppConfig, HttpRequest, HttpRequestPool, IpAddr, NoData, PlainApp, RequestHead, RequestParts,
-    SocketAddr, Text,
+    AppConfig, HttpRequest, HttpRequestPool, NoData, PlainApp, RequestHead, RequestParts,
 };
 
 /// The application of the tests.
 pub(crate) type Site = PlainApp<Marks>;
 
 fn pool(rt: &impl Abort, alloc: Global) -> HttpRequestPool<Site> {
-    let config = AppConfig {
-        host: Text::of(alloc, "localhost:8080").expect(rt, "memory"),
-        secure: false,
-        local_addr: SocketAddr {
-            ip: IpAddr::V4([127, 0, 0, 1]),
-            port: 8080,
-        },
-    };
+    let config = AppConfig::local(alloc).expect(rt, "memory");
     let root = Rc::new(alloc, NoData).expect(rt, "memory");
     HttpRequestPool::with_capacity(alloc, root, config, 0).expect(rt, "memory")
 }

@@ -1,4 +1,5 @@
-//! The replies to requests for a document: to one request, and to every choice of conditions.
+//! The replies to requests for a document: to one request, and to every choice of conditions; and
+//! to a request for content that is described.
 use crate::answers::{Answer, no_such_call, text};
 use crate::maps::{BETWEEN, headers_of, is_named_appended};
 use bytes::Bytes;
@@ -11,12 +12,12 @@ use std::fmt::Write;
 use std::rc::Rc;
 use std::str;
 use web_body::Marks;
-use web_docs::{Document, Store, answer_document};
+use web_docs::{Described, Document, Sends, Store, answer_described, answer_document};
 use web_entities::EntityTag;
 use web_reply::{HttpResponse, WholeBody};
 use web_request::{
-    App, AppConfig, HttpRequest, HttpRequestPool, IpAddr, NoData, PlainApp, RequestHead,
-    RequestParts, SocketAddr, Source,
+    App, AppConfig, HttpRequest, HttpRequestPool, NoData, PlainApp, RequestHead, RequestParts,
+    Source,
 };
 use web_texts::{Mime, NoMemory, ReadText, Text};
 
@@ -29,6 +30,15 @@ const LETTERS: &str = "ABCDEFGH";
 /// The fields of a row: a method and a target; the tag of the document under `/d`, when it was
 /// changed, in seconds since 1970, and its content; and header fields, `NAME: VALUE`.
 pub(crate) fn answer(alloc: Global, name: &str, fields: &[&str]) -> Answer {
+    match (name, fields) {
+        ("described", [method, tag, seconds, length, headers @ ..]) => {
+            described(alloc, method, (tag, seconds, length), headers)
+        }
+        _ => answer_of(alloc, name, fields),
+    }
+}
+
+fn answer_of(alloc: Global, name: &str, fields: &[&str]) -> Answer {
     let [request, tag, seconds, body, headers @ ..] = fields else {
         return no_such_call(alloc);
     };
@@ -40,6 +50,64 @@ pub(crate) fn answer(alloc: Global, name: &str, fields: &[&str]) -> Answer {
         "replies" => replies(alloc, &store, request, headers),
         _ => no_such_call(alloc),
     }
+}
+
+/// The reply to a request for plain text of this tag, date, or `-`, and length.
+fn described(alloc: Global, method: &str, content: (&str, &str, &str), fields: &[&str]) -> Answer {
+    let (tag, seconds, length) = content;
+    let Some(headers) = headers_of(alloc, fields)? else {
+        return text(alloc, "no header fields");
+    };
+    match (description_of(alloc, tag, seconds), length.parse().ok()) {
+        (Some(content), Some(length)) => described_by(alloc, &content, length, method, &headers),
+        _ => text(alloc, "no description"),
+    }
+}
+
+fn described_by(
+    alloc: Global,
+    content: &Described,
+    length: u64,
+    method: &str,
+    headers: &HeaderMap<HeaderValue>,
+) -> Answer {
+    match Method::from_bytes(alloc, method.as_bytes()) {
+        Ok(method) => {
+            let reply = answer_described(alloc, content, length, &method, headers)?;
+            sends_shown(alloc, &reply)
+        }
+        Err(_) => text(alloc, "no method"),
+    }
+}
+
+fn description_of(alloc: Global, tag: &str, seconds: &str) -> Option<Described> {
+    let modified = date_of(seconds)?;
+    let tag = EntityTag::parse(alloc, tag).ok()?;
+    Described::new(alloc, HeaderValue::from_static("text/plain"), tag, modified).ok()
+}
+
+fn date_of(seconds: &str) -> Option<Option<HttpDate>> {
+    if seconds == "-" {
+        return Some(None);
+    }
+    let date = HttpDate::from_unix_secs(seconds.parse().ok()?).ok()?;
+    Some(Some(date))
+}
+
+/// The status, the headers, and what is sent.
+fn sends_shown(alloc: Global, reply: &HttpResponse<Sends>) -> Answer {
+    let status = reply.status().as_u16();
+    let mut shown = format!(in alloc; "{status}")?;
+    add_headers(&mut shown, reply.headers())?;
+    match *reply.body() {
+        Sends::Nothing => add_part(&mut shown, "nothing", "", b"")?,
+        Sends::All => add_part(&mut shown, "all", "", b"")?,
+        Sends::Part(first, last) => {
+            let part = format!(in alloc; "from {first} to {last}")?;
+            add_part(&mut shown, part.as_str(), "", b"")?;
+        }
+    }
+    Ok(shown)
 }
 
 /// A store of one document of plain text, under `/d`.
@@ -152,14 +220,7 @@ pub(crate) fn started<A: App>(
 }
 
 pub(crate) fn pool<S: Source>(alloc: Global) -> Result<HttpRequestPool<PlainApp<S>>, NoMemory> {
-    let config = AppConfig {
-        host: Text::of(alloc, "localhost:8080")?,
-        secure: false,
-        local_addr: SocketAddr {
-            ip: IpAddr::V4([127, 0, 0, 1]),
-            port: 8080,
-        },
-    };
+    let config = AppConfig::local(alloc)?;
     let root = Rc::new(alloc, NoData)?;
     HttpRequestPool::with_capacity(alloc, root, config, 0)
 }

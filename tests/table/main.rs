@@ -1,6 +1,6 @@
 //! Rows of texts: what calls of `web_texts`, `web_headers`, `web_entities`, `web_negotiate`,
-//! `web_cookies`, `web_forwarded`, `web_docs`, `web_variants`, `web_multipart_stream` and
-//! `web_messages` give for texts.
+//! `web_cookies`, `web_forwarded`, `web_docs`, `web_variants`, `web_multipart_stream`,
+//! `web_messages` and `web_paths` give for texts.
 //!
 //! Standard input has a row a line, `CALL | FIELD | .. | WANTED`, which is written by hand; a line
 //! that is empty or begins with `#` is none. Each row whose call gives something else is printed
@@ -24,6 +24,7 @@ mod media_types;
 mod messages;
 mod origins;
 mod parts;
+mod paths;
 mod row_body;
 mod rows;
 mod texts;

@@ -7,7 +7,7 @@ use http_header::{HeaderMap, HeaderValue};
 use http_uri::Uri;
 use std::alloc::Global;
 use std::fmt::Write;
-use web_messages::{Limits, Message, Next, next_message};
+use web_messages::{HeadChecks, Limits, Message, Next, Wrong, next_message};
 use web_texts::NoMemory;
 
 /// The fields of a row: the most bytes of a head, its most fields, the most bytes of a body, and
@@ -30,14 +30,26 @@ fn limits_of(head: &str, headers: &str, body: &str) -> Option<Limits> {
         head: head.parse().ok()?,
         headers: headers.parse().ok()?,
         body: body.parse().ok()?,
+        kept: usize::MAX,
+        checks: HeadChecks::NONE,
     })
 }
 
 fn next(alloc: Global, limits: &Limits, bytes: &[u8]) -> Answer {
     match next_message(alloc, limits, bytes)? {
         Next::Closed => text(alloc, "closed"),
-        Next::Refused(wrong) => Ok(format!(in alloc; "refused {wrong:?}")?),
+        Next::Refused(wrong) => text(alloc, refused_text(wrong)),
         Next::Message(message) => shown(alloc, &message),
+    }
+}
+
+fn refused_text(wrong: Wrong) -> &'static str {
+    match wrong {
+        Wrong::Head(_) => "refused Head",
+        Wrong::Length(_) => "refused Length",
+        Wrong::TooLarge => "refused TooLarge",
+        Wrong::Chunk => "refused Chunk",
+        Wrong::Cut => "refused Cut",
     }
 }
 

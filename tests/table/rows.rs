@@ -2,7 +2,7 @@
 use crate::answers::{Answer, text};
 use crate::{
     choices, compressing_proxy, cookies, dispositions, documents, entities, file_service, headers,
-    items, languages, made_headers, media_types, messages, origins, parts, texts, variants,
+    items, languages, made_headers, media_types, messages, origins, parts, paths, texts, variants,
 };
 use std::alloc::Global;
 use web_texts::NoMemory;
@@ -88,6 +88,7 @@ fn answer_in_small_group(alloc: Global, group: &str, name: &str, fields: &[&str]
         "parts" => parts::answer(alloc, name, fields),
         "message" => messages::answer(alloc, name, fields),
         "origin" => origins::answer(alloc, name, fields),
+        "path" => paths::answer(alloc, name, fields),
         "service" => file_service::answer(alloc, name, fields),
         "proxy" => compressing_proxy::answer(alloc, name, fields),
         _ => text(alloc, "no such group of calls"),

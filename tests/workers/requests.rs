@@ -9,20 +9,12 @@ use std::process::Abort;
 use std::rc::Rc;
 use web_body::{Marks, Payload};
 use web_request::{
-    App, AppConfig, HttpRequest, HttpRequestPool, IpAddr, Mark, Pair, RequestHead, RequestParts,
-    SocketAddr, Text,
+    App, AppConfig, HttpRequest, HttpRequestPool, Mark, Pair, RequestHead, RequestParts,
 };
 use web_worker::{Exchange, Worker};
 
 fn config(rt: &impl Abort, alloc: Global) -> AppConfig {
-    AppConfig {
-        host: Text::of(alloc, "localhost:8080").expect(rt, "memory"),
-        secure: false,
-        local_addr: SocketAddr {
-            ip: IpAddr::V4([127, 0, 0, 1]),
-            port: 8080,
-        },
-    }
+    AppConfig::local(alloc).expect(rt, "memory")
 }
 
 /// The head of a POST request for this target, without headers.

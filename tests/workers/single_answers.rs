@@ -1,0 +1,159 @@
+//! Connections whose bytes are fed and whose replies are written by calls in any order.
+use crate::compare::assert_same;
+use crate::requests::worker;
+use bytes::Bytes;
+use http::StatusCode;
+use std::alloc::Global;
+use std::process::Abort;
+use web_body::{Mark, Marks, Payload};
+use web_extract::Ready;
+use web_http1::{Answered, Connection, Ended, serve_connection};
+use web_messages::{LengthFault, Limits, Wrong};
+use web_reply::{BoxBody, HttpResponse};
+use web_request::{NoData, NoMemory, PlainApp};
+use web_worker::{FnHandler, Handler, Worker};
+
+type Site = PlainApp<Marks>;
+
+type Streamed = HttpResponse<BoxBody<Marks>>;
+
+/// Connections of several messages each, and how they end.
+const STREAMS: &[(&[u8], Ended)] = &[
+    (
+        b"GET / HTTP/1.1\r\nhost: x\r\n\r\n\r\n\r\n\
+        POST / HTTP/1.1\r\ncontent-length: 5\r\n\r\nhello\
+        HEAD / HTTP/1.1\r\ncontent-length: 3\r\n\r\nabcPOST / HTTP/1.1\r\n\
+        transfer-encoding: chunked\r\n\r\n2;a=b\r\nhe\r\n3\r\nllo\r\n0\r\na: b\r\n\r\n\
+        POST / HTTP/1.1\r\ncontent-length: 9\r\n\r\n123456789\r\n",
+        Ended::Closed,
+    ),
+    (
+        b"POST / HTTP/1.1\r\ncontent-length: 2\r\n\r\nabPOST / HTTP/1.1\r\nconnection: close\r\n\
+        content-length: 4\r\n\r\nlastGET / HTTP/1.1\r\n\r\n",
+        Ended::Closed,
+    ),
+    (
+        b"POST / HTTP/1.1\r\ncontent-length: 3\r\n\r\nabcPOST / HTTP/1.1\r\n\
+        content-length: +2\r\n\r\nhi",
+        Ended::Refused(Wrong::Length(LengthFault::Malformed)),
+    ),
+    (
+        b"GET / HTTP/1.1\r\n\r\nPOST / HTTP/1.1\r\ncontent-length: 3\r\n\r\nab",
+        Ended::Refused(Wrong::Cut),
+    ),
+];
+
+/// Numbers that look drawn, the same in each run.
+#[derive(Drop)]
+struct Draws(u64);
+
+impl Draws {
+    /// A number below this one.
+    fn below(&mut self, most: usize) -> usize {
+        self.0 = self.0.wrapping_mul(6_364_136_223_846_793_005);
+        self.0 = self.0.wrapping_add(1_442_695_040_888_963_407);
+        (self.0 >> 33) as usize % most
+    }
+}
+
+/// The bytes of a message as the body of its reply, which comes in pieces of two bytes.
+fn streamed(alloc: Global, bytes: &Bytes) -> Result<Streamed, NoMemory> {
+    let mut marks = Vec::new(alloc);
+    let mut at = 0;
+    while at < bytes.len() {
+        let end = (at + 2).min(bytes.len());
+        marks.push(Mark::Piece(bytes.slice(at..end)?))?;
+        marks.push(Mark::Stall)?;
+        at = end;
+    }
+    let payload = Box::new(alloc, Payload::Stream(Marks::new(marks)))?;
+    let body = BoxBody::Sized(bytes.len() as u64, payload);
+    Ok(HttpResponse::with_body(alloc, StatusCode::OK, body))
+}
+
+/// What a connection over all bytes at once writes.
+fn whole(rt: &impl Abort, alloc: Global, bytes: &'static [u8]) -> (Ended, Vec<u8>) {
+    let mut worker: Worker<Site> = worker(rt, alloc, NoData);
+    let mut handler = FnHandler(|body: Bytes| -> Result<Ready<Streamed>, NoMemory> {
+        Ok(Ready::new(streamed(alloc, &body)?))
+    });
+    let marks = vec![in alloc; Mark::Piece(Bytes::from_static(bytes))];
+    let mut source = Marks::new(marks.expect(rt, "memory"));
+    let mut out = Vec::new(alloc);
+    let limits = Limits::default();
+    let ended = serve_connection(
+        alloc,
+        &mut worker,
+        &mut handler,
+        limits,
+        &mut source,
+        &mut out,
+    );
+    (ended, out)
+}
+
+/// One call that is drawn. What it says is compared with what it wrote.
+fn call<H: Handler<Bytes, Output = Streamed>>(
+    rt: &impl Abort,
+    alloc: Global,
+    worker: &mut Worker<Site>,
+    handler: &mut H,
+    connection: &mut Connection,
+    draw: usize,
+    out: &mut Vec<u8>,
+) {
+    let before = out.len();
+    if draw == 0 {
+        connection.answer(alloc, worker, handler, out);
+        return;
+    }
+    let answered = connection.answer_next(alloc, worker, handler, out);
+    assert_same(
+        rt,
+        connection.ended().is_some(),
+        matches!(answered, Answered::Ended(_)),
+    );
+    if matches!(answered, Answered::Waits) {
+        assert_same(rt, out.len(), before);
+    }
+}
+
+#[test]
+fn calls_in_any_order_write_the_same(rt: HostRuntime) {
+    let alloc = rt.alloc();
+    for (bytes, end) in STREAMS {
+        let (ended, expected) = whole(&rt, alloc, bytes);
+        assert_same(&rt, ended, *end);
+        for seed in 0..200 {
+            let mut draws = Draws(seed);
+            let mut worker: Worker<Site> = worker(&rt, alloc, NoData);
+            let mut handler = FnHandler(|body: Bytes| -> Result<Ready<Streamed>, NoMemory> {
+                Ok(Ready::new(streamed(alloc, &body)?))
+            });
+            let mut connection = Connection::new(alloc, Limits::default());
+            let (mut at, mut out) = (0, Vec::new(alloc));
+            while at < bytes.len() {
+                let next = (at + draws.below(40)).min(bytes.len());
+                connection
+                    .feed(alloc, &bytes[at..next])
+                    .expect(&rt, "memory");
+                at = next;
+                for _ in 0..draws.below(4) {
+                    let draw = draws.below(2);
+                    call(
+                        &rt,
+                        alloc,
+                        &mut worker,
+                        &mut handler,
+                        &mut connection,
+                        draw,
+                        &mut out,
+                    );
+                }
+            }
+            connection.answer(alloc, &mut worker, &mut handler, &mut out);
+            assert_same(&rt, connection.finish(alloc, &mut out), *end);
+            assert_same(&rt, out.as_slice(), expected.as_slice());
+        }
+    }
+}
