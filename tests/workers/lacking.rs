@@ -11,7 +11,7 @@ use std::process::Abort;
 use web_body::Marks;
 use web_extract::{FromRequest, Poll, Ready, Step};
 use web_extract_body::{Form, Json};
-use web_http1::{Ended, serve_connection};
+use web_http1::{Begun, BodyWritten, Connection, Ended, ReplySettings, serve_connection};
 use web_messages::Limits;
 use web_multipart::Multipart;
 use web_reply::{BoxBody, HttpResponse};
@@ -56,18 +56,17 @@ fn arguments_lack_memory(rt: HostRuntime) {
     assert_lacks::<(Bytes, String)>(&rt, alloc, "text/plain", "ab");
 }
 
-/// What a connection over this source comes to, and what it writes. Each reply has a body of
-/// unknown length, whose source gives `ab` and then lacks memory.
+/// A reply with a body of unknown length, whose source gives `ab` and then lacks memory.
+fn lacking_reply(alloc: Global) -> Result<Ready<HttpResponse<BoxBody<LackingSource>>>, NoMemory> {
+    let payload = Box::new(alloc, LackingSource::payload("ab"))?;
+    let body = BoxBody::Stream(payload);
+    Ok(Ready::new(HttpResponse::with_body(alloc, StatusCode::OK, body)))
+}
+
+/// What a connection over this source comes to, and what it writes. Each reply lacks memory.
 fn served<S: Source>(rt: &impl Abort, alloc: Global, mut source: S) -> (Ended, Vec<u8>) {
     let mut worker = worker::<Site>(rt, alloc, NoData);
-    let mut handler = FnHandler(|_body: Bytes| -> Result<
-        Ready<HttpResponse<BoxBody<LackingSource>>>,
-        NoMemory,
-    > {
-        let payload = Box::new(alloc, LackingSource::payload("ab"))?;
-        let body = BoxBody::Stream(payload);
-        Ok(Ready::new(HttpResponse::with_body(alloc, StatusCode::OK, body)))
-    });
+    let mut handler = FnHandler(|_body: Bytes| lacking_reply(alloc));
     let mut out = Vec::new(alloc);
     let ended = serve_connection(
         alloc,
@@ -97,5 +96,30 @@ fn connections_lack_memory(rt: HostRuntime) {
         let (ended, out) = served(&rt, alloc, LackingSource::new(text));
         assert_same(&rt, ended, Ended::NoMemory);
         assert_same(&rt, out.len(), 0);
+    }
+}
+
+/// A body that is sent piece by piece is not ended where its source lacks memory.
+#[test]
+fn sent_bodies_lack_memory(rt: HostRuntime) {
+    let alloc = rt.alloc();
+    let mut worker = worker::<Site>(&rt, alloc, NoData);
+    let mut handler = FnHandler(|_body: Bytes| lacking_reply(alloc));
+    let settings = ReplySettings::default();
+    let mut connection = Connection::new(alloc, Limits::default());
+    let fed = connection.feed(alloc, b"GET / HTTP/1.1\r\n\r\n");
+    assert_same(&rt, fed.is_ok(), true);
+    let mut out = Vec::new(alloc);
+    match connection.begin_next(alloc, &mut worker, &mut handler, &settings, &mut out) {
+        Begun::Due(mut body) => {
+            out.clear();
+            assert_same(&rt, body.write_next(alloc, &mut out), BodyWritten::Piece);
+            assert_same(&rt, body.write_next(alloc, &mut out), BodyWritten::NoMemory);
+            assert_same(&rt, out.as_slice(), b"2\r\nab\r\n".as_slice());
+            assert_same(&rt, body.write_next(alloc, &mut out), BodyWritten::Broken);
+            let ended = body.into_connection().ended();
+            assert_same(&rt, ended, Some(Ended::SourceFault));
+        }
+        Begun::Answered(_, _) => assert_same(&rt, true, false),
     }
 }

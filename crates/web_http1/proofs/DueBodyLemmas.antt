@@ -11,7 +11,7 @@ use Rattle.web_http1.specs.declared.due_body.BodyStage.TheVariants as stage
 use Rattle.web_http1.specs.declared.due_body.BodyWritten.{BodyWritten}
 use Rattle.web_http1.specs.declared.due_body.BodyWritten.TheVariants as written
 use Rattle.web_http1.specs.BodyFramings.{Fits, IsAsStated, NoneIsDue, after_bytes, body_text, end_text, last_chunk, piece_text}
-use Rattle.web_http1.specs.DueBodies.{HasFewer, IsToCome, WritesEnd, WritesOn, WritesOne, WritesPiece}
+use Rattle.web_http1.specs.DueBodies.{FollowsSource, HasFewer, IsToCome, WritesEnd, WritesOn, WritesOne, WritesPiece}
 
 -- ---- the text of a body
 
@@ -99,6 +99,20 @@ module _ (f : BodyFraming) (old new : Feed) where
   end_fewer before behind written.Done left h = tt
   end_fewer before behind written.Broken left h = tt
   end_fewer before behind written.NoMemory left h = tt
+
+  pub piece_source : (b before behind : List ℕ) (w : BodyWritten) (left : BodyStage) → GivesPiece b old new → WritesPiece f b before behind w left → FollowsSource w old new
+  piece_source b before behind written.Piece left g h = (g.faults, g.lacked)
+  piece_source b before behind written.Pending left g h = absurd h
+  piece_source b before behind written.Done left g h = absurd h
+  piece_source b before behind written.Broken left g h = g.lacked
+  piece_source b before behind written.NoMemory left g h = g.faults
+
+  pub end_source : (before behind : List ℕ) (w : BodyWritten) (left : BodyStage) → Ends old new → WritesEnd f before behind w left → FollowsSource w old new
+  end_source before behind written.Piece left e h = absurd h
+  end_source before behind written.Pending left e h = absurd h
+  end_source before behind written.Done left e h = (e.last, e.faults, e.lacked)
+  end_source before behind written.Broken left e h = e.lacked
+  end_source before behind written.NoMemory left e h = e.faults
 
   module _ (text : List ℕ) (come : IsToCome old (stage.Due f) text) where
     pub piece_on : (b before behind : List ℕ) (w : BodyWritten) (left : BodyStage) → GivesPiece b old new → WritesPiece f b before behind w left

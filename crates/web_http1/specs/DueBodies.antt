@@ -89,6 +89,22 @@ HasFewer written.Done old new = ⊤
 HasFewer written.Broken old new = ⊤
 HasFewer written.NoMemory old new = ⊤
 
+-- A body ends where its source does, with nothing left to come. Where the source failed it is broken
+-- off, and where a piece was lost memory was.
+abbrev pub FollowsSource : BodyWritten → Feed → Feed → Type 0
+FollowsSource written.Piece old new = (new.faults ≡ old.faults) × (new.lacked ≡ old.lacked)
+FollowsSource written.Pending old new = (new.faults ≡ old.faults) × (new.lacked ≡ old.lacked)
+FollowsSource written.Done old new =
+    (new.answers ≡ 0) × (new.faults ≡ old.faults) × (new.lacked ≡ old.lacked)
+FollowsSource written.Broken old new = new.lacked ≡ old.lacked
+FollowsSource written.NoMemory old new = new.faults ≡ old.faults
+
+-- nothing is read after the end of a body, or after it was given up
+abbrev pub FollowsNext : BodyStage → BodyWritten → Feed → Feed → Type 0
+FollowsNext (stage.Due f) result old new = FollowsSource result old new
+FollowsNext stage.Sent result old new = new ≡ old
+FollowsNext stage.Broken result old new = new ≡ old
+
 -- the source of the body
 abbrev pub body_feed : {S : Type 0} → (S → Feed) → DueBody S → Feed
 body_feed feed due = payload_feed feed due.payload.value

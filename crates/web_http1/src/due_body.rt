@@ -5,7 +5,8 @@ ghost use Rattle.std.specs.Fmt.{digits};
 ghost use Rattle.web_body.specs.Payload.{payload_feed};
 ghost use Rattle.web_http1.specs.BodyFramings.{Fits, NoneIsDue, after_bytes, chunk_text};
 ghost use Rattle.web_http1.specs.BodyFramings.{end_text, piece_text};
-ghost use Rattle.web_http1.specs.DueBodies.{HasFewer, IsToCome, WritesEnd, WritesNext, WritesOn};
+ghost use Rattle.web_http1.specs.DueBodies.{FollowsNext, FollowsSource, HasFewer, IsToCome};
+ghost use Rattle.web_http1.specs.DueBodies.{WritesEnd, WritesNext, WritesOn};
 ghost use Rattle.web_http1.specs.DueBodies.{WritesOne, WritesPiece, after_body, body_feed};
 ghost use Rattle.web_http1.specs.ReplyBytes.{crlf};
 
@@ -205,6 +206,8 @@ fn write_turn<S: Source>(
         out.new.items result.written }
     ensures fewer { HasFewer result.written (payload_feed S.feed payload.old)
         (payload_feed S.feed payload.new) }
+    ensures source { FollowsSource result.written (payload_feed S.feed payload.old)
+        (payload_feed S.feed payload.new) }
 {
     match payload.poll_next() {
         Turn::Piece(piece) => write_piece(alloc, framing, piece.as_slice(), out),
@@ -271,6 +274,8 @@ impl<S: Source> DueBody<S> {
             → WritesOn text (body_feed S.feed self.new) self.new.stage out.old.items
             out.new.items result }
         ensures fewer { HasFewer result (body_feed S.feed self.old) (body_feed S.feed self.new) }
+        ensures source { FollowsNext self.old.stage result (body_feed S.feed self.old)
+            (body_feed S.feed self.new) }
     {
         match self.stage {
             BodyStage::Due(framing) => {

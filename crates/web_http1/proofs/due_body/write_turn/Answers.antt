@@ -11,4 +11,5 @@ returns-in-Piece g c =
       one = due.piece_one c.args.framing old new c.in-Piece.piece c.args.out.now.items c.write_piece.new.out.items c.write_piece.result.written c.write_piece.result.stage c.in-Piece.ensures.next h;
       on = λ text come. due.piece_on c.args.framing old new text come c.in-Piece.piece c.args.out.now.items c.write_piece.new.out.items c.write_piece.result.written c.write_piece.result.stage c.in-Piece.ensures.next h;
       fewer = due.piece_fewer c.args.framing old new c.in-Piece.piece c.args.out.now.items c.write_piece.new.out.items c.write_piece.result.written c.write_piece.result.stage c.in-Piece.ensures.next h;
+      source = due.piece_source c.args.framing old new c.in-Piece.piece c.args.out.now.items c.write_piece.new.out.items c.write_piece.result.written c.write_piece.result.stage c.in-Piece.ensures.next h;
     }
