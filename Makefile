@@ -2,7 +2,7 @@
 SCRIPT ?= examples/pieces.script
 PLAIN = bench/target/release/plain
 
-.PHONY: help run site test rows faults gate prove check try lint fmt index mutants wrong-bodies costs graphs bench plain
+.PHONY: help run site test rows faults gate prove check kept types explain try lint fmt index mutants wrong-bodies costs graphs bench plain
 
 help:
 	@echo "make run SCRIPT=FILE      serves a script and prints the replies (default: $(SCRIPT))"
@@ -12,8 +12,11 @@ help:
 	@echo "make faults               runs the program over rows with calls that fail, in turn; outside the gate"
 	@echo "make gate                 the gate: the same, and everything proved, in hours"
 	@echo "make prove                proves and builds the program, and prints its path"
+	@echo "make types CRATE=NAME     finds errors of names, types and borrows; it compiles and proves nothing"
+	@echo "make try CRATE=NAME       runs a program and its tests without proof, of one compile, or the tests of a library"
 	@echo "make check CRATE=NAME     proves a crate, and what it stands on, and says which crate it is at"
-	@echo "make try CRATE=NAME       runs a program without proof, or the tests of a library; of a program with WORDS=--test"
+	@echo "make kept CRATE=NAME      proves a crate over what the gate proved on this machine (rt ci NAME)"
+	@echo "make explain CRATE=NAME FUNCTION=F  says what of a function is not proved: a counterexample, the clause, the line"
 	@echo "make lint                 checks layout, columns and the pages, in seconds"
 	@echo "make fmt                  lays out the sources of all crates"
 	@echo "make index                writes docs/API.md, and out/INDEX.md, the index of definitions"
@@ -44,6 +47,15 @@ prove:
 
 check:
 	@tools/prove $(or $(CRATE),nothing)
+
+kept:
+	@tools/prove --kept $(or $(CRATE),nothing)
+
+types:
+	@tools/types $(or $(CRATE),nothing)
+
+explain:
+	@tools/explain $(or $(CRATE),nothing) $(FUNCTION)
 
 try:
 	@tools/try $(or $(CRATE),nothing) $(WORDS)
