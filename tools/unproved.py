@@ -3,11 +3,13 @@
 `rt try` runs a program with checks and keeps nothing. In a copy of the toolchain's folder, made of links, its compiler is
 one that leaves the code in a room. Of that code this module makes a program: with the checks, as `rt try` has it, or
 without them and with the hints on inlining, as a proved build has it."""
+import contextlib
 import glob
 import os
 import re
 import shutil
 import subprocess
+import sys
 
 import groups
 import repository
@@ -22,7 +24,7 @@ COMPILER = """#!/bin/sh
 for word; do
     if [ "$word" = {checks} ]; then
         cp module.bc {room}/ && printf '%s\\n' "$@" > {room}/flags
-        {then}
+        exit 1
     fi
 done
 exec {compiler} "$@"
@@ -45,6 +47,7 @@ DEFINITION = re.compile(r'define [^@]*@"((?:\w+::)+\w+)')
 CODE = ("module.bc", "flags")
 # Where the code of tests begins, and how that of a program does.
 ENTRY = re.compile(r"^define i32 @main\(\) .*?^}$", re.M | re.S)
+CALLED = re.compile(r'call i32 @"([^"]+)"\(\)')
 START = """define i32 @main() #0 {{
 start:
   %r0 = call i64 @__sysv_signal(i32 13, i64 1)
@@ -52,6 +55,30 @@ start:
   %r1 = call i32 @"{crate}::main+run"()
   ret i32 %r1
 }}"""
+# The tests if there is an argument, as `rt try` gives one, and otherwise the program.
+START_OF_BOTH = """define i32 @main(i32 %count) #0 {{
+start:
+  %r0 = call i64 @__sysv_signal(i32 13, i64 1)
+  %r1 = icmp slt i32 %count, 2
+  br i1 %r1, label %program, label %tests
+
+program:
+  call void @"core::rt::grant"()
+  %r2 = call i32 @"{crate}::main+run"()
+  ret i32 %r2
+
+tests:
+  %r3 = call i32 @"{tests}"()
+  ret i32 %r3
+}}"""
+# A compiler in Python, which is this module's `compile_both`.
+COMPILER_OF_BOTH = """#!{python}
+import sys
+sys.dont_write_bytecode = True
+sys.path.insert(0, {tools!r})
+import unproved
+sys.exit(unproved.compile_both({kit!r}, {room!r}, {crate!r}, sys.argv[1:]))
+"""
 FILL = re.compile(r"  call void @llvm\.memset\.p0\.i64\(ptr (%\w+), i8 -86, ")
 
 
@@ -59,11 +86,35 @@ class Unknown(Exception):
     """This toolchain works otherwise than is known here."""
 
 
-def compiler_that_keeps(kit, room, goes_on=False):
-    """The text of a compiler that leaves the code of a program in `room` before it adds checks, and stops there or goes
-    on."""
-    then = "break" if goes_on else "exit 1"
-    return COMPILER.format(checks=WITH_CHECKS, room=room, then=then, compiler=f"{kit}/toolchain/bin/clang")
+def compiler_that_keeps(kit, room):
+    """The text of a compiler that leaves the code of a program in `room` and stops where it is to add checks."""
+    return COMPILER.format(checks=WITH_CHECKS, room=room, compiler=f"{kit}/toolchain/bin/clang")
+
+
+def compiler_of_both(kit, room, crate):
+    """The text of a compiler that leaves the code of tests in `room`, one of which is the program's `main`, and compiles
+    it so that it is the program, too, which is left there as `both.o`."""
+    return COMPILER_OF_BOTH.format(python=sys.executable, tools=os.path.dirname(os.path.abspath(__file__)), kit=kit,
+                                   room=room, crate=crate)
+
+
+def compile_both(kit, room, crate, words):
+    """What the compiler of both does where it is called with these words. Returns the status."""
+    clang, status = f"{kit}/toolchain/bin/clang", 1
+    if WITH_CHECKS in words:
+        shutil.copy("module.bc", f"{room}/module.bc")
+        with open(f"{room}/flags", "w", encoding="utf-8") as it:
+            it.write("".join(f"{word}\n" for word in words))
+        with contextlib.suppress(Unknown, OSError):
+            text = code_that_starts(kit, room, crate, START_OF_BOTH)
+            with open(f"{room}/both.ll", "w", encoding="utf-8") as it:
+                it.write(text)
+            given = [f"{room}/both.ll" if word == "module.bc" else word for word in words]
+            status = subprocess.run([clang, *given], stderr=subprocess.DEVNULL, check=False).returncode
+        if status == 0:
+            shutil.copy("module.o", f"{room}/both.o")
+            return 0
+    return subprocess.run([clang, *words], check=False).returncode
 
 
 def hints_in(path, crate):
@@ -186,21 +237,33 @@ def read_code(kit, room):
           "-x", "ir", "module.bc", "-o", "checked.ll"], room)
 
 
-def start_at(kit, room, crate):
-    """Writes the code of tests, one of which is the crate's `main`, as text that starts as the program does."""
+def code_that_starts(kit, room, crate, start):
+    """The code of tests that was left in `room`, one of which is the crate's `main`, with another start."""
     read_code(kit, room)
     with open(f"{room}/checked.ll", encoding="utf-8") as it:
         text = it.read()
-    if len(ENTRY.findall(text)) != 1 or f'define internal noundef i32 @"{crate}::main+run"' not in text:
+    entries = ENTRY.findall(text)
+    called = CALLED.findall(entries[0]) if len(entries) == 1 else []
+    if len(called) != 1 or f'define internal noundef i32 @"{crate}::main+run"' not in text:
         raise Unknown(f"the code of the tests of {crate} has no start of the program")
+    return ENTRY.sub(lambda _: start.format(crate=crate, tests=called[0]), text)
+
+
+def start_at(kit, room, crate):
+    """Writes the code of tests, one of which is the crate's `main`, as text that starts as the program does."""
+    text = code_that_starts(kit, room, crate, START)
     with open(f"{room}/checked.ll", "w", encoding="utf-8") as it:
-        it.write(ENTRY.sub(lambda _: START.format(crate=crate), text))
+        it.write(text)
 
 
 def link(kit, room, flags, code, libraries):
     """Compiles `code` with these flags and links it. The program is `program` in `room`."""
     clang = f"{kit}/toolchain/bin/clang"
     call([clang, *[code if word == "module.bc" else word for word in flags_in(room)], *flags], room)
+    link_object(kit, room, libraries)
+
+
+def link_object(kit, room, libraries):
     call([f"{kit}/bin/rattle-link", "--target", TARGET, "--toolchain", f"{kit}/toolchain", "-o", "program", "module.o",
           *libraries, f"{kit}/c/libos_c.a", f"{kit}/c/liblibc_c.a"], room)
 
@@ -214,9 +277,14 @@ def link_plain(kit, room, kind):
     link(kit, room, QUICK if kind == "quick" else OPTIMISED, "plain.ll", ["failing.o"] * (kind == "failing"))
 
 
-def link_checked(kit, room):
-    """Makes the program of `checked.ll` with the checks of `rt try`."""
-    link(kit, room, [*QUICK, WITH_CHECKS], "checked.ll", [f"{kit}/c/asan.a"])
+def link_checked(kit, room, crate):
+    """Makes the program with the checks of `rt try`, of `both.o` if it is there."""
+    if os.path.exists(f"{room}/both.o"):
+        os.replace(f"{room}/both.o", f"{room}/module.o")
+        link_object(kit, room, [f"{kit}/c/asan.a"])
+    else:
+        start_at(kit, room, crate)
+        link(kit, room, [*QUICK, WITH_CHECKS], "checked.ll", [f"{kit}/c/asan.a"])
 
 
 def move_program(room, out):
