@@ -2,29 +2,32 @@
 SCRIPT ?= examples/pieces.script
 PLAIN = bench/target/release/plain
 
-.PHONY: help run site test rows faults gate prove check try lint fmt index mutants wrong-bodies costs graphs bench plain
+.PHONY: help run site test rows faults gate prove check kept types explain try lint fmt index mutants wrong-bodies costs graphs bench plain
 
 help:
 	@echo "make run SCRIPT=FILE      serves a script and prints the replies (default: $(SCRIPT))"
 	@echo "make site                 builds the site of docs/SITE.md without proof, and prints the line that serves it"
-	@echo "make test                 runs all tests, examples and rows, in minutes; it proves nothing"
-	@echo "make rows                 runs the program over the rows of examples/"
-	@echo "make faults               runs the program over rows with calls that fail, in turn; outside the gate"
+	@echo "make test                 runs all tests, examples and test cases, in minutes; it proves nothing"
+	@echo "make rows                 runs the program over the test cases of examples/"
+	@echo "make faults               runs the program over test cases with calls that fail, in turn; outside the gate"
 	@echo "make gate                 the gate: the same, and everything proved, in hours"
 	@echo "make prove                proves and builds the program, and prints its path"
+	@echo "make types CRATE=NAME     finds errors of names, types and borrows; it compiles and proves nothing"
+	@echo "make try CRATE=NAME       runs a program and its tests without proof, of one compile, or the tests of a library"
 	@echo "make check CRATE=NAME     proves a crate, and what it stands on, and says which crate it is at"
-	@echo "make try CRATE=NAME       runs a program without proof, or the tests of a library; of a program with WORDS=--test"
+	@echo "make kept CRATE=NAME      proves a crate over what the gate proved on this machine (rt ci NAME)"
+	@echo "make explain CRATE=NAME FUNCTION=F  says what of a function is not proved: a counterexample, the clause, the line"
 	@echo "make lint                 checks layout, columns and the pages, in seconds"
 	@echo "make fmt                  lays out the sources of all crates"
 	@echo "make index                writes docs/API.md, and out/INDEX.md, the index of definitions"
 	@echo "make mutants              lists all mutants, or those of CRATE=NAME"
 	@echo "make wrong-bodies CRATE=N tries all mutants of a crate that was checked"
-	@echo "make costs                prints what each crate cost the gate, beside what it cost before"
+	@echo "make costs                prints what each crate cost the gate, next to what it cost before"
 	@echo "make graphs               lists the functions whose proofs cost most"
 	@echo "make bench                compares the program with one in plain Rust, and one on Rust's crates"
 	@echo "make plain SCRIPT=F       serves a script by the program in plain Rust"
 
-# The proved program where there is one of these sources, else one that is built without proof.
+# The proved program if there is one of these sources, otherwise one that is built without proof.
 run:
 	@tools/run serve --pool=0 < $(SCRIPT)
 
@@ -44,6 +47,15 @@ prove:
 
 check:
 	@tools/prove $(or $(CRATE),nothing)
+
+kept:
+	@tools/prove --kept $(or $(CRATE),nothing)
+
+types:
+	@tools/types $(or $(CRATE),nothing)
+
+explain:
+	@tools/explain $(or $(CRATE),nothing) $(FUNCTION)
 
 try:
 	@tools/try $(or $(CRATE),nothing) $(WORDS)

@@ -1,14 +1,16 @@
 """The groups of tests that are run and not proved, and how they become modules of one crate.
 
 A group is a folder of tests/, or the folder tests/ of a crate, by the crate's name. Each of its files is a module, which
-sees the others by `crate::`. The tests of a program stand among its own modules, and see these so too. One with a file
+sees the others by `crate::`. The tests of a crate stand among its own modules, and see these so too. One with a file
 `main.rs` is a program, which reads its file `stdin` and has to write its file `stdout`. A library whose name begins with
 `test_` is a group as well, though it is proved, and `pages` are the examples that stand in pages alone.
 
 The files of tests/shared are helpers: one that a group names, as `crate::compare`, becomes a module of this group."""
+import hashlib
 import os
 import re
 import shutil
+import sys
 
 import pages
 import repository
@@ -16,6 +18,8 @@ import toolchain
 
 PAGES = "pages"
 SHARED = "shared"
+# What compiles tests.
+TOOLS = [f"tools/{it}" for it in ("groups.py", "pages.py", "repository.py", "toolchain.py", "try-tests")]
 # An attribute of the root of a crate, or its page.
 OF_ROOT = ("#![", "//!")
 
@@ -38,10 +42,11 @@ def files(folder):
 
 
 def files_of(group):
-    """The paths of the tests of a group, and of the helpers that these name."""
+    """The paths of the tests of a group, and of the helpers that these name and that are no test of its own."""
     own = files(folders()[group])
-    named = {name for path in own for name in re.findall(r"\bcrate::(\w+)", text_of(path))}
-    return own + [path for path in files(folders()[SHARED]) if module(path) in named]
+    named = {name for path in own for name in re.findall(r"\bcrate::(\w+)", text_of(path))} - set(map(module, own))
+    helpers = files(folders()[SHARED]) if SHARED in folders() else []
+    return own + [path for path in helpers if module(path) in named]
 
 
 def all_files():
@@ -62,9 +67,10 @@ def is_program(name):
 
 
 def stands_apart(name):
-    """Whether a group cannot be a part of another crate: a program, and the tests of one whose specs name its own
+    """Whether a group cannot be a part of another crate: a program, and the tests of a crate whose specs name its own
     modules."""
-    return is_program(name) or name in toolchain.program_crates() and bool(repository.sources(name, ["specs"]))
+    is_own = name in repository.crates() and name not in proved_crates()
+    return is_program(name) or is_own and bool(repository.sources(name, ["specs"]))
 
 
 def text_of(path):
@@ -77,8 +83,27 @@ def module(path):
     return os.path.basename(path).removesuffix(".rs")
 
 
-def declaration(path):
-    return f"#[cfg(test)]\nmod {module(path)};\n"
+def source_modules(crate):
+    """The modules at the root of a crate's sources."""
+    folder = os.path.join(repository.TOP, "crates", crate, "src")
+    names = os.listdir(folder) if crate in repository.crates() else []
+    return {it.removesuffix(".rt") for it in names} - {"lib", "main"}
+
+
+def test_modules(group):
+    """The module that each test of a group becomes, by the path of its file: it has the file's name, with `_tests` after
+    it where a module of the crate's sources has that name."""
+    taken = source_modules(group)
+    found = {path: module(path) + "_tests" * (module(path) in taken) for path in files_of(group)}
+    names = [*taken, *found.values()]
+    for path, name in found.items():
+        if names.count(name) > 1:
+            sys.exit(f"{os.path.relpath(path, repository.TOP)}: there is a module {name} already: rename this file")
+    return found
+
+
+def declaration(name):
+    return f"#[cfg(test)]\nmod {name};\n"
 
 
 def without_root(text):
@@ -114,12 +139,25 @@ def modules_of(name):
     if name == PAGES:
         return page_modules()
     found = {f"{name}.rt": ""} if name not in repository.crates() else {}
-    if name in proved_crates() or name in toolchain.program_crates():
+    if name in repository.crates():
         found.update(crate_modules(name))
-    for path in files_of(name) if name in folders() else []:
-        found[f"{name}.rt"] += declaration(path)
-        found[f"{name}/{module(path)}.rt"] = text_of(path)
+    for path, test in test_modules(name).items() if name in folders() else []:
+        found[f"{name}.rt"] += declaration(test)
+        found[f"{name}/{test}.rt"] = text_of(path)
     return {path: re.sub(r"\bcrate::", f"crate::{name}::", text) for path, text in found.items()}
+
+
+def digest(name):
+    """One text that changes where a test of a group changes, or what it is compiled with."""
+    texts = modules_of(name)
+    whole = hashlib.sha256("".join(f"{path} {len(text)}\n{text}" for path, text in sorted(texts.items())).encode())
+    for path in (os.path.join(folders()[name], it) for it in ("stdin", "stdout") if is_program(name)):
+        whole.update(repository.file_digest(path).encode())
+    below = [it for it in libraries_in(texts.values()) if it in repository.crates()]
+    below += [name] if name in repository.crates() else []
+    for part in (*(repository.digest(it, ["src"]) for it in below), *map(repository.file_digest, TOOLS), toolchain.version()):
+        whole.update(f"{part}\n".encode())
+    return whole.hexdigest()
 
 
 def bytes_below(group_names):
@@ -153,6 +191,15 @@ def copy_crates(room):
     """Copies the sources of all crates."""
     left_out = shutil.ignore_patterns("out", "must-fail", "wrong-bodies")
     shutil.copytree(os.path.join(repository.TOP, "crates"), f"{room}/crates", ignore=left_out)
+
+
+def write_tests(room, name):
+    """Writes the tests of a crate among its sources, in a copy of all crates."""
+    source = f"{room}/crates/{name}/src"
+    root = next(it for it in (f"{source}/main.rt", f"{source}/lib.rt") if os.path.isfile(it))
+    for path, test in test_modules(name).items() if name in folders() else []:
+        write(f"{source}/{test}.rt", text_of(path))
+        write(root, text_of(root) + declaration(test))
 
 
 def write_list(room, listed):

@@ -94,13 +94,22 @@ def file_digest(path):
         return hashlib.sha256(opened.read()).hexdigest()
 
 
-def is_built_from(program, wanted):
-    """Whether the program is there, and the file beside it names these sources."""
+def sum_of_texts(texts):
+    return hashlib.sha256("".join(f"{it}\n" for it in texts).encode()).hexdigest()
+
+
+def is_noted(path, wanted):
+    """Whether the file beside this one names these sources."""
     try:
-        with open(program + ".sources", encoding="utf-8") as opened:
-            return os.access(program, os.X_OK) and opened.read().strip() == wanted
+        with open(path + ".sources", encoding="utf-8") as opened:
+            return opened.read().strip() == wanted
     except OSError:
         return False
+
+
+def is_built_from(program, wanted):
+    """Whether the program is there, and the file beside it names these sources."""
+    return os.access(program, os.X_OK) and is_noted(program, wanted)
 
 
 def note_built_from(program, wanted):
