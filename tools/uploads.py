@@ -3,7 +3,6 @@ import http.client
 import os
 import shutil
 import subprocess
-import tempfile
 
 import browser
 import repository
@@ -54,16 +53,18 @@ def by_node(front, sizes, _):
 
 
 def by_go(front, sizes, room):
-    program = os.path.join(room, "upload")
-    words = ["go", "build", "-o", program, os.path.join(CLIENTS, "upload.go")]
-    subprocess.run(words, check=True, env={**os.environ, "GO111MODULE": "off", "GOCACHE": os.path.join(room, "cache")})
+    program = os.path.join(room, "upload-by-go")
+    if not os.path.exists(program):
+        words = ["go", "build", "-o", program, os.path.join(CLIENTS, "upload.go")]
+        subprocess.run(words, check=True, env={**os.environ, "GO111MODULE": "off", "GOCACHE": os.path.join(room, "cache")})
     return ran([program, front, *map(str, sizes)])
 
 
 def by_browser(front, sizes, room):
+    """From a text, since the site's pages may send nothing by a script."""
     found = []
-    with browser.Browser(os.path.join(room, "profile")) as it:
-        it.go(front + "/")
+    with browser.Browser(os.path.join(room, "profile-of-uploads")) as it:
+        it.go(front + "/visits")
         for size in sizes:
             script = (f"window.told = undefined; fetch('/upload', {{method: 'POST', body: new Uint8Array({size})}})"
                       ".then(reply => { window.told = reply.status }, why => { window.told = String(why) })")
@@ -79,11 +80,11 @@ CALLS = {"curl": (by_curl, lambda: shutil.which("curl")), "Python": (by_python, 
          "the browser": (by_browser, browser.path)}
 
 
-def statuses(front, rounds):
-    """What each client that is there got, for so many rounds of uploads, and those that are not."""
-    found, lacking = {}, [name for name, (_, is_there) in CALLS.items() if not is_there()]
-    for name, (call, _) in CALLS.items():
-        if name not in lacking:
-            with tempfile.TemporaryDirectory(prefix="uploads-") as room:
-                found[name] = call(front, SIZES * rounds, room)
-    return found, lacking
+def lacking():
+    """The clients that are not there."""
+    return [name for name, (_, is_there) in CALLS.items() if not is_there()]
+
+
+def statuses(front, rounds, room):
+    """What each client that is there got, for so many rounds of uploads, in a folder that they may write to."""
+    return {name: call(front, SIZES * rounds, room) for name, (call, is_there) in CALLS.items() if is_there()}

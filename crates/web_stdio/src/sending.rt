@@ -1,7 +1,6 @@
 //! What is sent of a reply, and what is dropped of what still comes.
-ghost use Rattle.std.specs.Prelude.{◌≡◌, [], IfOk, OnOk};
-ghost use Rattle.web_http1.specs.DueBodies.{after_body};
-ghost use Rattle.web_http1.specs.declared.due_body.BodyStage.{BodyStage as StageOf};
+ghost use Rattle.std.specs.Prelude.{◌≡◌, ◌≤◌, [], IfOk, OnOk};
+ghost use Rattle.web_http1.specs.Connections.{bytes_open};
 
 use crate::fault::ServeFault;
 use std::alloc::Global;
@@ -38,8 +37,9 @@ pub(crate) fn send_body<S: Source, W: Write>(
     out: &mut Vec<u8>,
     output: &mut W,
 ) -> Result<Connection, ServeFault>
-    ensures { IfOk result (λ connection.
-        (stage : StageOf) × (connection ≡ after_body stage body.connection)) }
+    ensures left { IfOk result (λ connection. connection.left ≡ body.connection.left) }
+    ensures open { IfOk result (λ connection.
+        bytes_open connection ≤ bytes_open body.connection) }
 {
     let mut body = body;
     'pieces: loop {

@@ -127,7 +127,10 @@ where
     let most = most_taken(settings);
     'pieces: while taken < most {
         let count = input.read(&mut buffer).map_err(ServeFault::Input)?;
-        if count == 0 || connection.feed(alloc, &buffer[..count]).is_err() {
+        if count == 0 {
+            return finish(alloc, connection, output);
+        }
+        if connection.feed(alloc, &buffer[..count]).is_err() {
             return finish(alloc, connection, output);
         }
         taken += count as u64;
