@@ -127,11 +127,7 @@ fn served(
     let mut worker = Worker::<Plain>::new(alloc, root, config, 1).expect(rt, "memory");
     let mut handler = FnHandler(|body: Bytes| -> Result<Ready<Streamed>, NoMemory> {
         let reply = body_of(alloc, &body)?;
-        Ok(Ready::new(HttpResponse::with_body(
-            alloc,
-            StatusCode::OK,
-            reply,
-        )))
+        Ok(Ready::new(HttpResponse::with_body(alloc, StatusCode::OK, reply)))
     });
     let mut output = Writes {
         written: Vec::new(alloc),
@@ -162,8 +158,10 @@ const ROWS: &[Row] = &[
     (&[], Ended::Closed, ""),
     // Each reply is one write.
     (
-        &[b"GET / HTTP/1.1\r\nhost: x\r\n\r\n\
-            POST / HTTP/1.1\r\nhost: x\r\ncontent-length: 2\r\n\r\nhi"],
+        &[
+            b"GET / HTTP/1.1\r\nhost: x\r\n\r\n\
+            POST / HTTP/1.1\r\nhost: x\r\ncontent-length: 2\r\n\r\nhi",
+        ],
         Ended::Closed,
         "HTTP/1.1 200 OK\r\ncontent-length: 0\r\n\r\n|\
         HTTP/1.1 200 OK\r\ncontent-length: 2\r\n\r\nhi|",
@@ -181,8 +179,10 @@ const ROWS: &[Row] = &[
     ),
     // A body that breaks off ends the connection.
     (
-        &[b"POST / HTTP/1.1\r\nhost: x\r\ncontent-length: 2\r\n\r\nfo\
-            GET / HTTP/1.1\r\nhost: x\r\n\r\n"],
+        &[
+            b"POST / HTTP/1.1\r\nhost: x\r\ncontent-length: 2\r\n\r\nfo\
+            GET / HTTP/1.1\r\nhost: x\r\n\r\n",
+        ],
         Ended::SourceFault,
         "HTTP/1.1 200 OK\r\ncontent-length: 9\r\n\r\nfo|",
     ),
@@ -203,7 +203,11 @@ const ROWS: &[Row] = &[
     ),
     // What comes after a refusal is dropped.
     (
-        &[b"POST / HTTP/1.1\r\nhost: x\r\ncontent-length: 99999\r\n\r\n", b"a", b"b"],
+        &[
+            b"POST / HTTP/1.1\r\nhost: x\r\ncontent-length: 99999\r\n\r\n",
+            b"a",
+            b"b",
+        ],
         Ended::Refused(Wrong::TooLarge),
         "HTTP/1.1 413 Payload Too Large\r\ncontent-length: 0\r\nconnection: close\r\n\r\n|",
     ),
@@ -256,7 +260,14 @@ fn assert_served(
 #[test]
 fn replies_are_sent_one_by_one(rt: HostRuntime) {
     for (input, ended, wanted) in ROWS {
-        assert_served(&rt, rt.alloc(), &plain(), pieces(input), Some(*ended), wanted);
+        assert_served(
+            &rt,
+            rt.alloc(),
+            &plain(),
+            pieces(input),
+            Some(*ended),
+            wanted,
+        );
     }
 }
 
@@ -274,7 +285,14 @@ fn the_last_reply_closes(rt: HostRuntime) {
     };
     for settings in [by_messages, by_bytes] {
         let closed = Some(Ended::Closed);
-        assert_served(&rt, alloc, &settings, pieces(THREE), closed, wanted.as_str());
+        assert_served(
+            &rt,
+            alloc,
+            &settings,
+            pieces(THREE),
+            closed,
+            wanted.as_str(),
+        );
     }
 }
 
