@@ -18,7 +18,7 @@ SLOW_CLIENTS = 100
 CONNECTIONS = 10_000
 MESSAGES, FIRST_MESSAGES, MORE_KILOBYTES = 100_000, 10_000, 256
 # The most that one message may cost a process, in kilobytes.
-MESSAGE_KILOBYTES = 8_192
+MESSAGE_KILOBYTES = 12_288
 
 
 def connected(port):
@@ -201,17 +201,22 @@ def nested(length):
     return b"[" + b",".join([item] * max((length - 2) // (len(item) + 1), 1)) + b"]"
 
 
-def in_chunks_of_one(length):
-    return b"".join(b"1;" + b"a" * 250 + b"\r\nx\r\n" for _ in range(length)) + b"0\r\n\r\n"
+def in_chunks(content, extension):
+    """Each byte as a chunk with an extension of this length."""
+    return b"".join(b"1;" + b"a" * extension + b"\r\n%c\r\n" % it for it in content) + b"0\r\n\r\n"
 
 
-def shapes(most):
+def shapes(most, most_json):
     json = "Content-Type: application/json"
     text = b"[" + b"0," * (most // 2 - 2) + b"0]"
     fields = [f"a{it}: b" for it in range(60)]
-    yield "JSON, nested objects", head("POST /items HTTP/1.1", "Host: a", json, f"Content-Length: {len(nested(most))}", body=nested(most))
+    for length in (most_json, most):
+        deep = nested(length)
+        yield "JSON, nested objects", head("POST /items HTTP/1.1", "Host: a", json, f"Content-Length: {len(deep)}", body=deep)
+    chunks = in_chunks(nested(most_json), 26)
+    yield "the same in chunks of one byte", head("POST /items HTTP/1.1", "Host: a", json, "Transfer-Encoding: chunked", body=chunks)
     yield "JSON, numbers", head("POST /items HTTP/1.1", "Host: a", json, f"Content-Length: {len(text)}", body=text)
-    yield "chunks of one byte", head("POST /items HTTP/1.1", "Host: a", json, "Transfer-Encoding: chunked", body=in_chunks_of_one(most))
+    yield "chunks of one byte", head("POST /items HTTP/1.1", "Host: a", json, "Transfer-Encoding: chunked", body=in_chunks(b"x" * most, 250))
     yield "a body that is not read", head("POST /visits HTTP/1.1", "Host: a", f"Content-Length: {most}", body=b"a" * most)
     yield "many fields", head("GET /visits HTTP/1.1", "Host: a", *fields)
     yield "many cookies", head("GET /visits HTTP/1.1", "Host: a", "Cookie: " + "a=;" * 2_000)
@@ -238,7 +243,7 @@ def most_kilobytes(path, data):
         return status, most
 
 
-def measure(path, listener, most_body):
+def measure(path, listener, most_body, most_json):
     """Prints what was seen, and how many of the bounds hold."""
     passed = []
 
@@ -260,7 +265,7 @@ def measure(path, listener, most_body):
     (_, before, files), (replied, behind, more_files) = one_process(path)
     seen(f"{replied} messages through one process: {before} kB and {files} files past the first {FIRST_MESSAGES}, {behind} kB and "
          f"{more_files} files past all", replied == MESSAGES and behind <= before + MORE_KILOBYTES and files == more_files)
-    for name, data in shapes(most_body):
+    for name, data in shapes(most_body, most_json):
         status, most = most_kilobytes(path, data)
         seen(f"{name}, {len(data)} bytes: {status}, at most {most} kB", most <= MESSAGE_KILOBYTES)
     print(f"{passed.count(True)} passed, {passed.count(False)} failed")
