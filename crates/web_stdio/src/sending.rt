@@ -11,7 +11,7 @@ use web_request::Source;
 /// How many bytes are read at once.
 pub(crate) const PIECE: usize = 16_384;
 
-/// The most bytes that are read and dropped after a reply that closes.
+/// The most bytes that are read and dropped after a refusal.
 const MOST_DROPPED: u64 = 67_108_864;
 
 /// Writes what is there, so that the client has it before it sends more, and empties it.
@@ -53,8 +53,8 @@ pub(crate) fn send_body<S: Source, W: Write>(
     }
 }
 
-/// Reads what a client still sends after a reply that closes, and drops it: a connection that is
-/// closed while bytes come is reset, and the client loses the reply (RFC 7230, section 6.6).
+/// Reads what a client still sends after a refusal, and drops it: a connection that is closed while
+/// bytes come is reset, and the client loses the reply (RFC 7230, section 6.6).
 pub(crate) fn drop_rest<R: Read>(input: &mut R) -> Result<(), ServeFault> {
     let mut buffer = [0; PIECE];
     let mut dropped = 0;

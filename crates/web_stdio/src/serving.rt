@@ -151,13 +151,12 @@ where
     finish(alloc, connection, output)
 }
 
-/// Whether the client may still send: where it was refused, or sent more after the message whose
-/// reply closed.
+/// Whether the client may still send what was refused. After another reply that closes the program
+/// ends at once, since the client may wait for the end.
 fn may_send(connection: &Connection) -> bool {
     match connection.ended() {
         Some(Ended::Refused(_)) => true,
-        Some(Ended::Closed) => connection.kept() > 0,
-        Some(Ended::SourceFault) | Some(Ended::NoMemory) | None => false,
+        Some(Ended::Closed) | Some(Ended::SourceFault) | Some(Ended::NoMemory) | None => false,
     }
 }
 
@@ -170,9 +169,9 @@ fn may_send(connection: &Connection) -> bool {
 ///
 /// A connection ends at the end of the input, after a reply that closes, after a refusal, and where
 /// more bytes than `Limits::kept` would be kept: then what is left is refused. After a refusal what
-/// still comes is read and dropped, up to 64 MiB, and so it is after another reply that closes if
-/// bytes came after its message. Returns how the connection ended. `Ended::SourceFault` is a reply
-/// whose body broke off: the program has to end, so that the client sees that it is cut.
+/// still comes is read and dropped, up to 64 MiB. Returns how the connection ended.
+/// `Ended::SourceFault` is a reply whose body broke off: the program has to end, so that the client
+/// sees that it is cut.
 ///
 /// # Errors
 ///
