@@ -1,4 +1,5 @@
 -- Lemmas of the handlers.
+mod BodyLimitLemmas
 mod BookingLemmas
 mod EchoLemmas
 mod ExactLemmas

@@ -1,4 +1,5 @@
 -- The definitions of the examples.
+pub mod BodyLimits
 pub mod BookingLayers
 pub mod BookingReplies
 pub mod Bookings

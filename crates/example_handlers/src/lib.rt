@@ -10,13 +10,14 @@
 //! (`rewritten_request`), and one that is a handler round a handler (`logged`); a body that is read
 //! piece by piece (`counted`), a request that was parsed elsewhere (`parsed_request`), exchanges
 //! that are told apart by their paths (`routes`), a handler whose reply is promised
-//! (`path_reply`), lists with a text (`texts`), forms with files (`upload`), the part of a file
-//! that is sent (`file_service`), the coding that a proxy chooses (`compressing_proxy`), and a
-//! handler with a state on a connection (`request_count`).
+//! (`path_reply`), lists with a text (`texts`), a body above its limit (`byte_count`), forms with
+//! files (`upload`), the part of a file that is sent (`file_service`), the coding that a proxy
+//! chooses (`compressing_proxy`), and a handler with a state on a connection (`request_count`).
 #![tactic(auto)]
 
 mod api_key;
 mod bookings;
+mod byte_count;
 mod compressing_proxy;
 mod counted;
 mod echo;
@@ -41,6 +42,7 @@ pub use api_key::ApiKey;
 pub use bookings::booking::Booking;
 pub use bookings::booking_handlers::{serve_form_bookings, serve_json_bookings};
 pub use bookings::booking_layer::{BookingLayer, Bookings, PlainText, Unprocessable};
+pub use byte_count::{ByteCount, serve_byte_counts};
 pub use compressing_proxy::coding_to_send;
 pub use counted::Counted;
 pub use echo::Echo;

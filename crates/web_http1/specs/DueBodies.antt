@@ -89,8 +89,8 @@ HasFewer written.Done old new = ⊤
 HasFewer written.Broken old new = ⊤
 HasFewer written.NoMemory old new = ⊤
 
--- A body ends where its source does, with nothing left to come. Where the source failed it is broken
--- off, and where a piece was lost memory was.
+-- A body ends where its source does, with nothing left to come. It is broken off where the source
+-- failed, and memory is lacking where a piece was lost.
 abbrev pub FollowsSource : BodyWritten → Feed → Feed → Type 0
 FollowsSource written.Piece old new = (new.faults ≡ old.faults) × (new.lacked ≡ old.lacked)
 FollowsSource written.Pending old new = (new.faults ≡ old.faults) × (new.lacked ≡ old.lacked)
