@@ -18,9 +18,10 @@ module _ {S L D C V E Y U W : Type 0} (s : Setting S L D C V E Y U W)
       → EachFrom (λ k x o. AllowedOutcome s (poll_count plan k) x o) i xs os
       → AreRefusedOver s.feed settings headers xs os
   from plan i [] [] h = tt
-  from plan i (x ∷ xs) (o ∷ os) h =
-      (λ m told fine over. law x m told fine over (poll_count plan i) o h.0,
-      from plan (i + 1) xs os h.1)
+  from plan i (x ∷ xs) (o ∷ os) h = (
+    λ m told fine over. law x m told fine over (poll_count plan i) o h.0,
+    from plan (i + 1) xs os h.1,
+  )
   from plan i [] (o ∷ os) h = absurd h
   from plan i (x ∷ xs) [] h = absurd h
 
