@@ -88,12 +88,48 @@ fn finish<W: Write>(
     output: &mut W,
 ) -> Result<Connection, ServeFault>
     requires waits { WaitsForMore connection }
+    ensures ended { IfOk result (λ after. bytes_open after ≡ 0) }
+    ensures waits { IfOk result (λ after. WaitsForMore after) }
 {
     let mut connection = connection;
     let mut out = Vec::new(alloc);
     connection.finish(alloc, &mut out);
     send(&mut out, output)?;
     Ok(connection)
+}
+
+/// Takes a piece, and answers each message that is whole then. Where more bytes than
+/// `Limits::kept` would be kept, it refuses what is left. Returns the connection, which has ended
+/// or waits for more.
+fn take_piece<C: Clock, A: App, Args: FromRequest<A>, H: Handler<Args>, W: Write>(
+    alloc: Global,
+    clock: &C,
+    worker: &mut Worker<A>,
+    handler: &mut H,
+    additions: &mut Additions,
+    taken: u64,
+    connection: Connection,
+    piece: &[u8],
+    output: &mut W,
+) -> Result<Connection, ServeFault>
+where
+    H::Output: Responder<A>,
+    requires ready { H.ready handler.old }
+    requires unended { connection.ended ≡ None }
+    requires waits { WaitsForMore connection }
+    requires room { worker.old.made + (length connection.left + length piece.now) < 2 ^ 64 }
+    ensures ready { H.ready handler.new }
+    ensures made { IfOk result (λ after. worker.new.made + bytes_open after
+        ≤ worker.old.made + (length connection.left + length piece.now)) }
+    ensures waits { IfOk result (λ after. WaitsForMore after) }
+{
+    let mut connection = connection;
+    if connection.feed(alloc, piece).is_err() {
+        return finish(alloc, connection, output);
+    }
+    answer_whole(
+        alloc, clock, worker, handler, additions, taken, connection, output,
+    )
 }
 
 /// Reads piece by piece until the connection ends: at the end of the input, after a reply that
@@ -130,11 +166,8 @@ where
         if count == 0 {
             return finish(alloc, connection, output);
         }
-        if connection.feed(alloc, &buffer[..count]).is_err() {
-            return finish(alloc, connection, output);
-        }
         taken += count as u64;
-        connection = answer_whole(
+        connection = take_piece(
             alloc,
             clock,
             worker,
@@ -142,6 +175,7 @@ where
             &mut additions,
             taken,
             connection,
+            &buffer[..count],
             output,
         )?;
         if connection.ended().is_some() {
