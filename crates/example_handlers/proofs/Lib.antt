@@ -1,5 +1,4 @@
 -- Lemmas of the handlers.
-mod BodyLimitLemmas
 mod BookingLemmas
 mod EchoLemmas
 mod ExactLemmas

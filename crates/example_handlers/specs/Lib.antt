@@ -1,5 +1,4 @@
 -- The definitions of the examples.
-pub mod BodyLimits
 pub mod BookingLayers
 pub mod BookingReplies
 pub mod Bookings

@@ -10,14 +10,12 @@
 //! (`rewritten_request`), and one that is a handler round a handler (`logged`); a body that is read
 //! piece by piece (`counted`), a request that was parsed elsewhere (`parsed_request`), exchanges
 //! that are told apart by their paths (`routes`), a handler whose reply is promised
-//! (`path_reply`), lists with a text (`texts`), a body above its limit (`byte_count`), forms with
-//! files (`upload`), the part of a file that is sent (`file_service`), and the coding that a proxy
-//! chooses (`compressing_proxy`).
+//! (`path_reply`), lists with a text (`texts`), forms with files (`upload`), the part of a file
+//! that is sent (`file_service`), and the coding that a proxy chooses (`compressing_proxy`).
 #![tactic(auto)]
 
 mod api_key;
 mod bookings;
-mod byte_count;
 mod compressing_proxy;
 mod counted;
 mod echo;
@@ -41,7 +39,6 @@ pub use api_key::ApiKey;
 pub use bookings::booking::Booking;
 pub use bookings::booking_handlers::{serve_form_bookings, serve_json_bookings};
 pub use bookings::booking_layer::{BookingLayer, Bookings, PlainText, Unprocessable};
-pub use byte_count::{ByteCount, serve_byte_counts};
 pub use compressing_proxy::coding_to_send;
 pub use counted::Counted;
 pub use echo::Echo;
