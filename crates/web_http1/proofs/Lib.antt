@@ -16,3 +16,4 @@ pub mod AllowedLemmas
 pub mod OneBufferLemmas
 pub mod DueBodyLemmas
 pub mod BegunLemmas
+pub mod RefusalLemmas

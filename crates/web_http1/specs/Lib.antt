@@ -9,6 +9,7 @@ pub mod Expecting
 pub mod OneAnswer
 pub mod DueBodies
 pub mod BegunReplies
+pub mod RefusalReplies
 pub mod BegunAnswers
 pub mod ConnectionCalls
 pub mod ConnectionPieces

@@ -15,6 +15,7 @@ mod expecting;
 mod laws;
 mod pieces;
 mod polled;
+mod refusing;
 mod reply;
 mod serving;
 mod settings;
