@@ -17,3 +17,4 @@ pub mod OneBufferLemmas
 pub mod DueBodyLemmas
 pub mod BegunLemmas
 pub mod RefusalLemmas
+pub mod BegunCallLemmas

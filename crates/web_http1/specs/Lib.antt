@@ -12,6 +12,7 @@ pub mod BegunReplies
 pub mod RefusalReplies
 pub mod BegunAnswers
 pub mod ConnectionCalls
+pub mod BegunCalls
 pub mod ConnectionPieces
 pub mod Polls
 pub mod Serving

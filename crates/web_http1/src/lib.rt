@@ -27,6 +27,6 @@ pub use connection::Connection;
 pub use due_body::{BodyFraming, BodyStage, BodyWritten, DueBody};
 pub use ended::Ended;
 pub use laws::answers_law;
-pub use pieces::{calls_law, pieces_law};
+pub use pieces::{begun_calls_law, calls_law, pieces_law};
 pub use serving::{serve_connection, serve_connection_with};
 pub use settings::ReplySettings;
