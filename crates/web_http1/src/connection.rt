@@ -206,10 +206,10 @@ impl Connection {
     }
 
     /// Writes the reply to each message that is whole, in their order, and the reply of a refusal
-    /// that no byte that follows can lift; that of a head may come later, at the latest by
-    /// `finish`. It ends after a reply that closes, and after a refusal. Where an allocation
-    /// failed it ends too, with `Ended::NoMemory`. Of empty lines before a head no more are kept
-    /// than a head may have.
+    /// that no byte that follows can lift; that of a head once its empty line is there, or as many
+    /// bytes as it may have. It ends after a reply that closes, and after a refusal. Where an
+    /// allocation failed it ends too, with `Ended::NoMemory`. Of empty lines before a head no more
+    /// are kept than a head may have.
     pub fn answer<A: App, Args: FromRequest<A>, H: Handler<Args>>(
         &mut self,
         alloc: Global,
