@@ -26,6 +26,9 @@ use Rattle.web_folders.specs.declared.settings.FolderSettings.{FolderSettings}
 abbrev pub not_found : {F : Type 0} → Reply (FolderBody F)
 not_found = bare_reply 404 body.Empty
 
+abbrev pub failed : {F : Type 0} → Reply (FolderBody F)
+failed = bare_reply 500 body.Empty
+
 abbrev pub is_read : List ℕ → Bool
 is_read method = is_get method || is_head method
 
@@ -69,6 +72,7 @@ abbrev pub file_in : {F D : Type 0} → Found F D → Option (OpenedFile F)
 file_in (found.File opened) = Some opened
 file_in (found.Folder folder) = None
 file_in found.Nothing = None
+file_in found.Failed = None
 
 -- the file at a path, where there is a path
 abbrev pub FindsFile : {F D : Type 0} → (NamesBelow → Found F D → Type 0) → Option NamesBelow
@@ -145,22 +149,27 @@ ListsFolder lists s asked path folder true reply =
     (entries : Option (List FolderEntry)) × lists folder entries
     × ListsEntries s asked path entries reply
 
--- the index of a folder, or its list
+-- the index at this place, or else the list of the folder
 abbrev pub SendsIndex : {F D : Type 0} → (NamesBelow → Found F D → Type 0)
     → (D → Option (List FolderEntry) → Type 0) → FolderSettings → Asked → NamesBelow → D
-    → Option NamesBelow → Option (OpenedFile F) → Reply (FolderBody F) → Type 0
-SendsIndex finds lists s asked path folder (Some place) (Some index) reply =
+    → NamesBelow → Option (OpenedFile F) → Reply (FolderBody F) → Type 0
+SendsIndex finds lists s asked path folder place (Some index) reply =
     SendsFile finds s asked place index reply
-SendsIndex finds lists s asked path folder place other reply =
+SendsIndex finds lists s asked path folder place None reply =
     ListsFolder lists s asked path folder s.lists reply
 
-pub record IsIndexReply {F D : Type 0} (finds : NamesBelow → Found F D → Type 0)
-    (lists : D → Option (List FolderEntry) → Type 0) (s : FolderSettings) (asked : Asked)
-    (path : NamesBelow) (folder : D) (reply : Reply (FolderBody F)) : Type 0 where
-  pub index : Option (OpenedFile F)
-  pub finds_index : FindsFile finds (child_of s.hidden path (codes "index.html")) index
-  pub sends : SendsIndex finds lists s asked path folder
-      (child_of s.hidden path (codes "index.html")) index reply
+-- What is found at the place of the index is sent. A place that may not be named has none.
+abbrev pub RepliesWithIndex : {F D : Type 0} → (NamesBelow → Found F D → Type 0)
+    → (D → Option (List FolderEntry) → Type 0) → FolderSettings → Asked → NamesBelow → D
+    → Option NamesBelow → Reply (FolderBody F) → Type 0
+RepliesWithIndex finds lists s asked path folder None reply =
+    ListsFolder lists s asked path folder s.lists reply
+RepliesWithIndex {F} {D} finds lists s asked path folder (Some place) reply =
+    (x : Found F D) × finds place x
+    × SendsIndex finds lists s asked path folder place (file_in x) reply
+
+abbrev pub index_of : FolderSettings → NamesBelow → Option NamesBelow
+index_of s path = child_of s.hidden path (codes "index.html")
 
 -- the target of a request
 pub record Target : Type 0 where
@@ -174,7 +183,7 @@ abbrev pub SendsFolder : {F D : Type 0} → (NamesBelow → Found F D → Type 0
 SendsFolder finds lists s target asked path folder false reply =
     reply ≡ moved_reply target.path target.query
 SendsFolder finds lists s target asked path folder true reply =
-    IsIndexReply finds lists s asked path folder reply
+    RepliesWithIndex finds lists s asked path folder (index_of s path) reply
 
 -- by whether the method reads
 abbrev pub RepliesWithFolder : {F D : Type 0} → (NamesBelow → Found F D → Type 0)
@@ -200,6 +209,7 @@ SendsFound finds lists s target asked path (found.File opened) reply =
 SendsFound finds lists s target asked path (found.Folder folder) reply =
     RepliesWithFolder finds lists s target asked path folder (is_read asked.method) reply
 SendsFound finds lists s target asked path found.Nothing reply = reply ≡ not_found
+SendsFound finds lists s target asked path found.Failed reply = reply ≡ failed
 
 -- What the path names below the folder is found, and sent. There is nothing where it names none.
 abbrev pub SendsBelow : {F D : Type 0} → (NamesBelow → Found F D → Type 0)

@@ -54,12 +54,9 @@ fn is_kept(status: StatusCode) -> bool
     has_content(status) || status == StatusCode::NOT_MODIFIED
 }
 
-fn disposition(
-    alloc: Global,
-    wanted: bool,
-    path: &str,
-) -> Result<Option<HeaderValue>, NoMemory>
-    ensures { IfOk result (λ value. value ≡ if_allowed_lem wanted (disposition_value_lem path.now)) }
+fn disposition(alloc: Global, wanted: bool, path: &str) -> Result<Option<HeaderValue>, NoMemory>
+    ensures { IfOk result (λ value.
+        value ≡ if_allowed_lem wanted (disposition_value_lem path.now)) }
 {
     if wanted {
         return disposition_value(alloc, path);
@@ -67,10 +64,7 @@ fn disposition(
     Ok(None)
 }
 
-fn cache_control(
-    wanted: bool,
-    settings: &FolderSettings,
-) -> Result<Option<HeaderValue>, NoMemory>
+fn cache_control(wanted: bool, settings: &FolderSettings) -> Result<Option<HeaderValue>, NoMemory>
     ensures { IfOk result (λ value. value ≡ if_allowed_lem wanted settings.now.cache_control) }
 {
     match &settings.cache_control {
@@ -82,25 +76,31 @@ fn cache_control(
 /// Adds the headers of a reply of this status with the file at this path, in this coding.
 pub(crate) fn add_headers(
     alloc: Global,
-    headers: HeaderMap<HeaderValue>,
+    headers: &mut HeaderMap<HeaderValue>,
     settings: &FolderSettings,
     path: &str,
     coding: FileCoding,
     status: StatusCode,
-) -> Result<HeaderMap<HeaderValue>, NoMemory>
-    ensures { IfOk result (λ added.
-        added ≡ added_headers settings.now path.now coding status headers) }
+) -> Result<(), NoMemory>
+    ensures { OnOk result (headers.new
+        ≡ added_headers settings.now path.now coding status headers.old) }
 {
     let content = has_content(status);
-    let nosniff = HeaderValue::from_static("nosniff");
     let shown = disposition(alloc, content && settings.dispositions, path)?;
     let kept = cache_control(is_kept(status), settings)?;
-    let vary = HeaderValue::from_static("accept-encoding");
-    let mut headers = headers;
-    put(&mut headers, CONTENT_ENCODING, if_allowed(content, coding.value()))?;
-    put(&mut headers, CONTENT_DISPOSITION, shown)?;
-    put(&mut headers, X_CONTENT_TYPE_OPTIONS, if_allowed(content, Some(nosniff)))?;
-    put(&mut headers, CACHE_CONTROL, kept)?;
-    put(&mut headers, VARY, if_allowed(settings.compressed, Some(vary)))?;
-    Ok(headers)
+    let nosniff = Some(HeaderValue::from_static("nosniff"));
+    let vary = Some(HeaderValue::from_static("accept-encoding"));
+    put(
+        headers,
+        CONTENT_ENCODING,
+        if_allowed(content, coding.value()),
+    )?;
+    put(headers, CONTENT_DISPOSITION, shown)?;
+    put(
+        headers,
+        X_CONTENT_TYPE_OPTIONS,
+        if_allowed(content, nosniff),
+    )?;
+    put(headers, CACHE_CONTROL, kept)?;
+    put(headers, VARY, if_allowed(settings.compressed, vary))
 }

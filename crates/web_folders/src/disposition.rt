@@ -103,10 +103,7 @@ fn file_disposition(alloc: Global, path: &str) -> Result<ContentDisposition, NoM
 
 /// The value of Content-Disposition (RFC 6266) for the file at this path. None if its name can be
 /// in no header, as one with a line break.
-pub(crate) fn disposition_value(
-    alloc: Global,
-    path: &str,
-) -> Result<Option<HeaderValue>, NoMemory>
+pub(crate) fn disposition_value(alloc: Global, path: &str) -> Result<Option<HeaderValue>, NoMemory>
     ensures { IfOk result (λ value. value ≡ disposition_value_lem path.now) }
 {
     let disposition = file_disposition(alloc, path)?;

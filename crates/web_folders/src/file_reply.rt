@@ -2,7 +2,6 @@
 ghost use Rattle.std.specs.Prelude.{◌≡◌, IfOk};
 ghost use Rattle.web_docs.specs.DescribedReplies.{IsWithin};
 ghost use Rattle.web_folders.specs.FileReplies.{IsFileReply, file_body as file_body_lem};
-ghost use Rattle.web_folders.specs.FileReplies.{file_reply as file_reply_lem};
 
 use crate::added_headers::add_headers;
 use crate::body::{FilePart, FolderBody};
@@ -12,7 +11,6 @@ use crate::settings::FolderSettings;
 use http::{Method, StatusCode};
 use http_header::{HeaderMap, HeaderValue};
 use std::alloc::Global;
-use std::mem;
 use web_docs::{Sends, answer_described};
 use web_reply::HttpResponse;
 use web_texts::NoMemory;
@@ -43,11 +41,6 @@ fn file_body<F: Drop>(file: F, size: u64, status: StatusCode, sends: Sends) -> F
     }
 }
 
-/// The headers of a response, which are taken out of it.
-fn take_headers<B>(reply: &mut HttpResponse<B>, alloc: Global) -> HeaderMap<HeaderValue> {
-    mem::replace(reply.headers_mut(), HeaderMap::empty(alloc))
-}
-
 /// The reply to a request of this method and these headers with an open file, which is stored in
 /// this coding. The path says its media type and its name.
 pub(crate) fn file_reply<F: Drop>(
@@ -68,8 +61,6 @@ pub(crate) fn file_reply<F: Drop>(
     let status = reply.status();
     let body = file_body(file, facts.length, status, *reply.body());
     let mut reply = reply.set_body(body);
-    let said = take_headers(&mut reply, alloc);
-    let added = add_headers(alloc, said, settings, path, coding, status)?;
-    *reply.headers_mut() = added;
+    add_headers(alloc, reply.headers_mut(), settings, path, coding, status)?;
     Ok(reply)
 }

@@ -1,18 +1,17 @@
 //! A folder that is served.
 ghost use Rattle.std.specs.Prelude.{◌≡◌, IfOk};
 ghost use Rattle.web_request.specs.Head.{head_path, head_query};
-ghost use Rattle.web_paths.specs.PathsBelow.{child_of, joined};
-ghost use Rattle.web_folders.specs.FolderReplies.{IsFolderReply, IsIndexReply, ListsFolder};
-ghost use Rattle.web_folders.specs.FolderReplies.{RepliesWithFolder, SendsFileAt};
-ghost use Rattle.web_folders.specs.FolderReplies.{is_read as is_read_lem};
+ghost use Rattle.web_folders.specs.FolderReplies.{IsFolderReply, ListsFolder, RepliesWithFolder};
+ghost use Rattle.web_folders.specs.FolderReplies.{RepliesWithIndex, SendsBelow, SendsFileAt};
+ghost use Rattle.web_folders.specs.FolderReplies.{SendsFound, index_of, is_read as is_read_lem};
 
 use crate::body::FolderBody;
 use crate::folder_files::{FolderFiles, Found, OpenedFile};
 use crate::listing::{listing_page, sorted};
 use crate::offers::CodingOffers;
-use crate::plain_replies::{is_read, listing, moved, no_such_method, not_found};
+use crate::plain_replies::{failed, is_read, listing, moved, no_such_method, not_found};
 use crate::settings::FolderSettings;
-use crate::variants::{find_file, send_file};
+use crate::variants::{file_in, send_file};
 use http::Method;
 use http_header::{HeaderMap, HeaderValue};
 use std::alloc::Global;
@@ -105,34 +104,35 @@ impl<F: FolderFiles> Folder<F> {
         )
     }
 
-    /// The reply with the `index.html` of a folder, or with its list.
-    fn index_reply(
+    /// The reply with the index at this place, or with the list of the folder.
+    fn send_index(
         &self,
         alloc: Global,
         method: &Method,
         headers: &HeaderMap<HeaderValue>,
         path: &Below,
         folder: &F::Folder,
+        place: Option<Below>,
     ) -> Result<HttpResponse<FolderBody<F::File>>, NoMemory>
-        ensures { IfOk result (λ reply. IsIndexReply (F.finds self.now.files)
+        ensures { IfOk result (λ reply. RepliesWithIndex (F.finds self.now.files)
             (F.lists self.now.files) self.now.settings
-            (record { method = method.now; headers = headers.now }) path.now folder.now reply) }
+            (record { method = method.now; headers = headers.now }) path.now folder.now place
+            reply) }
     {
+        let files = &self.files;
         let settings = &self.settings;
-        let place = path.child(alloc, "index.html", settings.hidden)?;
-        let index = find_file(alloc, &self.files, &place)?;
-        match (&place, index) {
-            (Some(place), Some(index)) => send_file(
-                alloc,
-                &self.files,
-                settings,
-                &self.offers,
-                method,
-                headers,
-                place,
-                index,
-            ),
-            _ => list_folder(alloc, &self.files, settings, method, headers, path, folder),
+        let Some(place) = place else {
+            return list_folder(alloc, files, settings, method, headers, path, folder);
+        };
+        let found = files.find(alloc, &place)?;
+        match file_in(found) {
+            Some(index) => {
+                let offers = &self.offers;
+                send_file(
+                    alloc, files, settings, offers, method, headers, &place, index,
+                )
+            }
+            None => list_folder(alloc, files, settings, method, headers, path, folder),
         }
     }
 
@@ -140,7 +140,8 @@ impl<F: FolderFiles> Folder<F> {
     fn folder_reply(
         &self,
         alloc: Global,
-        target: (&str, &str),
+        target: &str,
+        query: &str,
         method: &Method,
         headers: &HeaderMap<HeaderValue>,
         path: &Below,
@@ -148,7 +149,7 @@ impl<F: FolderFiles> Folder<F> {
     ) -> Result<HttpResponse<FolderBody<F::File>>, NoMemory>
         ensures { IfOk result (λ reply. RepliesWithFolder (F.finds self.now.files)
             (F.lists self.now.files) self.now.settings
-            (record { path = target.0.now; query = target.1.now })
+            (record { path = target.now; query = query.now })
             (record { method = method.now; headers = headers.now }) path.now folder.now
             (is_read_lem method.now) reply) }
     {
@@ -156,16 +157,66 @@ impl<F: FolderFiles> Folder<F> {
             return no_such_method(alloc);
         }
         if !path.ends_in_slash() {
-            return moved(alloc, target.0, target.1);
+            return moved(alloc, target, query);
         }
-        self.index_reply(alloc, method, headers, path, folder)
+        let place = path.child(alloc, "index.html", self.settings.hidden)?;
+        self.send_index(alloc, method, headers, path, folder, place)
+    }
+
+    /// The reply with what was found at a path.
+    fn send_found(
+        &self,
+        alloc: Global,
+        target: &str,
+        query: &str,
+        method: &Method,
+        headers: &HeaderMap<HeaderValue>,
+        path: &Below,
+        found: Found<F::File, F::Folder>,
+    ) -> Result<HttpResponse<FolderBody<F::File>>, NoMemory>
+        ensures { IfOk result (λ reply. SendsFound (F.finds self.now.files)
+            (F.lists self.now.files) self.now.settings
+            (record { path = target.now; query = query.now })
+            (record { method = method.now; headers = headers.now }) path.now found reply) }
+    {
+        match found {
+            Found::File(opened) => self.send_at(alloc, method, headers, path, opened),
+            Found::Folder(folder) => {
+                self.folder_reply(alloc, target, query, method, headers, path, &folder)
+            }
+            Found::Nothing => Ok(not_found(alloc)),
+            Found::Failed => Ok(failed(alloc)),
+        }
+    }
+
+    /// The reply with what is at a path, or 404 if there is no path.
+    fn send_below(
+        &self,
+        alloc: Global,
+        target: &str,
+        query: &str,
+        method: &Method,
+        headers: &HeaderMap<HeaderValue>,
+        below: Option<Below>,
+    ) -> Result<HttpResponse<FolderBody<F::File>>, NoMemory>
+        ensures { IfOk result (λ reply. SendsBelow (F.finds self.now.files)
+            (F.lists self.now.files) self.now.settings
+            (record { path = target.now; query = query.now })
+            (record { method = method.now; headers = headers.now }) below reply) }
+    {
+        let Some(path) = below else {
+            return Ok(not_found(alloc));
+        };
+        let found = self.files.find(alloc, &path)?;
+        self.send_found(alloc, target, query, method, headers, &path, found)
     }
 
     /// Answers a request for what its path names in this folder. The path is that of the target,
     /// or of a folder served at a path of its own what is left of it after that; it has to come as
     /// it was sent, and begins with a slash.
     ///
-    /// 1. 404 if the path names nothing below the folder (`Below::of_path`), or there is nothing.
+    /// 1. 404 if the path names nothing below the folder (`Below::of_path`), or there is nothing,
+    ///    and 500 if the system failed to say what is there.
     /// 2. For a file the reply of `web_docs::answer_described`, with the headers that the settings
     ///    add. With `compressed` it is that of a file beside it which the client prefers.
     /// 3. For a folder 405 if the method does not read, a 301 to the path with a slash and the same
@@ -185,18 +236,10 @@ impl<F: FolderFiles> Folder<F> {
             (record { path = head_path head; query = head_query head })
             (record { method = head.method; headers = head.headers }) path.now reply) }
     {
-        let (method, headers) = (req.method(), req.headers());
-        let Some(below) = Below::of_path(alloc, path, self.settings.hidden)? else {
-            return Ok(not_found(alloc));
-        };
-        match self.files.find(alloc, &below)? {
-            Found::File(opened) => self.send_at(alloc, method, headers, &below, opened),
-            Found::Folder(folder) => {
-                let target = (req.path(), req.query_string());
-                self.folder_reply(alloc, target, method, headers, &below, &folder)
-            }
-            Found::Nothing => Ok(not_found(alloc)),
-        }
+        let below = Below::of_path(alloc, path, self.settings.hidden)?;
+        let target = req.path();
+        let query = req.query_string();
+        self.send_below(alloc, target, query, req.method(), req.headers(), below)
     }
 
     /// Answers a request for what the path of its target names in this folder, as `answer_at` does.

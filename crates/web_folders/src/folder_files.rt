@@ -3,6 +3,7 @@ ghost use Rattle.std.specs.Prelude.{IfOk, List, Option};
 ghost use Rattle.std.specs.Option.{option_map};
 ghost use Rattle.web_paths.specs.PathsBelow.{NamesBelow};
 ghost use Rattle.web_folders.specs.declared.entry.FolderEntry.{FolderEntry as Entry};
+ghost use Rattle.web_folders.specs.declared.folder_files.Found.{Found as FoundOf};
 
 use crate::entry::FolderEntry;
 use crate::facts::FileFacts;
@@ -27,6 +28,8 @@ pub enum Found<F, D> {
     Folder(D),
     /// Nothing that is served: also a pipe, a socket or a device.
     Nothing,
+    /// It could not be found out, since the system failed.
+    Failed,
 }
 
 /// The files of a folder. A reply is made of what these calls return, and they get a `Below`
@@ -41,16 +44,12 @@ pub trait FolderFiles {
     /// A folder that was found.
     type Folder: Drop;
 
-    ghost finds: { Self → NamesBelow → Found Self.File Self.Folder → Type 0 };
+    ghost finds: { Self → NamesBelow → FoundOf Self.File Self.Folder → Type 0 };
 
     ghost lists: { Self → Self.Folder → Option (List Entry) → Type 0 };
 
     /// Opens what is at a path. It returns `NoMemory` if an allocation failed.
-    fn find(
-        &self,
-        alloc: Global,
-        path: &Below,
-    ) -> Result<Found<Self::File, Self::Folder>, NoMemory>
+    fn find(&self, alloc: Global, path: &Below) -> Result<Found<Self::File, Self::Folder>, NoMemory>
         ensures { IfOk result (λ found. finds self.now path.now found) };
 
     /// The files and folders in a folder that was found, in any order. `None` if it cannot be

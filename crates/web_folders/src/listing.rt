@@ -16,8 +16,13 @@ use web_texts::NoMemory;
 
 /// What is escaped in a link: all but letters, digits, `-`, `.`, `_` and `~`. So no name has a
 /// colon there, which would end a scheme.
-const LINK_ESCAPES: AsciiSet =
-    ascii_set!(NON_ALPHANUMERIC.remove(b'-').remove(b'.').remove(b'_').remove(b'~'));
+const LINK_ESCAPES: AsciiSet = ascii_set!(
+    NON_ALPHANUMERIC
+        .remove(b'-')
+        .remove(b'.')
+        .remove(b'_')
+        .remove(b'~')
+);
 
 /// A character as it stands in HTML, also within the quotes of an attribute, or `None` if it
 /// stands for itself.
@@ -55,7 +60,6 @@ fn push_escaped(page: &mut String, text: &str) -> Result<(), NoMemory>
     Ok(())
 }
 
-
 fn slash_if(is_folder: bool) -> &'static str
     ensures { result.now ≡ slash_if_lem is_folder }
 {
@@ -78,11 +82,7 @@ fn push_entry(page: &mut String, entry: &FolderEntry) -> Result<(), NoMemory>
 }
 
 /// Adds the line of an entry, if its name may be served.
-fn push_allowed(
-    page: &mut String,
-    hidden: HiddenNames,
-    entry: &FolderEntry,
-) -> Result<(), NoMemory>
+fn push_allowed(page: &mut String, hidden: HiddenNames, entry: &FolderEntry) -> Result<(), NoMemory>
     ensures { OnOk result
         (string_bytes page.new ≡ string_bytes page.old ++ allowed_line hidden entry.now) }
 {
@@ -145,7 +145,8 @@ pub(crate) fn listing_page(
     hidden: HiddenNames,
     entries: &[FolderEntry],
 ) -> Result<String, NoMemory>
-    ensures { IfOk result (λ page. string_bytes page ≡ listing_page_lem path.now hidden entries.now) }
+    ensures { IfOk result (λ page.
+        string_bytes page ≡ listing_page_lem path.now hidden entries.now) }
 {
     let mut page = String::new(alloc);
     push_head(&mut page, path)?;

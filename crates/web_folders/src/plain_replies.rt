@@ -1,7 +1,8 @@
 //! Replies without a file.
 ghost use Rattle.std.specs.Prelude.{◌≡◌, IfOk, string_bytes};
 ghost use Rattle.web_docs.specs.DescribedReplies.{reply_with};
-ghost use Rattle.web_folders.specs.FolderReplies.{is_read as is_read_lem, listing_reply};
+ghost use Rattle.web_folders.specs.FolderReplies.{failed as failed_lem, is_read as is_read_lem};
+ghost use Rattle.web_folders.specs.FolderReplies.{listing_reply};
 ghost use Rattle.web_folders.specs.FolderReplies.{moved_reply, not_found as not_found_lem};
 ghost use Rattle.web_folders.specs.FolderReplies.{no_such_method as no_such_method_lem};
 ghost use Rattle.web_folders.specs.FolderReplies.{page_body as page_body_lem};
@@ -46,6 +47,13 @@ pub(crate) fn not_found<F: Drop>(alloc: Global) -> HttpResponse<FolderBody<F>>
     HttpResponse::with_body(alloc, StatusCode::NOT_FOUND, FolderBody::Empty)
 }
 
+/// An empty 500.
+pub(crate) fn failed<F: Drop>(alloc: Global) -> HttpResponse<FolderBody<F>>
+    ensures { result ≡ failed_lem }
+{
+    HttpResponse::with_body(alloc, StatusCode::INTERNAL_SERVER_ERROR, FolderBody::Empty)
+}
+
 /// Whether a method reads: GET and HEAD do.
 pub(crate) fn is_read(method: &Method) -> bool
     ensures { result ≡ is_read_lem method.now }
@@ -60,8 +68,17 @@ pub(crate) fn no_such_method<F: Drop>(
     ensures { IfOk result (λ reply. reply ≡ no_such_method_lem) }
 {
     let mut headers = HeaderMap::empty(alloc);
-    put(&mut headers, ALLOW, Some(HeaderValue::from_static("GET, HEAD")))?;
-    Ok(response(alloc, StatusCode::METHOD_NOT_ALLOWED, headers, FolderBody::Empty))
+    put(
+        &mut headers,
+        ALLOW,
+        Some(HeaderValue::from_static("GET, HEAD")),
+    )?;
+    Ok(response(
+        alloc,
+        StatusCode::METHOD_NOT_ALLOWED,
+        headers,
+        FolderBody::Empty,
+    ))
 }
 
 /// The path with a slash after it, and the query.
@@ -91,7 +108,12 @@ pub(crate) fn moved<F: Drop>(
         Ok(location) => {
             let mut headers = HeaderMap::empty(alloc);
             put(&mut headers, LOCATION, Some(location))?;
-            Ok(response(alloc, StatusCode::MOVED_PERMANENTLY, headers, FolderBody::Empty))
+            Ok(response(
+                alloc,
+                StatusCode::MOVED_PERMANENTLY,
+                headers,
+                FolderBody::Empty,
+            ))
         }
         Err(HeaderValueError::Invalid) => Ok(not_found(alloc)),
         Err(HeaderValueError::OutOfMemory) => Err(NoMemory),

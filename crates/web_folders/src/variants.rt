@@ -20,17 +20,17 @@ use web_reply::HttpResponse;
 use web_texts::NoMemory;
 
 /// A file that was found, and nothing of a folder.
-fn file_in<F: Drop, D: Drop>(found: Found<F, D>) -> Option<OpenedFile<F>>
+pub(crate) fn file_in<F: Drop, D: Drop>(found: Found<F, D>) -> Option<OpenedFile<F>>
     ensures { result ≡ file_in_lem found }
 {
     match found {
         Found::File(opened) => Some(opened),
-        Found::Folder(_) | Found::Nothing => None,
+        Found::Folder(_) | Found::Nothing | Found::Failed => None,
     }
 }
 
 /// The file at a path, if there is a path and a file.
-pub(crate) fn find_file<F: FolderFiles>(
+fn find_file<F: FolderFiles>(
     alloc: Global,
     files: &F,
     path: &Option<Below>,
@@ -93,7 +93,15 @@ fn variant_reply<F: FolderFiles>(
     let gzip = find_beside(alloc, files, path, ".gz")?;
     let coding = offers.coding_for(alloc, headers, brotli.is_some(), gzip.is_some())?;
     let (coding, sent) = sent_file(coding, plain, brotli, gzip);
-    file_reply(alloc, settings, method, headers, path.as_str(), coding, sent)
+    file_reply(
+        alloc,
+        settings,
+        method,
+        headers,
+        path.as_str(),
+        coding,
+        sent,
+    )
 }
 
 fn asks_for_coding(headers: &HeaderMap<HeaderValue>) -> bool
@@ -120,5 +128,13 @@ pub(crate) fn send_file<F: FolderFiles>(
         return variant_reply(alloc, files, settings, offers, method, headers, path, plain);
     }
     let coding = FileCoding::Identity;
-    file_reply(alloc, settings, method, headers, path.as_str(), coding, plain)
+    file_reply(
+        alloc,
+        settings,
+        method,
+        headers,
+        path.as_str(),
+        coding,
+        plain,
+    )
 }

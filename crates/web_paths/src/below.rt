@@ -135,8 +135,12 @@ fn with_name(alloc: Global, names: &str, name: &str) -> Result<String, NoMemory>
 fn are_names(text: &str) -> bool
     ensures { result ≡ list_all (is_file_name_lem HiddenNames.Allowed) (segments text.now) }
 {
-    text.split('/')
-        .all(|name| is_file_name(name.as_bytes(), HiddenNames::Allowed))
+    for name in text.split('/') {
+        if !is_file_name(name.as_bytes(), HiddenNames::Allowed) {
+            return false;
+        }
+    }
+    true
 }
 
 impl Below {
