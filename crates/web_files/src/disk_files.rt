@@ -64,7 +64,7 @@ fn descriptor_path<F: AsRawFd>(alloc: Global, file: &F) -> Result<String, NoMemo
     Ok(format!(in alloc; "/proc/self/fd/{fd}")?)
 }
 
-impl<R: Files + Alloc<A = Global>> DiskFiles<R> {
+impl<R: Files + Alloc<A = Global> + Drop> DiskFiles<R> {
     /// The files of the folder at this path, which may be reached by links.
     ///
     /// # Errors
@@ -143,7 +143,7 @@ impl<R: Files + Alloc<A = Global>> DiskFiles<R> {
 }
 
 /// What an open file is, by what it says of itself.
-fn found<F>(file: F, metadata: &Metadata) -> Found<F, F> {
+fn found<F: Drop>(file: F, metadata: &Metadata) -> Found<F, F> {
     if metadata.is_dir() {
         return Found::Folder(file);
     }

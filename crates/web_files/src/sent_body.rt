@@ -6,12 +6,17 @@ use std::io::{Read, Seek, SeekFrom};
 use web_body::Payload;
 use web_folders::{FilePart, FolderBody};
 use web_reply::{BoxBody, HttpResponse};
+use web_request::Source;
 use web_texts::NoMemory;
 
 /// More bytes than any file has.
 const TOO_MANY: u64 = 1 << 63;
 
-fn sized<S>(alloc: Global, count: u64, payload: Payload<S>) -> Result<BoxBody<S>, NoMemory> {
+fn sized<S: Source>(
+    alloc: Global,
+    count: u64,
+    payload: Payload<S>,
+) -> Result<BoxBody<S>, NoMemory> {
     Ok(BoxBody::Sized(count, Box::new(alloc, payload)?))
 }
 

@@ -62,7 +62,7 @@ fn list_folder<F: FolderFiles>(
     listing(alloc, method, page)
 }
 
-impl<F: FolderFiles> Folder<F> {
+impl<F: FolderFiles + Drop> Folder<F> {
     /// A folder with these files. Returns `NoMemory` if an allocation failed.
     pub fn new(alloc: Global, files: F, settings: FolderSettings) -> Result<Folder<F>, NoMemory>
         ensures { IfOk result (λ folder.

@@ -75,7 +75,7 @@ fn media_type_in(rows: &[(&'static str, &'static str)], extension: &str) -> &'st
     ensures visible { IsTrue (is_visible_text result.now) }
 {
     let mut rest = rows;
-    while let Some((row, later)) = rest.split_first() {
+    'rows: while let Some((row, later)) = rest.split_first() {
         if extension.eq_ignore_ascii_case(row.0) {
             return row.1;
         }

@@ -1,7 +1,8 @@
 -- Lemmas on a name more, and on a text after the last name.
-use Rattle.std.proofs.Common.{◌≡◌, ◌∙◌, ℕ, ◌==◌, ◌&&◌, ◌<◌, Bool, true, false, not, List, [], ◌∷◌, ◌++◌, map, length, get_or, Bor, sym, ap, refl, absurd, append_assoc, Option, None, Some, if◌then◌else◌, arith}
+use Rattle.std.proofs.Common.{◌≡◌, ◌∙◌, ℕ, ◌==◌, ◌&&◌, ◌<◌, Bool, true, false, not, List, [], ◌∷◌, ◌++◌, map, length, get_or, Bor, sym, ap, refl, append_assoc, Option, None, Some, if◌then◌else◌, arith}
 use Rattle.std.specs.List.{list_all, All}
 use Rattle.std.proofs.lemmas.Bool.{true≢false, and_parts, and_from, and_left, and_right, not-true, eqb-true, eqb-false}
+use Rattle.std.proofs.Math.Dec.{eqb-suc-zero}
 use Rattle.std.proofs.lemmas.List.{map-append}
 use Rattle.std.proofs.lemmas.List.Folds.{list_all-append, list_all-map, list_all_at}
 use Rattle.std.proofs.lemmas.List.Elements.{All-nil, All-cons}
@@ -151,7 +152,7 @@ names_in-none (b ∷ rest) h = absurd (omega (arith, eqb-true (length (b ∷ res
 
 append-some : (text ending : List ℕ) → (length text == 0) ≡ false → (length (text ++ ending) == 0) ≡ false
 append-some [] ending h = absurd (true≢false h)
-append-some (b ∷ rest) ending h = refl
+append-some (b ∷ rest) ending h = eqb-suc-zero (length (rest ++ ending))
 
 -- what the text with an ending comes to
 pub segments-text : (text ending : List ℕ) → (length text == 0) ≡ false → list_all (is_file_name Allowed) (names_in text) ≡ true → list_all is_name_byte ending ≡ true → segments (text ++ ending) ≡ with_ending (names_in text) ending

@@ -11,7 +11,7 @@ returns c =
     elim c.if-is_empty.branch [
       | then-is_empty+in_ok-push_str w ↦
           let e = one_more-none names name (sym c.is_empty.ensures ∙ w.if-is_empty.true) in
-          cc (e, start, w.in_ok-push_str.ensures, w.text-is)
+          cc (e, start, w.in_ok-push_str.ensures.bytes, w.text-is)
       | else-is_empty+in_ok-push_slashed w ↦
           let e = one_more-slash names name (sym c.is_empty.ensures ∙ w.if-is_empty.false) in
           cc (e, start, w.in_ok-push_slashed.ensures, w.text-is)
