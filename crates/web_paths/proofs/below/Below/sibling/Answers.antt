@@ -13,15 +13,15 @@ returns-then-is_empty c =
     let view = ap (λ v. v.names) c.self.view_is in
     elim c.then-is_empty.branch [
       | then-is_empty-via-then-is_empty w ↦
-          sibling-none c.args.self.now c.args.ending.now (sym view ∙ names_in-none text (sym c.is_empty.ensures ∙ w.if-is_empty.true))
+          sibling-none c.args.self.now c.args.ending.now (sym view ∙ names_in-none text (ap (λ n. n == 0) (sym c.self.inside.path.bytes.ok.0) ∙ sym c.is_empty.ensures ∙ w.if-is_empty.true))
       | then-is_empty-via-else-is_empty+then-not-has_name_bytes w ↦
-          sibling-bytes c.args.self.now (names_in text) c.args.ending.now (sym view) (names_in-some text (sym c.is_empty.ensures ∙ w.if-is_empty.false)) (ap (list_all is_name_byte) (sym w.as_bytes.ensures.value) ∙ sym w.has_name_bytes.ensures ∙ w.if-not-has_name_bytes.true)
+          sibling-bytes c.args.self.now (names_in text) c.args.ending.now (sym view) (names_in-some text (ap (λ n. n == 0) (sym c.self.inside.path.bytes.ok.0) ∙ sym c.is_empty.ensures ∙ w.if-is_empty.false)) (ap (list_all is_name_byte) (sym w.as_bytes.ensures.value) ∙ sym w.has_name_bytes.ensures ∙ w.if-not-has_name_bytes.true)
     ]
 
 pub returns-then-not-are_names : goal.returns-then-not-are_names
 returns-then-not-are_names c =
     let text = string_bytes c.self.inside.path in
-    let some : (length text == 0) ≡ false = sym c.is_empty.ensures ∙ c.if-is_empty.false in
+    let some : (length text == 0) ≡ false = ap (λ n. n == 0) (sym c.self.inside.path.bytes.ok.0) ∙ sym c.is_empty.ensures ∙ c.if-is_empty.false in
     let plain = ap (list_all is_name_byte) (sym c.as_bytes.ensures.value) ∙ sym c.has_name_bytes.ensures ∙ c.if-not-has_name_bytes.false in
     let is : string_bytes c.push_str.new.self ≡ text ++ c.args.ending.now = c.in_ok-push_str.ensures.bytes ∙ ap (λ t. t ++ c.args.ending.now) (c.in_ok-path.ensures.ok ∙ c.as_str.ensures.value) in
     let all = segments-text text c.args.ending.now some c.self.invariant plain in
@@ -31,7 +31,7 @@ returns-then-not-are_names c =
 pub invariant_of-result : goal.invariant_of-result
 invariant_of-result c =
     let text = string_bytes c.self.inside.path in
-    let some : (length text == 0) ≡ false = sym c.is_empty.ensures ∙ c.if-is_empty.false in
+    let some : (length text == 0) ≡ false = ap (λ n. n == 0) (sym c.self.inside.path.bytes.ok.0) ∙ sym c.is_empty.ensures ∙ c.if-is_empty.false in
     let plain = ap (list_all is_name_byte) (sym c.as_bytes.ensures.value) ∙ sym c.has_name_bytes.ensures ∙ c.if-not-has_name_bytes.false in
     let is : string_bytes c.push_str.new.self ≡ text ++ c.args.ending.now = c.in_ok-push_str.ensures.bytes ∙ ap (λ t. t ++ c.args.ending.now) (c.in_ok-path.ensures.ok ∙ c.as_str.ensures.value) in
     let all = segments-text text c.args.ending.now some c.self.invariant plain in
@@ -41,7 +41,7 @@ invariant_of-result c =
 pub returns : goal.returns
 returns c =
     let text = string_bytes c.self.inside.path in
-    let some : (length text == 0) ≡ false = sym c.is_empty.ensures ∙ c.if-is_empty.false in
+    let some : (length text == 0) ≡ false = ap (λ n. n == 0) (sym c.self.inside.path.bytes.ok.0) ∙ sym c.is_empty.ensures ∙ c.if-is_empty.false in
     let plain = ap (list_all is_name_byte) (sym c.as_bytes.ensures.value) ∙ sym c.has_name_bytes.ensures ∙ c.if-not-has_name_bytes.false in
     let is : string_bytes c.push_str.new.self ≡ text ++ c.args.ending.now = c.in_ok-push_str.ensures.bytes ∙ ap (λ t. t ++ c.args.ending.now) (c.in_ok-path.ensures.ok ∙ c.as_str.ensures.value) in
     let all = segments-text text c.args.ending.now some c.self.invariant plain in
