@@ -104,8 +104,8 @@ pub record IsVariantReply {F D : Type 0} (finds : NamesBelow → Found F D → T
   pub finds_gzip : FindsFile finds (sibling_of path (codes ".gz")) gzip
   pub coding : FileCoding
   pub sends : SendsCoding asked.headers (is_some brotli) (is_some gzip) coding
-  pub is : let sent = sent_file coding plain brotli gzip in
-      IsFileReply s asked.method asked.headers (joined path.names) sent.0 sent.1 reply
+  pub is : IsFileReply s asked.method asked.headers (joined path.names)
+      (sent_file coding plain brotli gzip).0 (sent_file coding plain brotli gzip).1 reply
 
 abbrev pub is_some_value : List (List ℕ) → Bool
 is_some_value [] = false

@@ -87,6 +87,7 @@ fn media_type_in(rows: &[(&'static str, &'static str)], extension: &str) -> &'st
 /// The media type of the file at this path, by the text after the last dot: the first row of
 /// `MEDIA_TYPES` with that extension, in any ASCII case, and `application/octet-stream` if there
 /// is none.
+#[tactic(auto, unfolding(crate::specs::FileMediaTypes::media_type_of))]
 pub fn media_type_of(path: &str) -> &'static str
     ensures value { result.now ≡ media_type_lem path.now }
     ensures visible { IsTrue (is_visible_text result.now) }
