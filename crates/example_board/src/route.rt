@@ -1,0 +1,41 @@
+//! What the board has under which path.
+use http_header::HeaderValue;
+use web_texts::read_digits;
+
+/// The greatest number of an item.
+const MOST_ID: u64 = 9_223_372_036_854_775_807;
+
+/// What is there under a path.
+#[derive(Clone, Copy, Debug, PartialEq, Eq)]
+pub enum Route {
+    Home,
+    Form,
+    Items,
+    /// The item of this number.
+    Item(i64),
+}
+
+impl Route {
+    /// The route of a path, or `None`.
+    pub fn of(path: &str) -> Option<Route> {
+        match path {
+            "/" => Some(Route::Home),
+            "/form" => Some(Route::Form),
+            "/items" => Some(Route::Items),
+            _ => {
+                let id = read_digits(path.strip_prefix("/items/")?, MOST_ID)?;
+                Some(Route::Item(id as i64))
+            }
+        }
+    }
+
+    /// The methods that it takes, as the header Allow lists them.
+    pub fn allowed(self) -> HeaderValue {
+        match self {
+            Route::Home => HeaderValue::from_static("GET, HEAD"),
+            Route::Form => HeaderValue::from_static("POST"),
+            Route::Items => HeaderValue::from_static("GET, HEAD, POST"),
+            Route::Item(_) => HeaderValue::from_static("GET, HEAD, PUT, DELETE"),
+        }
+    }
+}
