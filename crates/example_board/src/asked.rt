@@ -3,7 +3,7 @@ ghost use Rattle.std.specs.Prelude.{◌≡◌, ◌⊎◌};
 
 use crate::extracted::extracted;
 use crate::position::Position;
-use crate::refusals::{as_json, no_such_method, no_such_path};
+use crate::refusals::{no_such_method, no_such_path};
 use crate::route::Route;
 use crate::site::Site;
 use board_store::{Ask, Draft};
@@ -17,21 +17,11 @@ use web_reply::Error;
 use web_request::HttpRequest;
 use web_texts::{Fail, NoMemory};
 
-/// How an answer is shown.
-#[derive(Clone, Copy, Debug, PartialEq, Eq)]
-pub enum View {
-    /// A page with a form for another item.
-    Page,
-    Json,
-    /// A redirect to the page, or the form as it was sent with what is refused of it.
-    Form,
-}
-
-/// What a request asks of the board, and how the answer is shown: an argument of handlers.
+/// What a request asks of the board, and under which path: an argument of handlers.
 #[derive(Debug, Drop)]
 pub struct Asked {
+    pub route: Route,
     pub ask: Ask,
-    pub view: View,
 }
 
 fn position(
@@ -67,10 +57,6 @@ fn form_draft(
     Ok(draft)
 }
 
-fn is_read(method: &Method) -> bool {
-    *method == Method::GET || *method == Method::HEAD
-}
-
 /// What a request asks, or the error that it is refused with.
 fn asked_of(
     alloc: Global,
@@ -83,33 +69,26 @@ fn asked_of(
         return Err(Fail::Of(no_such_path(alloc)?));
     };
     let method = request.method();
-    let (ask, view) = match route {
-        Route::Home if is_read(method) => (position(alloc, request, payload)?, View::Page),
-        Route::Items if is_read(method) => (position(alloc, request, payload)?, View::Json),
-        Route::Item(id) if is_read(method) => (Ask::Get(id), View::Json),
-        Route::Item(id) if *method == Method::DELETE => (Ask::Delete(id), View::Json),
+    let reads = *method == Method::GET || *method == Method::HEAD;
+    let ask = match route {
+        Route::Home | Route::Items if reads => position(alloc, request, payload)?,
+        Route::Items if *method == Method::POST => Ask::Add(json_draft(alloc, request, payload)?),
+        Route::Item(id) if reads => Ask::Get(id),
         Route::Item(id) if *method == Method::PUT => {
-            let draft = json_draft(alloc, request, payload)?;
-            (Ask::Update(id, draft), View::Json)
+            Ask::Update(id, json_draft(alloc, request, payload)?)
         }
-        Route::Items if *method == Method::POST => {
-            let draft = json_draft(alloc, request, payload)?;
-            (Ask::Add(draft), View::Json)
-        }
-        Route::Form if *method == Method::POST => {
-            let draft = form_draft(alloc, request, payload)?;
-            (Ask::Add(draft), View::Form)
-        }
+        Route::Item(id) if *method == Method::DELETE => Ask::Delete(id),
+        Route::Form if *method == Method::POST => Ask::Add(form_draft(alloc, request, payload)?),
         _ => return Err(Fail::Of(no_such_method(alloc, route)?)),
     };
-    Ok(Asked { ask, view })
+    Ok(Asked { route, ask })
 }
 
 impl FromRequest<Site> for Asked {
     ghost use Rattle.std.specs.Prelude.{◌≡◌, pos, Ok, ⊤};
     ghost use Rattle.web_extract.specs.SomeAnswer.{itself};
     ghost use Rattle.board_store.specs.declared.ask.Ask.TheVariants.{Get};
-    ghost use Rattle.example_board.specs.declared.asked.View.TheVariants.{Json as AsJson};
+    ghost use Rattle.example_board.specs.declared.route.Route.TheVariants.{Items};
 
     type Error = Error;
 
@@ -118,7 +97,7 @@ impl FromRequest<Site> for Asked {
     ghost means = { λ q m rest n x. ⊤ };
 
     ghost some = { λ q m none.
-        none m 0 (Ok (record { ask = Get (pos 0); view = AsJson })) tt };
+        none m 0 (Ok (record { route = Items; ask = Get (pos 0) })) tt };
 
     ghost converted = { itself };
 
@@ -129,7 +108,7 @@ impl FromRequest<Site> for Asked {
     ) -> Result<Ready<Result<Asked, Error>>, NoMemory> {
         match asked_of(alloc, request, payload) {
             Ok(asked) => Ok(Ready::new(Ok(asked))),
-            Err(Fail::Of(error)) => Ok(Ready::new(Err(as_json(alloc, error)?))),
+            Err(Fail::Of(error)) => Ok(Ready::new(Err(error))),
             Err(Fail::NoMemory) => Err(NoMemory),
         }
     }

@@ -21,15 +21,14 @@ impl<B> BoardHandler<B> {
     }
 }
 
-impl<B: BoardAccess> StateHandler<(Asked,)> for BoardHandler<B> {
+impl<B: BoardAccess> StateHandler<Asked> for BoardHandler<B> {
     ghost use Rattle.std.specs.Prelude.{⊤};
 
     type Output = Shown;
 
     ghost replies = { λ a v x b. ⊤ };
 
-    fn reply(&mut self, alloc: Global, args: (Asked,)) -> Result<Shown, NoMemory> {
-        let (asked,) = args;
+    fn reply(&mut self, alloc: Global, asked: Asked) -> Result<Shown, NoMemory> {
         match self.board.answer(alloc, &asked.ask) {
             Ok(told) => Ok(Shown {
                 asked,
@@ -45,12 +44,12 @@ impl<B: BoardAccess> StateHandler<(Asked,)> for BoardHandler<B> {
 }
 
 /// For the worker of a connection.
-impl<B: BoardAccess> Handler<(Asked,)> for BoardHandler<B> {
+impl<B: BoardAccess> Handler<Asked> for BoardHandler<B> {
     type Output = Shown;
 
     type Future = Ready<Shown>;
 
-    fn call(&mut self, alloc: Global, args: (Asked,)) -> Result<Ready<Shown>, NoMemory> {
-        Ok(Ready::new(self.reply(alloc, args)?))
+    fn call(&mut self, alloc: Global, asked: Asked) -> Result<Ready<Shown>, NoMemory> {
+        Ok(Ready::new(self.reply(alloc, asked)?))
     }
 }

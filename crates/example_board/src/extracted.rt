@@ -1,6 +1,7 @@
 //! Arguments of a route that is known.
 ghost use Rattle.std.specs.Prelude.{◌≡◌, ◌⊎◌};
 
+use crate::refusals::as_json;
 use crate::site::Site;
 use std::alloc::Global;
 use web_body::{Marks, Payload, Poll, Step};
@@ -11,7 +12,7 @@ use web_status::ErrorInternalServerError;
 use web_texts::Fail;
 
 /// An argument of a request whose body is complete, as each body of a connection is: it comes at
-/// the first poll.
+/// the first poll. A refusal is JSON.
 pub fn extracted<T: FromRequest<Site>>(
     alloc: Global,
     request: &HttpRequest<Site>,
@@ -22,7 +23,7 @@ pub fn extracted<T: FromRequest<Site>>(
     let mut future = T::from_request(alloc, request, payload)?;
     match future.poll(alloc) {
         Step::Ready(Ok(value)) => Ok(value),
-        Step::Ready(Err(error)) => Err(Fail::Of(error.into())),
+        Step::Ready(Err(error)) => Err(Fail::Of(as_json(alloc, error.into())?)),
         Step::Pending => {
             let error = ErrorInternalServerError(alloc, "the body is not complete")?;
             Err(Fail::Of(error))

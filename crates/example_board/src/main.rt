@@ -2,11 +2,12 @@
 //! bytes of one connection from standard input, and writes the replies to standard output.
 //!
 //! `example_board FILE`: the file is opened at the first request, and stays open.
-//! `example_board FILE each-time`: it is opened for each request.
+//! `example_board FILE --each-time`: it is opened for each request.
 #![tactic(auto)]
 
 mod asked;
 mod board_handler;
+mod command;
 mod extracted;
 mod page;
 mod position;
@@ -16,31 +17,25 @@ mod serving;
 mod shown;
 mod site;
 
-use crate::board_handler::BoardHandler;
-use crate::serving::serve;
-use anyhow::{Result, bail};
-use board_file::{BoardFile, Opening};
-use std::env;
+use crate::command::read_command;
+use crate::serving::serve_connection;
+use std::process::ExitCode;
 
-const USAGE: &str = "usage: example_board FILE [each-time]";
+const USAGE: &str = "usage: example_board FILE [--each-time] [--no-date]";
 
-fn opening_of(word: Option<String>) -> Option<Opening> {
-    match word {
-        None => Some(Opening::Once),
-        Some(word) if word.as_str() == "each-time" => Some(Opening::EachTime),
-        Some(_) => None,
+/// The status of a command line that is not understood.
+const USAGE_STATUS: u8 = 64;
+
+fn main(rt: HostRuntime) -> ExitCode {
+    match read_command(&rt) {
+        Ok(Some(command)) => match serve_connection(&rt, command) {
+            Ok(()) => ExitCode::SUCCESS,
+            Err(_) => ExitCode::FAILURE,
+        },
+        Ok(None) => match eprintln!(rt; "{USAGE}") {
+            Ok(()) => ExitCode::from(USAGE_STATUS),
+            Err(_) => ExitCode::FAILURE,
+        },
+        Err(_) => ExitCode::FAILURE,
     }
-}
-
-fn main(rt: HostRuntime) -> Result<()> {
-    let mut words = env::args(&rt)?;
-    let _name = words.next();
-    let Some(path) = words.next() else {
-        bail!("{USAGE}");
-    };
-    let Some(opening) = opening_of(words.next()) else {
-        bail!("{USAGE}");
-    };
-    let mut board = BoardHandler::new(BoardFile::new(rt, path, opening));
-    serve(rt.alloc(), &mut board, &mut rt.stdin(), &mut rt.stdout())
 }

@@ -10,6 +10,7 @@ const FRONT: &str = "<!doctype html>\n<html lang=\"en\">\n<meta charset=\"utf-8\
     <h1>Board</h1>\n";
 
 /// A page whose content is being written.
+#[derive(Drop)]
 struct Page {
     html: String,
 }

@@ -1,9 +1,10 @@
 //! Answers of the board as responses.
-use crate::asked::{Asked, View};
+use crate::asked::Asked;
 use crate::page::{form_page, listing_page};
 use crate::refusals::{insert, refused, status_of};
+use crate::route::Route;
 use crate::site::{Reply, Site};
-use board_store::{Ask, BoardError, Item, Told};
+use board_store::{Ask, BoardError, Draft, Item, Told};
 use http::StatusCode;
 use http_header::{CACHE_CONTROL, CONTENT_SECURITY_POLICY, HeaderValue, LOCATION, RETRY_AFTER};
 use std::alloc::Global;
@@ -28,7 +29,7 @@ pub struct Shown {
 fn page(alloc: Global, status: StatusCode, html: Text) -> Result<Reply, NoMemory> {
     let mut builder = HttpResponse::build(alloc, status);
     builder.content_type("text/html; charset=utf-8")?;
-    let mut reply = builder.take().body(html.into_string())?;
+    let mut reply: Reply = builder.take().body(html.into_string())?;
     let policy = HeaderValue::from_static(POLICY);
     insert(&mut reply, CONTENT_SECURITY_POLICY, policy)?;
     Ok(reply)
@@ -61,29 +62,31 @@ fn see_other(alloc: Global) -> Result<Reply, NoMemory> {
 fn done(alloc: Global, asked: &Asked, told: &Told) -> Result<Reply, NoMemory> {
     match told {
         Told::Deleted => empty(alloc, StatusCode::NO_CONTENT),
-        Told::Listing(listing) => match asked.view {
-            View::Page => page(alloc, StatusCode::OK, listing_page(alloc, listing)?),
-            View::Json | View::Form => HttpResponse::build(alloc, StatusCode::OK).json(listing),
+        Told::Listing(listing) => match asked.route {
+            Route::Home => page(alloc, StatusCode::OK, listing_page(alloc, listing)?),
+            _ => HttpResponse::build(alloc, StatusCode::OK).json(listing),
         },
-        Told::Item(item) => match (asked.view, &asked.ask) {
-            (View::Form, _) => see_other(alloc),
-            (_, Ask::Add(_)) => created(alloc, item),
+        Told::Item(item) => match &asked.ask {
+            Ask::Add(_) if asked.route == Route::Form => see_other(alloc),
+            Ask::Add(_) => created(alloc, item),
             _ => HttpResponse::build(alloc, StatusCode::OK).json(item),
         },
     }
 }
 
-/// The response to what was not done. A form that was refused is given back.
+/// The form as it was sent, with what is refused of it.
+fn form_again(alloc: Global, draft: &Draft, error: BoardError) -> Result<Reply, NoMemory> {
+    let text = format!(in alloc; "{error}")?;
+    let html = form_page(alloc, draft, text.as_str())?;
+    page(alloc, status_of(error), html)
+}
+
+/// The response to what was not done. A busy board is to be asked again in a second.
 fn not_done(alloc: Global, asked: &Asked, error: BoardError) -> Result<Reply, NoMemory> {
-    let mut reply = match (asked.view, &asked.ask) {
-        (View::Form, Ask::Add(draft)) => {
-            let text = format!(in alloc; "{error}")?;
-            let html = form_page(alloc, draft, text.as_str())?;
-            page(alloc, status_of(error), html)?
-        }
+    let mut reply = match &asked.ask {
+        Ask::Add(draft) if asked.route == Route::Form => form_again(alloc, draft, error)?,
         _ => refused(alloc, error)?.map_into_boxed_body(alloc)?,
     };
-    // A busy board is to be asked again in a second.
     if error == BoardError::Busy {
         insert(&mut reply, RETRY_AFTER, HeaderValue::from_static("1"))?;
     }
