@@ -12,7 +12,7 @@ pub trait BoardAccess: Drop {
     ghost use Rattle.board_store.specs.declared.ask.Told.{Told};
     ghost use Rattle.board_store.specs.declared.board_error.BoardError.{BoardError};
 
-    /// Whether, in the first state, this may be answered with that, and leave the second state.
+    /// Whether, in the first state, this ask may get this answer and leave the second state.
     ghost answers: { Self → Ask → Result Told (Fail BoardError) → Self → Type 0 };
 
     /// Does what is asked.
@@ -22,9 +22,9 @@ pub trait BoardAccess: Drop {
 
 /// A board that is open.
 impl<S: Alter + Drop> BoardAccess for Board<S> {
-    ghost use Rattle.std.specs.Prelude.{⊤};
+    ghost use Rattle.board_file.specs.FileAnswers.{OpenAnswers};
 
-    ghost answers = { λ a ask x b. ⊤ };
+    ghost answers = { λ a ask x b. OpenAnswers S.Store a ask x b };
 
     fn answer(&mut self, alloc: Global, ask: &Ask) -> Result<Told, Fail<BoardError>> {
         Board::answer(self, alloc, ask)

@@ -1,7 +1,10 @@
 //! The file of a board.
+ghost use Rattle.std.specs.Prelude.{◌≡◌, IfErr, IfOk, None};
+ghost use Rattle.board_file.specs.FileAnswers.{IsOpenOne, StaysOrCloses};
+
 use crate::access::BoardAccess;
 use board_store::{Ask, Board, BoardError, Told, failure};
-use sqlite::{Connection, File, FileStore};
+use sqlite::{Alter, Connection, File, FileStore};
 use std::alloc::Global;
 use web_texts::Fail;
 
@@ -61,23 +64,45 @@ impl BoardFile {
             Err(error) => Err(failure(error)),
         }
     }
+
+    /// Takes the board that is open, or opens it.
+    fn take(&mut self) -> Result<Board<FileStore<File>>, Fail<BoardError>>
+        ensures board { IfOk result (λ board. IsOpenOne self.old.open board) }
+        ensures err { IfErr result (λ _. self.old.open ≡ None) }
+        ensures taken { self.new.open ≡ None }
+    {
+        match self.open.take() {
+            Some(board) => Ok(board),
+            None => self.open(),
+        }
+    }
+
+    /// Keeps the board open, or closes it.
+    fn put_back(&mut self, board: Board<FileStore<File>>, is_known: bool)
+        requires { self.old.open ≡ None }
+        ensures { StaysOrCloses board self.new.open }
+    {
+        if is_known && self.opening == Opening::Once {
+            self.open = Some(board);
+        }
+    }
 }
 
 impl BoardAccess for BoardFile {
-    ghost use Rattle.std.specs.Prelude.{⊤};
+    ghost use Rattle.board_file.specs.FileAnswers.{FileAnswers};
 
-    ghost answers = { λ a ask x b. ⊤ };
+    ghost answers = { λ a ask x b.
+        FileAnswers ⟦<FileStore<File> as Alter>⟧.Store a.open ask x b.open };
 
     /// Does what is asked, and opens the file where it is not open.
     fn answer(&mut self, alloc: Global, ask: &Ask) -> Result<Told, Fail<BoardError>> {
-        let mut board = match self.open.take() {
-            Some(board) => board,
-            None => self.open()?,
-        };
-        let answer = board.answer(alloc, ask);
-        if self.opening == Opening::Once && is_known(&answer) {
-            self.open = Some(board);
+        match self.take() {
+            Ok(mut board) => {
+                let answer = board.answer(alloc, ask);
+                self.put_back(board, is_known(&answer));
+                answer
+            }
+            Err(error) => Err(error),
         }
-        answer
     }
 }

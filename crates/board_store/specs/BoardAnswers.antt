@@ -1,5 +1,5 @@
 -- What a board does and answers for what it is asked.
-use Rattle.std.specs.Prelude.{◌≡◌, ◌<◌, ◌≤◌, ℤ, Result, Ok, Err, ⊤, ⊥}
+use Rattle.std.specs.Prelude.{◌≡◌, ◌<◌, ◌≤◌, ℤ, Result, Ok, Err, ⊤}
 use Rattle.web_texts.specs.declared.memory.Fail.{Fail}
 use Rattle.web_texts.specs.declared.memory.Fail.TheVariants.{Of}
 use Rattle.sqlite_trees.specs.declared.store.Store.{Ghosts}

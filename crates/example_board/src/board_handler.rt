@@ -22,11 +22,11 @@ impl<B> BoardHandler<B> {
 }
 
 impl<B: BoardAccess> StateHandler<Asked> for BoardHandler<B> {
-    ghost use Rattle.std.specs.Prelude.{⊤};
+    ghost use Rattle.example_board.specs.BoardReplies.{Replies};
 
     type Output = Shown;
 
-    ghost replies = { λ a v x b. ⊤ };
+    ghost replies = { λ a asked x b. Replies B.answers a.board asked x b.board };
 
     fn reply(&mut self, alloc: Global, asked: Asked) -> Result<Shown, NoMemory> {
         match self.board.answer(alloc, &asked.ask) {

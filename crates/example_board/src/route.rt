@@ -1,9 +1,5 @@
 //! What the board has under which path.
 use http_header::HeaderValue;
-use web_texts::read_digits;
-
-/// The greatest number of an item.
-const MOST_ID: u64 = 9_223_372_036_854_775_807;
 
 /// What is there under a path.
 #[derive(Clone, Copy, Debug, PartialEq, Eq)]
@@ -23,8 +19,8 @@ impl Route {
             "/form" => Some(Route::Form),
             "/items" => Some(Route::Items),
             _ => {
-                let id = read_digits(path.strip_prefix("/items/")?, MOST_ID)?;
-                Some(Route::Item(id as i64))
+                let id = path.strip_prefix("/items/")?.parse::<i64>().ok()?;
+                Some(Route::Item(id))
             }
         }
     }
