@@ -25,13 +25,15 @@ pub struct Shown {
     pub told: Result<Told, BoardError>,
 }
 
-/// The response of a page.
+/// The response of a page. A client asks again before it shows what it kept.
 fn page(alloc: Global, status: StatusCode, html: Text) -> Result<Reply, NoMemory> {
     let mut builder = HttpResponse::build(alloc, status);
     builder.content_type("text/html; charset=utf-8")?;
     let mut reply: Reply = builder.take().body(html.into_string())?;
     let policy = HeaderValue::from_static(POLICY);
     insert(&mut reply, CONTENT_SECURITY_POLICY, policy)?;
+    let asked_again = HeaderValue::from_static("no-cache");
+    insert(&mut reply, CACHE_CONTROL, asked_again)?;
     Ok(reply)
 }
 
@@ -101,14 +103,9 @@ impl Responder<Site> for Shown {
     ghost responds = { λ v q r. ⊤ };
 
     fn respond_to(self, alloc: Global, _req: &HttpRequest<Site>) -> Result<Reply, NoMemory> {
-        let Shown { asked, told } = self;
-        let mut reply = match told {
-            Ok(told) => done(alloc, &asked, &told)?,
-            Err(error) => not_done(alloc, &asked, error)?,
-        };
-        // A client asks again before it shows what it kept.
-        let asked_again = HeaderValue::from_static("no-cache");
-        insert(&mut reply, CACHE_CONTROL, asked_again)?;
-        Ok(reply)
+        match &self.told {
+            Ok(told) => done(alloc, &self.asked, told),
+            Err(error) => not_done(alloc, &self.asked, *error),
+        }
     }
 }
