@@ -56,7 +56,12 @@ fn each_request_sees_what_those_before_it_left(rt: HostRuntime) {
         json(alloc, Method::POST, "/items", "{\"title\":\"tea\"}"),
         json(alloc, Method::POST, "/items", "{\"title\":\"tea\"}"),
         TestRequest::get(alloc, "/items/1"),
-        json(alloc, Method::PUT, "/items/1", "{\"title\":\"cake\",\"seats\":8,\"done\":true}"),
+        json(
+            alloc,
+            Method::PUT,
+            "/items/1",
+            "{\"title\":\"cake\",\"seats\":8,\"done\":true}"
+        ),
         form(alloc, "title=tea"),
         TestRequest::get(alloc, "/items?after=1"),
         TestRequest::new(alloc, Method::DELETE, "/items/1"),
