@@ -11,7 +11,8 @@
 //! piece by piece (`counted`), a request that was parsed elsewhere (`parsed_request`), exchanges
 //! that are told apart by their paths (`routes`), a handler whose reply is promised
 //! (`path_reply`), lists with a text (`texts`), forms with files (`upload`), the part of a file
-//! that is sent (`file_service`), and the coding that a proxy chooses (`compressing_proxy`).
+//! that is sent (`file_service`), the coding that a proxy chooses (`compressing_proxy`), and a
+//! handler with a state on a connection (`request_count`).
 #![tactic(auto)]
 
 mod api_key;
@@ -26,6 +27,7 @@ mod logged;
 mod parsed_request;
 mod path_reply;
 mod relay;
+mod request_count;
 mod request_path;
 mod rewritten_request;
 mod routes;
@@ -49,6 +51,7 @@ pub use logged::Logged;
 pub use parsed_request::exchange_of;
 pub use path_reply::serve_path;
 pub use relay::{Relay, serve_relay};
+pub use request_count::{RequestCount, answer_count};
 pub use request_path::RequestPath;
 pub use rewritten_request::rewrite_request;
 pub use routes::{Page, page_of, pages};

@@ -69,19 +69,24 @@ impl Additions {
         Ok(())
     }
 
-    /// Those of the next reply, with so many bytes taken of the connection.
-    pub(crate) fn next_reply<C: Clock>(
+    /// Sets those of the next reply, with this number of bytes taken of the connection.
+    pub(crate) fn set_next<C: Clock>(
         &mut self,
         alloc: Global,
         clock: &C,
         taken: u64,
-    ) -> Result<&ReplySettings, NoMemory> {
+    ) -> Result<(), NoMemory> {
         if self.settings.date == DateHeader::ByClock {
             self.set_date(alloc, clock)?;
         }
         self.reply.last = taken >= self.settings.last_byte
             || self.answered.saturating_add(1) >= self.settings.last_message;
-        Ok(&self.reply)
+        Ok(())
+    }
+
+    /// Those of the next reply.
+    pub(crate) fn reply(&self) -> &ReplySettings {
+        &self.reply
     }
 
     /// Counts a message that was answered.

@@ -1,8 +1,7 @@
 //! Why a connection was not served to its end.
 
 use std::error::Error;
-use std::fmt;
-use std::io;
+use std::{fmt, io};
 use web_texts::NoMemory;
 
 /// Why a connection was not served to its end.

@@ -1,7 +1,6 @@
 //! What is sent of a reply, and what is dropped of what still comes.
-ghost use Rattle.std.specs.Prelude.{◌≡◌, [], IfOk, OnOk};
-ghost use Rattle.web_http1.specs.DueBodies.{after_body};
-ghost use Rattle.web_http1.specs.declared.due_body.BodyStage.{BodyStage as StageOf};
+ghost use Rattle.std.specs.Prelude.{◌≡◌, ◌≤◌, [], IfOk, OnOk};
+ghost use Rattle.web_http1.specs.Connections.{bytes_open};
 
 use crate::fault::ServeFault;
 use std::alloc::Global;
@@ -12,7 +11,7 @@ use web_request::Source;
 /// How many bytes are read at once.
 pub(crate) const PIECE: usize = 16_384;
 
-/// The most bytes that are read and dropped behind a reply that closes.
+/// The most bytes that are read and dropped after a reply that closes.
 const MOST_DROPPED: u64 = 67_108_864;
 
 /// Writes what is there, so that the client has it before it sends more, and empties it.
@@ -38,8 +37,9 @@ pub(crate) fn send_body<S: Source, W: Write>(
     out: &mut Vec<u8>,
     output: &mut W,
 ) -> Result<Connection, ServeFault>
-    ensures { IfOk result (λ connection.
-        (stage : StageOf) × (connection ≡ after_body stage body.connection)) }
+    ensures left { IfOk result (λ connection. connection.left ≡ body.connection.left) }
+    ensures open { IfOk result (λ connection.
+        bytes_open connection ≤ bytes_open body.connection) }
 {
     let mut body = body;
     'pieces: loop {
@@ -53,7 +53,7 @@ pub(crate) fn send_body<S: Source, W: Write>(
     }
 }
 
-/// Reads what a client still sends behind a reply that closes, and drops it: a connection that is
+/// Reads what a client still sends after a reply that closes, and drops it: a connection that is
 /// closed while bytes come is reset, and the client loses the reply (RFC 7230, section 6.6).
 pub(crate) fn drop_rest<R: Read>(input: &mut R) -> Result<(), ServeFault> {
     let mut buffer = [0; PIECE];

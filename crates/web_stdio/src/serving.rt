@@ -57,8 +57,8 @@ where
     let mut connection = connection;
     let mut out = Vec::new(alloc);
     'messages: loop {
-        let reply = additions.next_reply(alloc, clock, taken)?;
-        match connection.begin_next(alloc, worker, handler, reply, &mut out) {
+        additions.set_next(alloc, clock, taken)?;
+        match connection.begin_next(alloc, worker, handler, additions.reply(), &mut out) {
             Begun::Answered(after, Answered::Replied) => {
                 send(&mut out, output)?;
                 additions.count_reply();
@@ -127,7 +127,10 @@ where
     let most = most_taken(settings);
     'pieces: while taken < most {
         let count = input.read(&mut buffer).map_err(ServeFault::Input)?;
-        if count == 0 || connection.feed(alloc, &buffer[..count]).is_err() {
+        if count == 0 {
+            return finish(alloc, connection, output);
+        }
+        if connection.feed(alloc, &buffer[..count]).is_err() {
             return finish(alloc, connection, output);
         }
         taken += count as u64;
@@ -148,7 +151,7 @@ where
     finish(alloc, connection, output)
 }
 
-/// Whether the client may still send: where it was refused, or sent more behind the message whose
+/// Whether the client may still send: where it was refused, or sent more after the message whose
 /// reply closed.
 fn may_send(connection: &Connection) -> bool {
     match connection.ended() {
@@ -166,10 +169,10 @@ fn may_send(connection: &Connection) -> bool {
 /// several clients.
 ///
 /// A connection ends at the end of the input, after a reply that closes, after a refusal, and where
-/// more bytes than `Limits::kept` would be kept: then what is left is refused. Behind a reply that
-/// closes what still comes is read and dropped, up to 64 MB. Returns how the connection ended.
-/// `Ended::SourceFault` is a reply whose body broke off: the program has to end, so that the client
-/// sees that it is cut.
+/// more bytes than `Limits::kept` would be kept: then what is left is refused. After a refusal what
+/// still comes is read and dropped, up to 64 MiB, and so it is after another reply that closes if
+/// bytes came after its message. Returns how the connection ended. `Ended::SourceFault` is a reply
+/// whose body broke off: the program has to end, so that the client sees that it is cut.
 ///
 /// # Errors
 ///

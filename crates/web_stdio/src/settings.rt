@@ -20,9 +20,9 @@ pub enum DateHeader {
 pub struct ServeSettings {
     /// The greatest messages that are taken, and what is refused of a head.
     pub limits: Limits,
-    /// With so many messages answered the reply says `connection: close`, and is the last.
+    /// The reply to the message of this number says `connection: close`, and is the last.
     pub last_message: u64,
-    /// The first reply after so many bytes came is the last too.
+    /// The first reply after this number of bytes came is the last too.
     pub last_byte: u64,
     /// Whether replies have the field Date.
     pub date: DateHeader,
