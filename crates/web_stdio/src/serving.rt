@@ -1,5 +1,5 @@
 //! One connection, from its first byte to its last.
-ghost use Rattle.std.specs.Prelude.{◌+◌, ◌<◌, ◌≤◌, ◌^◌, IfOk};
+ghost use Rattle.std.specs.Prelude.{◌≡◌, ◌+◌, ◌<◌, ◌≤◌, ◌^◌, IfOk, None, length};
 ghost use Rattle.web_http1.specs.Connections.{WaitsForMore, bytes_open};
 
 use crate::additions::Additions;
