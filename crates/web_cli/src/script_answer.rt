@@ -20,7 +20,7 @@ use std::alloc::Global;
 use web_extract::FromRequest;
 use web_reply::Responder;
 use web_texts::{Fail, NoMemory};
-use web_worker::{Flight, Handler, Outcome, Serves, Worker, serve_flights};
+use web_worker::{Flight, Handler, Outcome, Serves, Service, Worker, serve_flights};
 
 /// The result of serving a script of at most the limit.
 #[derive(Drop)]
@@ -40,14 +40,14 @@ fn fault_text(alloc: Global, fault: InvalidScript) -> Result<Vec<u8>, NoMemory>
 }
 
 /// Whether an allocation failed while the exchange was served.
-fn lacks_memory<Args: FromRequest<Demo>, H: Handler<Args>>(flight: &Flight<Demo, Args, H>) -> bool
+fn lacks_memory<Args, H: Service<Demo, Args>>(flight: &Flight<Demo, Args, H>) -> bool
     ensures { result ≡ lacks_memory (flight_outcome flight.now) }
 {
     matches!(flight.outcome(), Some(Outcome::NoMemory))
 }
 
 /// Whether an allocation failed while some exchange was served.
-fn any_lacks_memory<Args: FromRequest<Demo>, H: Handler<Args>>(
+fn any_lacks_memory<Args, H: Service<Demo, Args>>(
     flights: &[Flight<Demo, Args, H>],
 ) -> bool
     ensures { result ≡ list_any (λ f. lacks_memory (flight_outcome f)) flights.now }

@@ -1,10 +1,7 @@
-pub mod HandlerServices
 pub mod ImmediateAnswers
+pub mod ReplyFunctions
 pub mod ReplyHeaders
 pub mod RequestPaths
 pub mod ServedExchanges
-pub mod ServiceFlights
-pub mod ServicePromises
 pub mod ServiceRoutes
-pub mod ServiceStates
 pub mod StateServices

@@ -35,8 +35,8 @@ module _ {S L D C V K : Type 0} (s : Setting S L D C V K) where
       → HasOneReply s f d r
       → Narrows (s.left h.call h.record_of.request) (one_later (flight_promise s f))
       → ((s.left h.call h.record_of.request).before 0 → ⊥) → FallsByOne s d r (InFlight h)
-  falls zero r f h one later open = absurd (open (later.before 0 one.comes))
-  falls (suc e) r f h one later open = (
+  falls zero r f h one later still = absurd (still (later.before 0 one.comes))
+  falls (suc e) r f h one later still = (
     e,
     refl,
     record {
@@ -112,8 +112,11 @@ module _ {S L D C V K : Type 0} (s : Setting S L D C V K) where
       let same : x ≡ v = (let z = (one.once 0 (Some x) is).1 in cc) in
       inl (subst (λ (z : V). CallsAre calls_old (Some z) calls_new) same are)
   first_call v f g calls_old calls_new None one are p (inl n) =
-      absurd (n (one.to_come, λ k y a.
-      let z = one.once k y a in subst (λ (x : Option V). IsValueNow k x) (sym z.1) z.0))
+      absurd (n (
+        one.to_come,
+        λ k y a.
+            let z = one.once k y a in subst (λ (x : Option V). IsValueNow k x) (sym z.1) z.0,
+      ))
   first_call v f g calls_old calls_new None one are p (inr n) =
       inr (lost_is f g p n, calls_same calls_old calls_new are)
 

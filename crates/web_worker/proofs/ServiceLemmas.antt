@@ -95,13 +95,13 @@ module _ {S L D C V K : Type 0} (s : Setting S L D C V K) (q : Record L D C) (c 
       → asked o
       → CallPoll s q.request over (s.left c q.request)
       (InFlight (record { record_of = q; call = d })) calls_old calls_new
-  call_stays (Replied r) e p open calls = absurd cc
-  call_stays Unfinished e p open calls = record {
-    step = (p, open);
+  call_stays (Replied r) e p still calls = absurd cc
+  call_stays Unfinished e p still calls = record {
+    step = (p, still);
     calls = calls;
     request = refl;
   }
-  call_stays NoMemory e p open calls = absurd cc
+  call_stays NoMemory e p still calls = absurd cc
 
   -- it is answered
   pub call_ends : (o : OutcomeView) → is_unfinished o ≡ false

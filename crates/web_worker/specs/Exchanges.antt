@@ -48,3 +48,8 @@ abbrev pub IsInFlight : {S L D C K : Type 0} → FlightView S L D C K → Type 0
 IsInFlight (FlightView.Waiting x) = ⊥
 IsInFlight (FlightView.InFlight h) = ⊤
 IsInFlight (FlightView.Answered o) = ⊥
+
+abbrev pub IsWaiting : {S L D C K : Type 0} → FlightView S L D C K → Type 0
+IsWaiting (FlightView.Waiting x) = ⊤
+IsWaiting (FlightView.InFlight h) = ⊥
+IsWaiting (FlightView.Answered o) = ⊥

@@ -94,7 +94,7 @@ not_before_first : (n : ℕ) → n < 0 → ⊥
 not_before_first n h = absurd (omega arith)
 
 module _ {L D C V E Y : Type 0} (R : Rules L D C V E Y) where
-  comes_never : (n : ℕ) (x : Result V E) → ComesBefore R 0 n x → ⊥
+  pub comes_never : (n : ℕ) (x : Result V E) → ComesBefore R 0 n x → ⊥
   comes_never n (Err e) h = not_before_first n h
   comes_never n (Ok v) h = not_before_first n h.0
 

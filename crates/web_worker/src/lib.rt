@@ -15,6 +15,7 @@ mod serving;
 mod setting;
 mod worker;
 
+pub use answering::{error_outcome, response_outcome};
 pub use exchange::Exchange;
 pub use flight::Flight;
 pub use handler::{FnHandler, Handler};
@@ -24,6 +25,6 @@ pub use outcome::Outcome;
 pub use plan_entry::PlanEntry;
 pub use polling::{poll_flight, poll_one};
 pub use service::{Service, Whole};
-pub use serving::{serve_all, serve_flights};
+pub use serving::{end_flight, serve_all, serve_flights};
 pub use setting::Serves;
 pub use worker::Worker;

@@ -1,18 +1,19 @@
 //! A whole plan over many exchanges.
 ghost use Rattle.std.specs.Prelude.{◌≡◌, ◌+◌, ◌<◌, ◌≤◌, ◌^◌, [], false, length, map};
-ghost use Rattle.std.specs.Prelude.{IfOk, IfErr, OnErr};
+ghost use Rattle.std.specs.Prelude.{IfOk, IfErr, None, OnErr};
 ghost use Rattle.std.specs.List.{All};
 ghost use Rattle.std.specs.Vec.{vec_capacity};
 ghost use Rattle.web_worker.specs.Exchanges.{FlightView};
 ghost use Rattle.web_worker.specs.Flights.{flight_outcome, is_open};
 ghost use Rattle.web_worker.specs.OutcomeFunctions.{DeterministicOutcomes};
-ghost use Rattle.web_worker.specs.Outcomes.{outcome_views};
+ghost use Rattle.web_worker.specs.Outcomes.{outcome_view, outcome_views};
 ghost use Rattle.web_worker.specs.PlanCalls.{AllowedCalls, AppendsCalls, DeterministicCalls};
 ghost use Rattle.web_worker.specs.PlanCalls.{LacksMemory};
 ghost use Rattle.web_worker.specs.PlanOutcomes.{AllowedOutcomes, OfWaiting};
 ghost use Rattle.web_worker.specs.RecordsMade.{waiting_count};
 ghost use Rattle.web_worker.specs.PoolRun.{return_held, serial_state};
 ghost use Rattle.web_worker.specs.PlanPools.{AllowedPool, IsPoolAfter, with_records};
+ghost use Rattle.web_worker.specs.PoolSteps.{after_release, serial_of};
 
 use crate::exchange::Exchange;
 use crate::flight::Flight;
@@ -86,6 +87,19 @@ pub fn serve_flights<A: App, Args, S: Service<A, Args>, N: PlanEntry>(
         poll_one::<A, Args, S>(alloc, worker, service, flights, entry.index());
     }
     end_flights(&mut worker.pool, flights);
+}
+
+/// The outcome of one flight, `Outcome::Unfinished` where it is not answered. Its record goes back
+/// to the worker.
+pub fn end_flight<A: App, Args, S: Service<A, Args>>(
+    worker: &mut Worker<A>,
+    mut flight: Flight<A, Args, S>,
+) -> Outcome<A>
+    ensures pool { worker.new ≡ after_release (serial_of flight) None worker.old }
+    ensures outcome { outcome_view A.Source.feed result ≡ flight_outcome flight }
+{
+    flight.end(&mut worker.pool);
+    flight.into_outcome()
 }
 
 /// Makes a flight of each exchange.
