@@ -1,6 +1,6 @@
 -- One of two services, and a service whose replies are changed.
 use Rattle.std.proofs.Common.{refl, ◌∙◌}
-use Rattle.std.specs.Prelude.{◌≡◌, ◌⊎◌, ℕ, List, ⊤, Bool, true, false, Option, None, Some, [], ◌∷◌, ◌++◌}
+use Rattle.std.specs.Prelude.{◌≡◌, ◌⊎◌, ◌-◌, nat_lt, ℕ, List, ⊤, Bool, true, false, Option, None, Some, [], ◌∷◌, ◌++◌}
 use Rattle.web_request.specs.declared.source.Mark.{Mark}
 use Rattle.web_request.specs.Request.{Request}
 use Rattle.web_reply.specs.ResponseBodies.{Plain}
@@ -187,6 +187,28 @@ route_keeps chosen a b c1 c2 p1 p2 l1 l2 d1 d2 q1 q2 k1 k2 e f g = rw e (record 
       (f.requests_back q m) (g.requests_back q m);
   calls = λ c q. one_narrows l2 l1 k2 k1 f.calls g.calls c q;
   calls_back = λ c q. one_narrows l1 l2 k1 k2 f.calls_back g.calls_back c q;
+})
+
+-- two of many, of which the number decides
+pub two_keeps : {V Q C D : Type 0} (n a b : ℕ)
+    (c1 c2 : ℕ → Q → Q) (p1 p2 : ℕ → Q → List Mark → Promise V) (l1 l2 : C → Q → Promise V)
+    (d1 d2 : ℕ → Q → Q) (q1 q2 : ℕ → Q → List Mark → Promise V) (k1 k2 : D → Q → Promise V) → b ≡ a
+    → ((k : ℕ) → SameService (c1 k) (c2 k) (p1 k) (p2 k) l1 l2)
+    → ((k : ℕ) → SameService (d1 k) (d2 k) (q1 k) (q2 k) k1 k2) → SameService
+    (λ q. chosen_request (nat_lt n a) (c1 n q) (d1 (n - a) q))
+    (λ q. chosen_request (nat_lt n b) (c2 n q) (d2 (n - b) q))
+    (λ q m. chosen_promise (nat_lt n a) (p1 n q m) (q1 (n - a) q m))
+    (λ q m. chosen_promise (nat_lt n b) (p2 n q m) (q2 (n - b) q m))
+    (λ c q. one_promise l1 k1 c q) (λ c q. one_promise l2 k2 c q)
+two_keeps n a b c1 c2 p1 p2 l1 l2 d1 d2 q1 q2 k1 k2 e f g = rw e (record {
+  completed = λ q. chosen_equal (nat_lt n a) (c2 n q) (d2 (n - a) q) (c1 n q) (d1 (n - a) q)
+      ((f n).completed q) ((g (n - a)).completed q);
+  requests = λ q m. chosen_narrows (nat_lt n a) (p2 n q m) (q2 (n - a) q m) (p1 n q m)
+      (q1 (n - a) q m) ((f n).requests q m) ((g (n - a)).requests q m);
+  requests_back = λ q m. chosen_narrows (nat_lt n a) (p1 n q m) (q1 (n - a) q m) (p2 n q m)
+      (q2 (n - a) q m) ((f n).requests_back q m) ((g (n - a)).requests_back q m);
+  calls = λ c q. one_narrows l2 l1 k2 k1 (f n).calls (g (n - a)).calls c q;
+  calls_back = λ c q. one_narrows l1 l2 k1 k2 (f n).calls_back (g (n - a)).calls_back c q;
 })
 
 -- a service that adds to each request

@@ -10,7 +10,7 @@ use Rattle.web_body.specs.declared.payload.Payload.{Payload}
 use Rattle.web_body.specs.Payload.{payload_feed}
 use Rattle.web_reply.specs.ResponseBodies.{Plain}
 use Rattle.web_reply.specs.Replies.{Reply}
-use Rattle.web_worker.specs.Exchanges.{CallView, ExchangeView, FlightView, request_of}
+use Rattle.web_worker.specs.Exchanges.{CallView, ExchangeView, FlightView}
 use Rattle.web_worker.specs.Exchanges.{FlightView.Waiting, FlightView.InFlight}
 use Rattle.web_worker.specs.Exchanges.{FlightView.Answered}
 use Rattle.web_worker.specs.Flights.{FlightCalls, FlightStep, IsFor, IsPast, PollResult}
@@ -24,7 +24,7 @@ use Rattle.web_worker.specs.PollOne.{BeginsFlight, CallPoll, FlightPoll, NoChang
 use Rattle.web_worker.specs.PoolSteps.{HeldOrReturned, TakesOrReturns, serial_of}
 use Rattle.web_worker.specs.ServicePromises.{Begins, Narrows, OnUnfinished, Polls, Promise}
 use Rattle.web_worker.specs.ServicePromises.{SameService, one_later}
-use Rattle.web_worker.specs.Setting.{Setting, setting_of}
+use Rattle.web_worker.specs.Setting.{Setting, setting_with}
 use Rattle.web_worker.proofs.HandlerServiceLemmas.{calls_failed, calls_none}
 
 -- ---- calls over relations that are as wide
@@ -178,18 +178,18 @@ module _ {S L D C V K : Type 0} (s : Setting S L D C V K) where
 
 -- ---- what promises the same
 
-module _ {S L D C V K : Type 0} (feed : S → Feed) (pool : Pool L)
+module _ {S L D C V K : Type 0} (feed : S → Feed) (request : ExchangeView S L D C → Request L D C)
     (c_old c_mid : Request L D C → Request L D C)
     (p_old p_mid : Request L D C → List Mark → Promise V)
     (l_old l_mid : K → Request L D C → Promise V)
     (same : SameService c_old c_mid p_old p_mid l_old l_mid) where
   abbrev before : Setting S L D C V K
-  before = setting_of c_old p_old l_old feed pool
+  before = setting_with c_old p_old l_old feed request
 
   abbrev now : Setting S L D C V K
-  now = setting_of c_mid p_mid l_mid feed pool
+  now = setting_with c_mid p_mid l_mid feed request
 
-  result_as : (p large : Promise V) → Narrows p large → (new : FlightView S L D C K)
+  pub result_as : (p large : Promise V) → Narrows p large → (new : FlightView S L D C K)
       → PollResult now p new → PollResult before large new
   result_as p large n (Waiting x) r = r
   result_as p large n (InFlight h) r = (
@@ -228,13 +228,13 @@ module _ {S L D C V K : Type 0} (feed : S → Feed) (pool : Pool L)
   -- the first poll of a call that was just begun
   pub flight_begins : (x : ExchangeView S L D C) (body : Payload S) (q r : Request L D C) (c : K)
       (new : FlightView S L D C K) (calls_old calls_mid calls_new : Option (List V))
-      → q ≡ request_of pool x → x.body ≡ body → r ≡ c_old q
+      → q ≡ request x → x.body ≡ body → r ≡ c_old q
       → Begins (p_old q) (payload_feed feed body).marks (l_old c r)
       → (AreOver (l_old c r).arguments → ⊥) → calls_mid ≡ calls_old
       → CallPoll now r (AreOver (l_mid c r).arguments) (l_mid c r) new calls_mid calls_new
       → BeginsFlight before x new calls_old calls_new
   flight_begins x body q r c new calls_old calls_mid calls_new is at completed begins to_come none poll =
-      let here : Begins (p_old (request_of pool x)) (payload_feed feed x.body).marks (l_old c r) =
+      let here : Begins (p_old (request x)) (payload_feed feed x.body).marks (l_old c r) =
       subst (λ (z : Request L D C). Begins (p_old z) (payload_feed feed x.body).marks (l_old c r)) is
       (subst (λ (b : Payload S). Begins (p_old q) (payload_feed feed b).marks (l_old c r)) (sym at)
       begins) in
@@ -252,12 +252,12 @@ module _ {S L D C V K : Type 0} (feed : S → Feed) (pool : Pool L)
             (completed ∙ ap c_old is) (for_as r new poll.request);
       }
     where
-      stated : (o : Option (List Mark)) → Begins (p_old (request_of pool x)) o (l_old c r)
+      stated : (o : Option (List Mark)) → Begins (p_old (request x)) o (l_old c r)
           → Narrows (l_old c r) (record {
-            gives = λ d z. MatchOption o ⊤ (λ m. (p_old (request_of pool x) m).gives d z);
-            before = λ k. MatchOption o ⊥ (λ m. (p_old (request_of pool x) m).before k);
+            gives = λ d z. MatchOption o ⊤ (λ m. (p_old (request x) m).gives d z);
+            before = λ k. MatchOption o ⊥ (λ m. (p_old (request x) m).before k);
             arguments = λ k y. MatchOption o ⊤
-                (λ m. (p_old (request_of pool x) m).arguments k y);
+                (λ m. (p_old (request x) m).arguments k y);
           })
       stated None b = record {
         gives = λ d z a. tt;
@@ -271,18 +271,18 @@ module _ {S L D C V K : Type 0} (feed : S → Feed) (pool : Pool L)
       }
 
   exchange_as : (x : ExchangeView S L D C) (o : Option (List Mark))
-      → ((d : ℕ) (r : Reply Plain) → MatchOption o ⊤ (λ m. (p_mid (request_of pool x) m).gives d r)
-      → MatchOption o ⊤ (λ m. (p_old (request_of pool x) m).gives d r))
-      × ((k : ℕ) → MatchOption o ⊥ (λ m. (p_old (request_of pool x) m).before k)
-      → MatchOption o ⊥ (λ m. (p_mid (request_of pool x) m).before k))
-      × ((k : ℕ) (y : Option V) → MatchOption o ⊤ (λ m. (p_mid (request_of pool x) m).arguments k y)
-      → MatchOption o ⊤ (λ m. (p_old (request_of pool x) m).arguments k y))
+      → ((d : ℕ) (r : Reply Plain) → MatchOption o ⊤ (λ m. (p_mid (request x) m).gives d r)
+      → MatchOption o ⊤ (λ m. (p_old (request x) m).gives d r))
+      × ((k : ℕ) → MatchOption o ⊥ (λ m. (p_old (request x) m).before k)
+      → MatchOption o ⊥ (λ m. (p_mid (request x) m).before k))
+      × ((k : ℕ) (y : Option V) → MatchOption o ⊤ (λ m. (p_mid (request x) m).arguments k y)
+      → MatchOption o ⊤ (λ m. (p_old (request x) m).arguments k y))
   exchange_as x None = (λ d r h. h, λ k h. h, λ k y h. h)
   exchange_as x (Some m) =
-      let n = same.requests (request_of pool x) m in
+      let n = same.requests (request x) m in
       (λ d r h. n.gives d r h, λ k h. n.before k h, λ k y h. n.arguments k y h)
 
-  flight_narrows : (f : FlightView S L D C K)
+  pub flight_narrows : (f : FlightView S L D C K)
       → Narrows (flight_promise now f) (flight_promise before f)
   flight_narrows (Waiting x) =
       let n = exchange_as x (payload_feed feed x.body).marks in
@@ -293,8 +293,8 @@ module _ {S L D C V K : Type 0} (feed : S → Feed) (pool : Pool L)
 
   request_as : (f g : FlightView S L D C K) → SameRequest now f g → SameRequest before f g
   request_as (Waiting x) g h =
-      subst (λ (z : Request L D C). IsFor before z g) (same.completed (request_of pool x))
-      (for_as (c_mid (request_of pool x)) g h)
+      subst (λ (z : Request L D C). IsFor before z g) (same.completed (request x))
+      (for_as (c_mid (request x)) g h)
   request_as (InFlight h) g i = for_as h.record_of.request g i
   request_as (Answered o) g h = h
 

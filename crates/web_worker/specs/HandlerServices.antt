@@ -3,6 +3,8 @@ use Rattle.std.proofs.Common.{arith, refl}
 use Rattle.std.specs.Prelude.{◌≡◌, ℕ, suc, ◌<◌, Bool, false, List, Option, None, Some, Result, Ok}
 use Rattle.std.specs.Prelude.{Err, ⊤}
 use Rattle.web_request.specs.declared.source.Mark.{Mark}
+use Rattle.web_request.specs.Feed.{Feed}
+use Rattle.web_request.specs.Pool.{Pool}
 use Rattle.web_request.specs.Request.{Request}
 use Rattle.web_body.specs.PollSteps.{GivesSome}
 use Rattle.web_reply.specs.ResponseBodies.{Plain}
@@ -15,6 +17,7 @@ use Rattle.web_worker.specs.Outcomes.{OutcomeView}
 use Rattle.web_worker.specs.Outcomes.{OutcomeView.Replied, OutcomeView.Unfinished}
 use Rattle.web_worker.specs.Outcomes.{OutcomeView.NoMemory}
 use Rattle.web_worker.specs.ServicePromises.{Narrows, Promise, SameService}
+use Rattle.web_worker.specs.Setting.{Setting, setting_of}
 
 abbrev pub rules_of : {L D C V E Y : Type 0}
     → (Request L D C → List Mark → List Mark → ℕ → Result V E → Type 0)
@@ -69,6 +72,21 @@ module _ {L D C V E Y : Type 0} (R : Rules L D C V E Y) where
       → Work U W → Request L D C → Promise V
   work_promise extracts handles (Extracting f) q = extracting_promise extracts f q
   work_promise extracts handles (Handling f) q = handling_promise handles f q
+
+-- the setting of a worker with this pool, whose service is a handler
+abbrev pub handler_setting : {S L D C V E Y U W : Type 0}
+    → (Request L D C → List Mark → List Mark → ℕ → Result V E → Type 0)
+    → (E → Fault → Type 0)
+    → (V → ℕ → Y → Type 0)
+    → (Y → Request L D C → Reply Plain → Type 0)
+    → (S → Feed)
+    → (U → ℕ → Result V E → Type 0)
+    → (W → ℕ → Y → Type 0)
+    → Pool L
+    → Setting S L D C V (Work U W)
+handler_setting means converts answers responds feed extracts handles pool =
+    setting_of (λ q. q) (request_promise (rules_of means converts answers responds))
+    (work_promise (rules_of means converts answers responds) extracts handles) feed pool
 
 abbrev pub work_finished : {U W : Type 0} → (U → Bool) → (W → Bool) → Work U W → Bool
 work_finished u w (Extracting f) = u f

@@ -21,6 +21,21 @@ pub record Setting (S L D C V K : Type 0) : Type 1 where
   -- what a source states of itself
   pub feed : S → Feed
 
+abbrev pub setting_with : {S L D C V K : Type 0}
+    → (Request L D C → Request L D C)
+    → (Request L D C → List Mark → Promise V)
+    → (K → Request L D C → Promise V)
+    → (S → Feed)
+    → (ExchangeView S L D C → Request L D C)
+    → Setting S L D C V K
+setting_with completed promise left feed request = record {
+  completed = completed;
+  promise = promise;
+  left = left;
+  request = request;
+  feed = feed;
+}
+
 -- the setting of a worker with this pool
 abbrev pub setting_of : {S L D C V K : Type 0}
     → (Request L D C → Request L D C)
@@ -29,10 +44,5 @@ abbrev pub setting_of : {S L D C V K : Type 0}
     → (S → Feed)
     → Pool L
     → Setting S L D C V K
-setting_of completed promise left feed pool = record {
-  completed = completed;
-  promise = promise;
-  left = left;
-  request = request_of pool;
-  feed = feed;
-}
+setting_of completed promise left feed pool =
+    setting_with completed promise left feed (request_of pool)

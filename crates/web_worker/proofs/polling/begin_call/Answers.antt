@@ -1,4 +1,7 @@
+use Rattle.web_worker.specs.Exchanges.{flight_view, request_of}
+use Rattle.web_worker.specs.Flights.{flight_outcome}
 use Rattle.web_worker.specs.Setting.{setting_of}
+use Rattle.web_worker.proofs.StateLemmas.{moves_on}
 use Rattle.web_worker.proofs.ServiceLemmas.{begin_lost, flight_begins}
 use Rattle.web_worker.proofs.polling.begin_call.Goals as goal
 
@@ -9,7 +12,7 @@ returns-in-Ok-clause-same g c =
 
 pub returns-in-Ok-clause-polled : goal.returns-in-Ok-clause-polled
 returns-in-Ok-clause-polled g c = λ worker x is at.
-    flight_begins g.A.Source.Source.feed worker
+    flight_begins g.A.Source.Source.feed (request_of worker)
     (g.S.Service.completed c.args.service.now) (g.S.Service.completed c.begin.new.self)
     (g.S.Service.promise c.args.service.now) (g.S.Service.promise c.begin.new.self)
     (g.S.Service.left c.args.service.now) (g.S.Service.left c.begin.new.self)
@@ -26,3 +29,11 @@ returns-in-Err-clause-polled g c = λ worker x is at.
     (g.S.Service.promise c.args.service.now) (g.S.Service.left c.args.service.now)
     g.A.Source.Source.feed worker) x (g.S.Service.calls c.args.service.now)
     (g.S.Service.calls c.begin.new.self) c.in-Err.ensures.uncalled
+
+pub returns-in-Ok-clause-state : goal.returns-in-Ok-clause-state
+returns-in-Ok-clause-state g c =
+    rw (← c.in-Ok.ensures.completes)
+    (moves_on g.S.Service.states c.begin.new.request.request
+    (flight_outcome (flight_view g.A.Source.Source.feed c.poll_begun.new.stage))
+    c.args.service.now c.begin.new.self c.poll_begun.new.service c.in-Ok.ensures.stays
+    c.poll_begun.ensures.state)

@@ -1,5 +1,6 @@
 use Rattle.std.proofs.Common.{◌≡◌, ◌+◌, ◌∙◌, ◌++◌, ◌∷◌, [], ℕ, List, ap, arith, length, map, refl, sym, subst, take}
 use Rattle.web_request.specs.Pool.{Pool}
+use Rattle.web_worker.specs.Exchanges.{request_of}
 use Rattle.web_worker.specs.Flights.{flight_outcome}
 use Rattle.web_worker.specs.Outcomes.{OutcomeView}
 use Rattle.web_worker.specs.PlanCalls.{AllowedCalls, AppendsCalls, LacksMemory}
@@ -46,7 +47,7 @@ loop-entry-preserved g c =
     let plan = map (λ n. g.N.PlanEntry.number n) (take c.loop-entry.entry-index c.args.plan.now) in
     let next : map (λ n. g.N.PlanEntry.number n) (take (c.loop-entry.entry-index + 1) c.args.plan.now) ≡ plan ++ c.index.result ∷ [] =
     rw c.index.ensures (rw c.entry-item.is (map_next (λ n. g.N.PlanEntry.number n) c.args.plan.now c.loop-entry.entry-index c.entry-item.result c.loop-entry-test.true)) in
-    let polled = polls_as g.A.Source.Source.feed c.args.worker.now
+    let polled = polls_as g.A.Source.Source.feed (request_of c.args.worker.now)
     (g.S.Service.completed c.args.service.now) (g.S.Service.completed c.loop-entry.service)
     (g.S.Service.promise c.args.service.now) (g.S.Service.promise c.loop-entry.service)
     (g.S.Service.left c.args.service.now) (g.S.Service.left c.loop-entry.service)
