@@ -4,6 +4,7 @@ use http::Method;
 use http_header::HeaderValue;
 use matchit::{InsertError, Router as Patterns};
 use std::alloc::Global;
+use std::marker::Model;
 use web_texts::{NoMemory, Pair};
 
 /// Why a route is refused.
@@ -54,6 +55,19 @@ pub struct RouteTable {
     patterns: Patterns<usize>,
     resources: Vec<Resource>,
     count: usize,
+}
+
+impl Model for RouteTable {
+    ghost use Rattle.std.specs.Prelude.{map};
+    ghost use Rattle.web_routing.specs.RoutedPaths.{TableView};
+
+    ghost Value = { TableView };
+
+    ghost view = { λ t. record {
+      patterns = t.patterns;
+      resources = map (λ r. map (λ route. record { method = route.method; number = route.number })
+          r.routes.items) t.resources.items;
+    } };
 }
 
 impl RouteTable {
