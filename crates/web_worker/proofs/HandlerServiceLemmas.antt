@@ -202,3 +202,12 @@ still_open u w handles responds g q (Extracting f) Unfinished h = absurd h
 still_open u w handles responds g q (Handling f) Unfinished h = h.0
 still_open u w handles responds g q c (Replied r) h = tt
 still_open u w handles responds g q c NoMemory h = tt
+
+-- the value of a handler's future that is there at once
+pub handled_now : {U W Y Q : Type 0} (w : W → Bool) (handles : W → ℕ → Y → Type 0)
+    (responds : Y → Q → Reply Plain → Type 0) (f : W) (q : Q) (y : Y) (c : Work U W)
+    (o : OutcomeView) → handles f 0 y → OutcomeMeets (λ r. responds y q r) o
+    → HandledOrStays w handles responds f q c o
+handled_now w handles responds f q y c (Replied r) a meets = (y, a, meets)
+handled_now w handles responds f q y c Unfinished a meets = absurd meets
+handled_now w handles responds f q y c NoMemory a meets = tt
