@@ -6,6 +6,7 @@ use Rattle.web_reply.specs.Replies.{Reply}
 use Rattle.web_worker.specs.Outcomes.{OutcomeView, OutcomeView.Replied, OutcomeView.Unfinished}
 use Rattle.web_worker.specs.Outcomes.{OutcomeView.NoMemory}
 use Rattle.web_worker.specs.ServiceStates.{MovesTo, SameSteps, States, Stays, Steps}
+use Rattle.web_worker.specs.ServiceStates.{stateless}
 
 pub steps_on : {X Q : Type 0} (a b c : X → Q → Option (Reply Plain) → X → Type 0) → SameSteps a b
     → SameSteps b c → SameSteps a c
@@ -37,3 +38,13 @@ module _ {T Q : Type 0} (states : States T Q) where
   moves_on q Unfinished a b c s t = stays_on a b c s t
   moves_on q NoMemory a b c s (inl t) = inl (stays_on a b c s t)
   moves_on q NoMemory a b c s (inr t) = inr (step_on q None a b c s t)
+
+-- where no state is stated, each poll leaves it
+pub stateless_moves : {T Q : Type 0} (q : Q) (o : OutcomeView) (a b : T)
+    → MovesTo (stateless {S = T} {Q = Q}) q o a b
+stateless_moves q (Replied r) a b =
+    (refl, record { kept = λ x p z y h. h; same = λ x p z y h. h })
+stateless_moves q Unfinished a b =
+    (refl, record { kept = λ x p z y h. h; same = λ x p z y h. h })
+stateless_moves q NoMemory a b =
+    inl (refl, record { kept = λ x p z y h. h; same = λ x p z y h. h })
