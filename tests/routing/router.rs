@@ -19,9 +19,18 @@ type Site = PlainApp<Marks>;
 /// The routes: all items, one item, and what is said of one.
 fn table(rt: &impl Abort, alloc: Global) -> RouteTable {
     let mut table = RouteTable::new(alloc);
-    table.add(alloc, Method::GET, "/items").ok().expect(rt, "a route");
-    table.add(alloc, Method::GET, "/items/{id}").ok().expect(rt, "a route");
-    table.add(alloc, Method::POST, "/items/{id}").ok().expect(rt, "a route");
+    table
+        .add(alloc, Method::GET, "/items")
+        .ok()
+        .expect(rt, "a route");
+    table
+        .add(alloc, Method::GET, "/items/{id}")
+        .ok()
+        .expect(rt, "a route");
+    table
+        .add(alloc, Method::POST, "/items/{id}")
+        .ok()
+        .expect(rt, "a route");
     table
 }
 

@@ -1,8 +1,8 @@
 -- Which route serves a request: that of the pattern that `matchit` gives for its path, and of its
 -- method.
 use Rattle.std.proofs.Common.{arith, refl}
-use Rattle.std.specs.Prelude.{◌≡◌, ℕ, ◌<◌, List, [], ◌∷◌, ◌++◌, Option, None, Some, Bool, true, false}
-use Rattle.std.specs.Prelude.{codes, slice_get, if◌then◌else◌, map, ⊤}
+use Rattle.std.specs.Prelude.{◌≡◌, ℕ, ◌<◌, List, [], ◌∷◌, ◌++◌, Option, None, Some, Bool, true}
+use Rattle.std.specs.Prelude.{false, codes, slice_get, if◌then◌else◌, map, ⊤}
 use Rattle.std.specs.Str.{bytes_eq}
 use Rattle.http_header.specs.FieldValue.{plain_value}
 use Rattle.matchit.specs.Params.{walk}

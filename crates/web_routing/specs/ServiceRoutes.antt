@@ -1,6 +1,7 @@
 -- One of two services, and a service whose replies are changed.
 use Rattle.std.proofs.Common.{refl, ◌∙◌}
-use Rattle.std.specs.Prelude.{◌≡◌, ◌⊎◌, ◌-◌, nat_lt, ℕ, List, ⊤, Bool, true, false, Option, None, Some, [], ◌∷◌, ◌++◌}
+use Rattle.std.specs.Prelude.{◌≡◌, ◌⊎◌, ◌-◌, nat_lt, ℕ, List, ⊤, Bool, true, false, Option, None}
+use Rattle.std.specs.Prelude.{Some, [], ◌∷◌, ◌++◌}
 use Rattle.web_request.specs.declared.source.Mark.{Mark}
 use Rattle.web_request.specs.Request.{Request}
 use Rattle.web_reply.specs.ResponseBodies.{Plain}
