@@ -134,8 +134,11 @@ fn start_flight<A: App, Args, S: Service<A, Args>>(
     let waiting = mem::replace(stage, Stage::Answered(Outcome::NoMemory));
     if let Some(exchange) = waiting.into_waiting() {
         let (parts, body) = exchange.into_parts();
-        if let Some(request) = make_record(alloc, pool, parts) {
-            begin_call::<A, Args, S>(alloc, pool, service, stage, request, body);
+        match make_record(alloc, pool, parts) {
+            Some(request) => {
+                begin_call::<A, Args, S>(alloc, pool, service, stage, request, body);
+            }
+            None => {}
         }
     }
 }

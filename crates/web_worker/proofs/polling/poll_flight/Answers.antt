@@ -14,3 +14,7 @@ returns-else-is_open-clause-polls g c =
 pub returns-then-is_open-clause-polls : goal.returns-then-is_open-clause-polls
 returns-then-is_open-clause-polls g c =
     rw (← c.worker.view_is, ← c.flight.view_is) c.poll_stage.ensures.polls
+
+pub returns-then-is_open-clause-state : goal.returns-then-is_open-clause-state
+returns-then-is_open-clause-state g c =
+    rw (← c.worker.view_is, ← c.flight.view_is) c.poll_stage.ensures.state
