@@ -1,13 +1,17 @@
 -- Calls of the services inside others.
-use Rattle.std.proofs.Common.{◌≡◌, ℕ, refl, inl, inr}
-use Rattle.std.specs.Prelude.{Option, None, Some, List, ⊤}
+use Rattle.std.proofs.Common.{◌≡◌, ℕ, refl, subst, sym, inl, inr}
+use Rattle.std.specs.Prelude.{Option, None, Some, List, Result, Ok, Err, IfOk, ⊤}
+use Rattle.web_request.specs.declared.source.Mark.{Mark}
+use Rattle.web_reply.specs.ResponseBodies.{Plain}
+use Rattle.web_reply.specs.Replies.{Reply}
 use Rattle.web_worker.specs.HandlerCalls.{AreOver, Calls}
 use Rattle.web_worker.specs.Outcomes.{OutcomeView}
 use Rattle.web_worker.specs.Outcomes.{OutcomeView.Replied, OutcomeView.Unfinished}
 use Rattle.web_worker.specs.Outcomes.{OutcomeView.NoMemory}
-use Rattle.web_worker.specs.ServicePromises.{Polls, Promise}
+use Rattle.web_worker.specs.ServicePromises.{Begins, Narrows, Polls, Promise}
+use Rattle.web_worker.specs.ServicePromises.{one_later}
 use Rattle.web_worker.specs.declared.service.Whole.{Whole}
-use Rattle.web_routing.specs.ServiceRoutes.{whole_promise}
+use Rattle.web_routing.specs.ServiceRoutes.{changed, whole_promise}
 
 -- a service of whole requests says nothing of its calls
 pub whole_calls : (over_new : Type 0) (o : OutcomeView)
@@ -31,3 +35,45 @@ whole_polls (Replied r) old new p = p
 whole_polls Unfinished old new p =
     record { gives = p.gives; before = p.before; arguments = λ k y a. tt }
 whole_polls NoMemory old new p = p
+
+pub whole_begins : {V : Type 0} (promise : List Mark → Promise V) (o : Option (List Mark))
+    (left : Promise V) → Begins promise o left
+    → Begins (λ m. whole_promise (promise m)) o (whole_promise left)
+whole_begins promise None left b = b
+whole_begins promise (Some m) left b =
+    record { gives = b.gives; before = b.before; arguments = λ k y a. tt }
+
+pub whole_to_come : AreOver {V = Whole} (λ k y. ⊤) → ⊥
+whole_to_come over = over 0 None tt
+
+pub if_ok : {A E : Type 0} (r : Result A E) (P Q : A → Type 0) → ((x : A) → P x → Q x) → IfOk r P
+    → IfOk r Q
+if_ok (Ok x) P Q f h = f x h
+if_ok (Err e) P Q f h = h
+
+-- ---- a service whose replies are changed
+
+changed_left : {V : Type 0} (changes : Reply Plain → Reply Plain → Type 0) (old new : Promise V)
+    → Narrows new (one_later old) → Narrows (changed changes new) (one_later (changed changes old))
+changed_left changes old new n = record {
+  gives = λ d r g. (g.0, n.gives d g.0 g.1, g.2);
+  before = n.before;
+  arguments = n.arguments;
+}
+
+-- no reply came
+pub changed_waits : {V : Type 0} (changes : Reply Plain → Reply Plain → Type 0) (o : OutcomeView)
+    (old new : Promise V) → ((r : Reply Plain) → o ≡ Replied r → ⊥) → Polls o old new
+    → Polls o (changed changes old) (changed changes new)
+changed_waits changes (Replied r) old new none p = absurd (none r refl)
+changed_waits changes Unfinished old new none p = changed_left changes old new p
+changed_waits changes NoMemory old new none p = p
+
+-- a reply came, and was changed
+pub changed_ends : {V : Type 0} (changes : Reply Plain → Reply Plain → Type 0) (o : OutcomeView)
+    (r s : Reply Plain) (old new : Promise V) → o ≡ Replied r → Polls o old new → changes r s
+    → (changed changes old).gives 0 s
+changed_ends changes (Replied t) r s old new e p c =
+    let same : t ≡ r = cc in (t, p, subst (λ (z : Reply Plain). changes z s) (sym same) c)
+changed_ends changes Unfinished r s old new e p c = absurd cc
+changed_ends changes NoMemory r s old new e p c = absurd cc

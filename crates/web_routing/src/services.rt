@@ -1,8 +1,9 @@
 //! Services of a router, in a balanced tree, each with a number.
-ghost use Rattle.std.specs.Prelude.{◌≡◌, ℕ, Bool, IfOk, List, false};
+ghost use Rattle.std.specs.Prelude.{◌≡◌, ℕ, Bool, IfOk, List, None, false};
 ghost use Rattle.web_request.specs.declared.source.Mark.{Mark};
 ghost use Rattle.web_request.specs.Request.{Request};
 ghost use Rattle.web_body.specs.Payload.{payload_feed};
+ghost use Rattle.web_worker.specs.HandlerCalls.{AreOver, Calls};
 ghost use Rattle.web_worker.specs.Outcomes.{outcome_view};
 ghost use Rattle.web_worker.specs.ServicePromises.{Begins, OnUnfinished, Polls, Promise};
 ghost use Rattle.web_worker.specs.ServicePromises.{SameService};
@@ -64,6 +65,8 @@ pub trait Services<A: App> {
             request.new.request ≡ completed self.old number request.old.request) }
         ensures begins { IfOk result (λ c. Begins (promise self.old number request.old.request)
             (payload_feed A.Source.feed payload.old).marks (left self.old c request.new.request)) }
+        ensures to_come { IfOk result (λ c.
+            AreOver (left self.old c request.new.request).arguments → ⊥) }
         ensures same { same_promises self.old self.new }
         ensures stays { Stays states self.old self.new };
 
@@ -85,6 +88,10 @@ pub trait Services<A: App> {
             (left self.old call.old request.now.request)
             (left self.old call.new request.now.request) }
         ensures same { same_promises self.old self.new }
+        ensures calls { Calls (AreOver (left self.old call.old request.now.request).arguments)
+            (left self.old call.old request.now.request).arguments
+            (AreOver (left self.old call.new request.now.request).arguments)
+            (outcome_view A.Source.feed outcome.new) None None }
         ensures moves { MovesTo states request.now.request
             (outcome_view A.Source.feed outcome.new) self.old self.new };
 
