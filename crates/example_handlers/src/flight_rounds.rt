@@ -31,9 +31,7 @@ fn is_answered<A: App, Args, H: Service<A, Args>>(flight: &Flight<A, Args, H>) -
 }
 
 /// How many of the flights are answered.
-fn answered_count<A: App, Args, H: Service<A, Args>>(
-    flights: &[Flight<A, Args, H>],
-) -> usize
+fn answered_count<A: App, Args, H: Service<A, Args>>(flights: &[Flight<A, Args, H>]) -> usize
     ensures { result ≡ count_by (λ f. is_some (answer_of f)) flights.now }
 {
     flights.iter().filter(|flight| is_answered(flight)).count()

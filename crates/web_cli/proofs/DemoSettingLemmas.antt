@@ -17,7 +17,9 @@ use Rattle.web_worker.specs.Exchanges.{ExchangeView, request_of}
 use Rattle.web_worker.specs.ExchangeRules.{Rules, After, Replies, ComesBefore, RepliesBefore}
 use Rattle.web_worker.specs.OutcomeFunctions.{AnswersOnce}
 use Rattle.web_worker.specs.PlanCalls.{ArgumentsOnce}
-use Rattle.web_worker.specs.Setting.{Setting}
+use Rattle.web_worker.specs.declared.handler_service.Work.{Work}
+use Rattle.web_worker.specs.HandlerServices.{request_promise, work_promise}
+use Rattle.web_worker.specs.Setting.{Setting, setting_of}
 use Rattle.cli_script.specs.ScriptedView.{ScriptedExchangeView}
 use Rattle.demo_app.specs.declared.layer.DemoLayer.{DemoLayer}
 use Rattle.demo_app.specs.declared.app.DemoLocal.{DemoLocal}
@@ -35,14 +37,10 @@ DemoRules V E Y = Rules DemoLayer DemoLocal DemoConn V E Y
 -- the setting of these rules and of the program's worker
 abbrev pub demo_setting : {V E Y U W : Type 0} → DemoRules V E Y
     → (U → ℕ → Result V E → Type 0) → (W → ℕ → Y → Type 0)
-    → Setting Feed DemoLayer DemoLocal DemoConn V E Y U W
-demo_setting rules arguments handling = record {
-  rules = rules;
-  request = request_of (demo_pool 0);
-  feed = λ (f : Feed). f;
-  arguments = arguments;
-  handling = handling;
-}
+    → Setting Feed DemoLayer DemoLocal DemoConn V (Work U W)
+demo_setting rules arguments handling =
+    setting_of (λ q. q) (request_promise rules) (work_promise rules arguments handling)
+    (λ (f : Feed). f) (demo_pool 0)
 
 module _ {V E Y : Type 0} (R : DemoRules V E Y) (converted : (e : E) → (f : Fault) × R.converts e f)
     (a : ArgumentFunctions V) (h : HandlerFunctions V)
