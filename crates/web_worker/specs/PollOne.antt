@@ -31,7 +31,7 @@ module _ {S L D C V K : Type 0} (s : Setting S L D C V K) where
       (calls_old calls_new : Option (List V)) : Type 0 where
     pub step : PollResult s p new
     pub calls : Calls over p.arguments (IsPast s new) (flight_outcome new) calls_old calls_new
-    pub request : IsFor q new
+    pub request : IsFor s q new
 
   -- the first poll of an exchange that has a record
   abbrev pub BeginsFlight : ExchangeView S L D C → FlightView S L D C K → Option (List V)
