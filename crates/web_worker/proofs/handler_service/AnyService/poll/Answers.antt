@@ -5,7 +5,7 @@ use Rattle.web_worker.proofs.HandlerServiceLemmas.{calls_made_err, calls_pending
 use Rattle.web_worker.proofs.HandlerServiceLemmas.{extracting, handled, handling, refused}
 use Rattle.web_worker.proofs.HandlerServiceLemmas.{still_open}
 use Rattle.web_worker.proofs.StateLemmas.{stateless_moves}
-use Rattle.web_worker.proofs.handler_service.HService.poll.Goals as goal
+use Rattle.web_worker.proofs.handler_service.AnyService.poll.Goals as goal
 
 -- ---- the extractors
 

@@ -1,7 +1,7 @@
 use Rattle.web_body.specs.Payload.{payload_feed}
 use Rattle.web_worker.specs.HandlerServices.{rules_of}
 use Rattle.web_worker.proofs.HandlerServiceLemmas.{begun, not_over}
-use Rattle.web_worker.proofs.handler_service.HService.begin.Goals as goal
+use Rattle.web_worker.proofs.handler_service.AnyService.begin.Goals as goal
 
 pub returns-clause-begins : goal.returns-clause-begins
 returns-clause-begins g c =
