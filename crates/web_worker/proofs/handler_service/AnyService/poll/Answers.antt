@@ -1,13 +1,9 @@
 use Rattle.web_worker.specs.HandlerServices.{rules_of}
 use Rattle.web_worker.specs.Outcomes.{outcome_view}
-use Rattle.web_worker.proofs.HandlerServiceLemmas.{called, calls_handling, calls_made}
-use Rattle.web_worker.proofs.HandlerServiceLemmas.{calls_made_err, calls_pending, calls_refused}
-use Rattle.web_worker.proofs.HandlerServiceLemmas.{extracting, handled, handling, refused}
-use Rattle.web_worker.proofs.HandlerServiceLemmas.{still_open}
-use Rattle.web_worker.proofs.StateLemmas.{stateless_moves}
+use Rattle.web_worker.proofs.HandlerServiceLemmas.{called, calls_made, calls_made_err}
+use Rattle.web_worker.proofs.HandlerServiceLemmas.{calls_pending, calls_refused, extracting}
+use Rattle.web_worker.proofs.HandlerServiceLemmas.{refused}
 use Rattle.web_worker.proofs.handler_service.AnyService.poll.Goals as goal
-
--- ---- the extractors
 
 pub returns-in-Pending-clause-polls : goal.returns-in-Pending-clause-polls
 returns-in-Pending-clause-polls g c =
@@ -23,36 +19,6 @@ returns-in-Pending-clause-calls g c =
     (calls_pending (g.Args.Future.Poll.gives c.in-Extracting.future) (g.Args.Future.Poll.gives c.poll.new.self)
     (g.met.Args.Future.Poll.some c.poll.new.self c.in-Pending.ensures.ends)
     c.in-Pending.ensures.shift (g.H.Handler.calls c.args.self.now))
-
-pub returns-in-Ready-Err-clause-polls : goal.returns-in-Ready-Err-clause-polls
-returns-in-Ready-Err-clause-polls g c =
-    rw c.in-Extracting.is
-    (refused (rules_of g.Args.FromRequest.means g.Args.Error.Into.converts
-    (g.H.Handler.answers c.args.self.now) g.H.Output.Responder.responds)
-    g.Args.Future.Poll.gives g.H.Future.Poll.gives c.args.request.now.request
-    c.in-Extracting.future c.in-Ready-Err.error
-    (outcome_view g.A.Source.Source.feed c.error_outcome.result) _
-    (rw c.in-Ready-Err.field-0-is at c.in-Ready-Err.ensures.value) c.error_outcome.ensures)
-
-pub returns-in-Ready-Err-clause-calls : goal.returns-in-Ready-Err-clause-calls
-returns-in-Ready-Err-clause-calls g c =
-    rw c.in-Extracting.is
-    (calls_refused (g.Args.Future.Poll.gives c.in-Extracting.future) c.in-Ready-Err.error
-    (rw c.in-Ready-Err.field-0-is at c.in-Ready-Err.ensures.value) _
-    (g.H.Handler.calls c.args.self.now)
-    (outcome_view g.A.Source.Source.feed c.error_outcome.result))
-
-pub returns-in-Ready-Err-clause-moves : goal.returns-in-Ready-Err-clause-moves
-returns-in-Ready-Err-clause-moves g c = stateless_moves _ _ _ _
-
--- ---- the handler, called in the same turn
-
-pub returns-in-Ok-clause-unfinished : goal.returns-in-Ok-clause-unfinished
-returns-in-Ok-clause-unfinished g c =
-    still_open g.Args.Future.Poll.is_finished g.H.Future.Poll.is_finished g.H.Future.Poll.gives
-    g.H.Output.Responder.responds c.in-Ok.future c.args.request.now.request
-    c.begin_handling.new.call (outcome_view g.A.Source.Source.feed c.begin_handling.new.outcome)
-    c.begin_handling.ensures
 
 pub returns-in-Ok-clause-polls : goal.returns-in-Ok-clause-polls
 returns-in-Ok-clause-polls g c =
@@ -74,9 +40,6 @@ returns-in-Ok-clause-calls g c =
     c.in-Ok.ensures.calls _
     (outcome_view g.A.Source.Source.feed c.begin_handling.new.outcome))
 
-pub returns-in-Ok-clause-moves : goal.returns-in-Ok-clause-moves
-returns-in-Ok-clause-moves g c = stateless_moves _ _ _ _
-
 pub returns-in-Err-clause-calls : goal.returns-in-Err-clause-calls
 returns-in-Err-clause-calls g c =
     rw c.in-Extracting.is
@@ -85,36 +48,20 @@ returns-in-Err-clause-calls g c =
     (g.H.Handler.calls c.args.self.now) (g.H.Handler.calls c.call.new.self)
     c.in-Err.ensures.calls _)
 
--- ---- the handler, called before
-
-pub returns-in-Pending-Handling-clause-polls : goal.returns-in-Pending-Handling-clause-polls
-returns-in-Pending-Handling-clause-polls g c =
-    rw (c.requires.unanswered, c.in-Handling.is)
-    (handling (rules_of g.Args.FromRequest.means g.Args.Error.Into.converts
+pub returns-in-Ready-Err-clause-polls : goal.returns-in-Ready-Err-clause-polls
+returns-in-Ready-Err-clause-polls g c =
+    rw c.in-Extracting.is
+    (refused (rules_of g.Args.FromRequest.means g.Args.Error.Into.converts
     (g.H.Handler.answers c.args.self.now) g.H.Output.Responder.responds)
     g.Args.Future.Poll.gives g.H.Future.Poll.gives c.args.request.now.request
-    c.in-Handling.future c.poll-in-Handling.new.self c.in-Pending-Handling.ensures.shift)
+    c.in-Extracting.future c.in-Ready-Err.error
+    (outcome_view g.A.Source.Source.feed c.error_outcome.result) _
+    (rw c.in-Ready-Err.field-0-is at c.in-Ready-Err.ensures.value) c.error_outcome.ensures)
 
-pub returns-in-Pending-Handling-clause-calls : goal.returns-in-Pending-Handling-clause-calls
-returns-in-Pending-Handling-clause-calls g c =
-    rw (c.requires.unanswered, c.in-Handling.is)
-    (calls_handling _ (g.H.Handler.calls c.args.self.now) _)
-
-pub returns-in-Ready-clause-polls : goal.returns-in-Ready-clause-polls
-returns-in-Ready-clause-polls g c =
-    rw c.in-Handling.is
-    (handled (rules_of g.Args.FromRequest.means g.Args.Error.Into.converts
-    (g.H.Handler.answers c.args.self.now) g.H.Output.Responder.responds)
-    g.Args.Future.Poll.gives g.H.Future.Poll.gives c.args.request.now.request
-    c.in-Handling.future c.in-Ready.value
-    (outcome_view g.A.Source.Source.feed c.response_outcome.result) _ c.in-Ready.ensures.value
-    c.response_outcome.ensures)
-
-pub returns-in-Ready-clause-calls : goal.returns-in-Ready-clause-calls
-returns-in-Ready-clause-calls g c =
-    rw c.in-Handling.is
-    (calls_handling _ (g.H.Handler.calls c.args.self.now)
-    (outcome_view g.A.Source.Source.feed c.response_outcome.result))
-
-pub returns-in-Ready-clause-moves : goal.returns-in-Ready-clause-moves
-returns-in-Ready-clause-moves g c = stateless_moves _ _ _ _
+pub returns-in-Ready-Err-clause-calls : goal.returns-in-Ready-Err-clause-calls
+returns-in-Ready-Err-clause-calls g c =
+    rw c.in-Extracting.is
+    (calls_refused (g.Args.Future.Poll.gives c.in-Extracting.future) c.in-Ready-Err.error
+    (rw c.in-Ready-Err.field-0-is at c.in-Ready-Err.ensures.value) _
+    (g.H.Handler.calls c.args.self.now)
+    (outcome_view g.A.Source.Source.feed c.error_outcome.result))
