@@ -1,8 +1,7 @@
 use Rattle.web_worker.specs.Exchanges.{flight_view, request_of}
 use Rattle.web_worker.specs.Flights.{flight_outcome}
-use Rattle.web_worker.specs.Setting.{setting_of}
 use Rattle.web_worker.proofs.StateLemmas.{moves_on}
-use Rattle.web_worker.proofs.ServiceLemmas.{begin_lost, flight_begins}
+use Rattle.web_worker.proofs.ServiceLemmas.{flight_begins}
 use Rattle.web_worker.proofs.polling.begin_call.Goals as goal
 
 pub returns-in-Ok-clause-same : goal.returns-in-Ok-clause-same
@@ -22,13 +21,6 @@ returns-in-Ok-clause-polled g c = λ worker x is at.
     (g.S.Service.calls c.poll_begun.new.service) is at c.in-Ok.ensures.completes
     c.in-Ok.ensures.begins c.in-Ok.ensures.to_come c.in-Ok.ensures.uncalled
     (c.poll_begun.ensures.polled worker)
-
-pub returns-in-Err-clause-polled : goal.returns-in-Err-clause-polled
-returns-in-Err-clause-polled g c = λ worker x is at.
-    begin_lost (setting_of (g.S.Service.completed c.args.service.now)
-    (g.S.Service.promise c.args.service.now) (g.S.Service.left c.args.service.now)
-    g.A.Source.Source.feed worker) x (g.S.Service.calls c.args.service.now)
-    (g.S.Service.calls c.begin.new.self) c.in-Err.ensures.uncalled
 
 pub returns-in-Ok-clause-state : goal.returns-in-Ok-clause-state
 returns-in-Ok-clause-state g c =
