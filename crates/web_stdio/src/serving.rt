@@ -127,9 +127,10 @@ where
     if connection.feed(alloc, piece).is_err() {
         return finish(alloc, connection, output);
     }
-    answer_whole(
+    let after = answer_whole(
         alloc, clock, worker, handler, additions, taken, connection, output,
-    )
+    )?;
+    Ok(after)
 }
 
 /// Reads piece by piece until the connection ends: at the end of the input, after a reply that
