@@ -1,4 +1,5 @@
 //! Replies whose bodies are written piece by piece after their heads.
+use crate::collected::collected;
 use crate::compare::assert_same;
 use crate::requests::worker;
 use bytes::Bytes;
@@ -9,8 +10,7 @@ use std::process::Abort;
 use web_body::{Mark, Marks, Payload};
 use web_extract::Ready;
 use web_http1::{
-    Answered, Begun, BodyFraming, BodyStage, BodyWritten, Connection, DueBody, Ended,
-    ReplySettings, serve_connection,
+    Answered, Begun, BodyFraming, BodyStage, BodyWritten, Connection, DueBody, Ended, ReplySettings,
 };
 use web_messages::{Limits, Wrong};
 use web_reply::{BoxBody, HttpResponse};
@@ -143,27 +143,6 @@ fn served(
     (out, ended, last)
 }
 
-/// What `serve_connection` writes for these bytes.
-fn collected(rt: &impl Abort, alloc: Global, bytes: &'static [u8]) -> (Vec<u8>, Ended) {
-    let mut worker: Worker<Site> = worker(rt, alloc, NoData);
-    let mut handler = FnHandler(|body: Bytes| -> Result<Ready<Streamed>, NoMemory> {
-        Ok(Ready::new(respond(alloc, &body)?))
-    });
-    let marks = vec![in alloc; Mark::Piece(Bytes::from_static(bytes))];
-    let mut source = Marks::new(marks.expect(rt, "memory"));
-    let mut out = Vec::new(alloc);
-    let limits = Limits::default();
-    let ended = serve_connection(
-        alloc,
-        &mut worker,
-        &mut handler,
-        limits,
-        &mut source,
-        &mut out,
-    );
-    (out, ended)
-}
-
 /// Connections whose bodies have the lengths that they state.
 const HONEST: &[&[u8]] = &[
     b"GET / HTTP/1.1\r\n\r\nPOST / HTTP/1.1\r\ncontent-length: 5\r\n\r\nhello\
@@ -182,8 +161,11 @@ const HONEST: &[&[u8]] = &[
 #[test]
 fn bodies_of_a_stated_length_are_those_of_whole_replies(rt: HostRuntime) {
     let alloc = rt.alloc();
+    let mut handler = FnHandler(|body: Bytes| -> Result<Ready<Streamed>, NoMemory> {
+        Ok(Ready::new(respond(alloc, &body)?))
+    });
     for bytes in HONEST {
-        let (expected, end) = collected(&rt, alloc, bytes);
+        let (end, expected) = collected(&rt, alloc, bytes, &mut handler);
         for step in 1..60 {
             let (out, ended, _) = served(&rt, alloc, &ReplySettings::default(), bytes, step);
             assert_same(&rt, ended, end);

@@ -1,4 +1,5 @@
 //! Connections whose bytes are fed and whose replies are written by calls in any order.
+use crate::collected::collected;
 use crate::compare::assert_same;
 use crate::requests::worker;
 use bytes::Bytes;
@@ -7,7 +8,7 @@ use std::alloc::Global;
 use std::process::Abort;
 use web_body::{Mark, Marks, Payload};
 use web_extract::Ready;
-use web_http1::{Answered, Connection, Ended, serve_connection};
+use web_http1::{Answered, Connection, Ended};
 use web_messages::{LengthFault, Limits, Wrong};
 use web_reply::{BoxBody, HttpResponse};
 use web_request::{NoData, NoMemory, PlainApp};
@@ -71,27 +72,6 @@ fn streamed(alloc: Global, bytes: &Bytes) -> Result<Streamed, NoMemory> {
     Ok(HttpResponse::with_body(alloc, StatusCode::OK, body))
 }
 
-/// What a connection over all bytes at once writes.
-fn whole(rt: &impl Abort, alloc: Global, bytes: &'static [u8]) -> (Ended, Vec<u8>) {
-    let mut worker: Worker<Site> = worker(rt, alloc, NoData);
-    let mut handler = FnHandler(|body: Bytes| -> Result<Ready<Streamed>, NoMemory> {
-        Ok(Ready::new(streamed(alloc, &body)?))
-    });
-    let marks = vec![in alloc; Mark::Piece(Bytes::from_static(bytes))];
-    let mut source = Marks::new(marks.expect(rt, "memory"));
-    let mut out = Vec::new(alloc);
-    let limits = Limits::default();
-    let ended = serve_connection(
-        alloc,
-        &mut worker,
-        &mut handler,
-        limits,
-        &mut source,
-        &mut out,
-    );
-    (ended, out)
-}
-
 /// One call that is drawn. What it says is compared with what it wrote.
 fn call<H: Handler<Bytes, Output = Streamed>>(
     rt: &impl Abort,
@@ -121,15 +101,15 @@ fn call<H: Handler<Bytes, Output = Streamed>>(
 #[test]
 fn calls_in_any_order_write_the_same(rt: HostRuntime) {
     let alloc = rt.alloc();
+    let mut handler = FnHandler(|body: Bytes| -> Result<Ready<Streamed>, NoMemory> {
+        Ok(Ready::new(streamed(alloc, &body)?))
+    });
     for (bytes, end) in STREAMS {
-        let (ended, expected) = whole(&rt, alloc, bytes);
+        let (ended, expected) = collected(&rt, alloc, bytes, &mut handler);
         assert_same(&rt, ended, *end);
         for seed in 0..200 {
             let mut draws = Draws(seed);
             let mut worker: Worker<Site> = worker(&rt, alloc, NoData);
-            let mut handler = FnHandler(|body: Bytes| -> Result<Ready<Streamed>, NoMemory> {
-                Ok(Ready::new(streamed(alloc, &body)?))
-            });
             let mut connection = Connection::new(alloc, Limits::default());
             let (mut at, mut out) = (0, Vec::new(alloc));
             while at < bytes.len() {
