@@ -32,16 +32,16 @@ use Rattle.web_http1.specs.declared.due_body.DuePayload.{DuePayload}
 use Rattle.web_http1.specs.declared.ended.Ended.{Ended}
 use Rattle.web_http1.specs.declared.ended.Ended.TheVariants as ended
 use Rattle.web_http1.specs.declared.settings.ReplySettings.{ReplySettings}
-use Rattle.web_http1.specs.Answers.{Answer, IsAnswerTo, asks_end, is_first, is_head}
+use Rattle.web_http1.specs.Answers.{Answer, IsAnswerTo, asks_end, is_first, is_head, refusal_status}
 use Rattle.web_http1.specs.BegunReplies.{AddsNothing, BeginsReply, HasMarks, IsDueOf, IsInMemory, asked_of, begun_closes, begun_head, begun_text, body_framing, bytes_at_once, framing_line, stated_framing}
-use Rattle.web_http1.specs.BegunAnswers.{AllHaveTheirLength, BeginsMessage, BeginsNext, BeginsNone, BeginsOne, BegunSteps, BegunWaits, EndsBegun, HasItsLength, IsBegun, IsBegunOr, IsInside, OneBegun, after_begun, after_reply, after_turn, begun_left, end_after, moved, turned_answer}
+use Rattle.web_http1.specs.BegunAnswers.{AllHaveTheirLength, BeginsMessage, BeginsNext, BeginsNone, BeginsOne, BegunSteps, BegunWaits, EndsBegun, HasItsLength, IsBegun, IsBegunOr, IsInside, OneBegun, TurnsUnbegun, after_begun, after_reply, after_turn, begun_left, end_after, moved, turned_answer}
 use Rattle.web_http1.specs.BodyFramings.{body_text}
 use Rattle.web_http1.specs.Connections.{ConnectionView, StepsTo, bytes_open, ended_at, open_at, open_bytes}
-use Rattle.web_http1.specs.ConnectionSteps.{IsTurned, RefusedWith, WaitsBehind, turned_left}
+use Rattle.web_http1.specs.ConnectionSteps.{IsTurned, WaitsBehind, turned_left}
 use Rattle.web_http1.specs.MessageExchanges.{exchange_of}
 use Rattle.web_http1.specs.Polls.{AllowsReply}
 use Rattle.web_http1.specs.DueBodies.{IsToCome}
-use Rattle.web_http1.specs.OneAnswer.{TurnsOne}
+use Rattle.web_http1.specs.RefusalReplies.{RefusesAs, refusal_text}
 use Rattle.web_http1.specs.ReplyBytes.{Sent, close_line, content_of, crlf, field_lines, has_no_body, head_bytes_of, head_closes, length_line, sent_bytes, sent_reply, sent_with, status_line}
 use Rattle.web_http1.proofs.ConnectionLemmas.{WritesReply, closed_steps, failed_steps, message_fits, message_some, open_steps, replied_so}
 use Rattle.web_http1.proofs.OneLemmas.{from_none}
@@ -61,7 +61,7 @@ line_of true false true n e = absurd (cc)
 line_of false none at n e = refl
 
 -- no Date
-no_date : (h : ResponseHead) (f : Option BodyFraming) (gone closes : Bool) (n : ℕ) → framing_line f ≡ length_line gone n → begun_head None h f closes ≡ head_bytes_of gone h n closes
+pub no_date : (h : ResponseHead) (f : Option BodyFraming) (gone closes : Bool) (n : ℕ) → framing_line f ≡ length_line gone n → begun_head None h f closes ≡ head_bytes_of gone h n closes
 no_date h f gone closes n is =
     ap (λ (t : List ℕ). t ++ framing_line f ++ close_line closes ++ crlf) (append-nil (status_line h ++ field_lines h.headers))
     ∙ ap (λ (l : List ℕ). status_line h ++ field_lines h.headers ++ l ++ close_line closes ++ crlf) is
@@ -223,10 +223,10 @@ module _ {S L D C V E Y U W : Type 0} (s : Setting S L D C V E Y U W) where
 
     -- ---- no reply was begun
 
-    pub turn_next : (t : Turned) → old.ended ≡ None → BeginsNone t → TurnsOne s old.limits old.left before behind t
+    pub turn_next : (t : Turned) → old.ended ≡ None → BeginsNone t → TurnsUnbegun s settings old.limits old.left before behind t
         → BeginsNext s settings old before behind (begun.Answered (after_turn old t) (turned_answer t))
     turn_next (turned.Goes used) unended none one = absurd none
-    turn_next (turned.Waits skipped p) unended none one = (unended, refl, one)
+    turn_next (turned.Waits skipped p) unended none one = (unended, refl, one.1)
     turn_next (turned.Ended ended.Closed) unended none one = absurd none
     turn_next (turned.Ended (ended.Refused w)) unended none one = (refl, ends_begun (ended.Refused w) unended one)
     turn_next (turned.Ended ended.SourceFault) unended none one = absurd none
@@ -238,13 +238,13 @@ module _ {S L D C V E Y U W : Type 0} (s : Setting S L D C V E Y U W) where
     turn_goes (turned.Waits skipped p) unended none h = from_none s old.ended _ _ unended h.1
     turn_goes (turned.Ended e) unended none h = from_none s old.ended _ _ unended h.1
 
-    pub turn_waits : (t : Turned) → BeginsNone t → IsTurned s old.limits old.left before behind t
+    pub turn_waits : (t : Turned) → BeginsNone t → TurnsUnbegun s settings old.limits old.left before behind t
         → BegunWaits {S = S} (begun.Answered (after_turn old t) (turned_answer t))
     turn_waits (turned.Goes used) none h = absurd none
     turn_waits (turned.Waits skipped p) none h = (λ e. h.0.1, h.0.0.few, h.0.2)
     turn_waits (turned.Ended e) none h = tt
 
-    pub turn_inside : (t : Turned) → BeginsNone t → IsTurned s old.limits old.left before behind t → IsInside old t
+    pub turn_inside : (t : Turned) → BeginsNone t → TurnsUnbegun s settings old.limits old.left before behind t → IsInside old t
     turn_inside (turned.Goes used) none h = absurd none
     turn_inside (turned.Waits skipped p) none h = (h.0.0.inside, h.0.0.is_progress)
     turn_inside (turned.Ended e) none h = tt
@@ -335,7 +335,7 @@ module _ {S L D C V E Y U W : Type 0} (s : Setting S L D C V E Y U W) (settings 
     message_begins (step.Turned (turned.Ended (ended.Refused w))) h = absurd h
     message_begins (step.Turned (turned.Ended ended.SourceFault)) h = absurd h
     message_begins (step.Turned (turned.Ended ended.NoMemory)) h =
-        (tt, (tt, failed_steps s (open_at limits rest) (ended_at limits rest ended.NoMemory) before behind refl h), h)
+        (tt, λ off. (tt, failed_steps s (open_at limits rest) (ended_at limits rest ended.NoMemory) before behind refl h), h)
 
     pub message_made : (t : BegunTurn S) (old new : ℕ) → BeginsMessage s settings m before behind t → new ≤ old + 1 → new + begun_left t (length rest) ≤ old + length rest
     message_made (step.Begun used reply) old new h made =
@@ -349,11 +349,27 @@ module _ {S L D C V E Y U W : Type 0} (s : Setting S L D C V E Y U W) (settings 
         let fits = message_fits s (open_at limits rest) (open_at limits rest) m is in
         omega (arith, some, fits, made)
 
-  pub refused_none : (w : Wrong) (end : Ended) (before behind : List ℕ) → RefusedWith w end before behind → BeginsNone (turned.Ended end)
+  pub refused_none : (w : Wrong) (end : Ended) (before behind : List ℕ) → RefusesAs settings w end before behind → BeginsNone (turned.Ended end)
   refused_none w ended.Closed before behind h = absurd h
   refused_none w (ended.Refused v) before behind h = tt
   refused_none w ended.SourceFault before behind h = absurd h
   refused_none w ended.NoMemory before behind h = tt
+
+  pub refused_unbegun : (limits : Limits) (rest : List ℕ) (w : Wrong) (end : Ended) (before behind : List ℕ) → IsSettled limits rest (next.Refused w)
+      → RefusesAs settings w end before behind → TurnsUnbegun s settings limits rest before behind (turned.Ended end)
+  refused_unbegun limits rest w ended.Closed before behind is h = absurd h
+  refused_unbegun limits rest w (ended.Refused v) before behind is h = (
+    subst (λ (u : Wrong). IsSettled limits rest (next.Refused u)) (sym h.0) is,
+    h.1 ∙ ap (λ (u : Wrong). before ++ refusal_text settings (refusal_status u)) (sym h.0),
+  )
+  refused_unbegun limits rest w ended.SourceFault before behind is h = absurd h
+  refused_unbegun limits rest w ended.NoMemory before behind is h = h
+
+  pub waits_unbegun : (limits : Limits) (rest before behind : List ℕ) (t : Turned) → WaitsBehind limits rest t → behind ≡ before
+      → TurnsUnbegun s settings limits rest before behind t
+  waits_unbegun limits rest before behind (turned.Goes used) h written = absurd h
+  waits_unbegun limits rest before behind (turned.Waits skipped p) h written = (h, written)
+  waits_unbegun limits rest before behind (turned.Ended end) h written = absurd h
 
   pub waits_none : (limits : Limits) (rest : List ℕ) (t : Turned) → WaitsBehind limits rest t → BeginsNone t
   waits_none limits rest (turned.Goes used) h = absurd h

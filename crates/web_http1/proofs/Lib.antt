@@ -16,3 +16,5 @@ pub mod AllowedLemmas
 pub mod OneBufferLemmas
 pub mod DueBodyLemmas
 pub mod BegunLemmas
+pub mod RefusalLemmas
+pub mod BegunCallLemmas

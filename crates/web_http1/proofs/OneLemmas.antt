@@ -21,11 +21,11 @@ use Rattle.web_http1.specs.OneAnswer.{EndsOne, TurnsOne}
 
 -- what is kept of a message that was read so far
 pub keeps_few : (limits : Limits) (bytes : List ℕ) (p : Progress) → IsProgress limits bytes p → HasFewBlank limits bytes → IsShort limits bytes p → KeepsFew limits bytes
-keeps_few limits bytes (progress.Head s) is few short = inl (of (is_blank bytes) refl)
+keeps_few limits bytes (progress.Head s) is few short = inl (of (is_blank bytes) refl, λ some. (short some).1)
   where
     of : (b : Bool) → is_blank bytes ≡ b → length bytes ≤ limits.head
     of true e = few e
-    of false e = let less = short e in omega (arith, less)
+    of false e = let less = (short e).0 in omega (arith, less)
 keeps_few limits bytes (progress.Sized head n) is few short =
     inr (inl (record { head = head.value; found = is.0; size = n; declared = is.1; fits = short.0; fewer = short.1 }))
 keeps_few limits bytes (progress.Chunked head place body) is few short =

@@ -27,14 +27,15 @@ use Rattle.web_http1.specs.declared.due_body.DuePayload.{DuePayload}
 use Rattle.web_http1.specs.declared.ended.Ended.{Ended}
 use Rattle.web_http1.specs.declared.ended.Ended.TheVariants as ended
 use Rattle.web_http1.specs.declared.settings.ReplySettings.{ReplySettings}
-use Rattle.web_http1.specs.Answers.{Answer, IsAnswerTo, refusal_bytes}
-use Rattle.web_http1.specs.BegunReplies.{BeginsReply, asked_of}
+use Rattle.web_http1.specs.Answers.{Answer, IsAnswerTo, refusal_status}
+use Rattle.web_http1.specs.BegunReplies.{AddsNothing, BeginsReply, asked_of}
 use Rattle.web_http1.specs.Connections.{ConnectionView, StepsFrom, StepsTo, ended_at}
-use Rattle.web_http1.specs.ConnectionSteps.{IsTurned, turned_left}
+use Rattle.web_http1.specs.ConnectionSteps.{IsTurned, WaitsBehind, turned_left}
 use Rattle.web_http1.specs.DueBodies.{IsToCome, body_feed}
 use Rattle.web_http1.specs.MessageExchanges.{exchange_of}
-use Rattle.web_http1.specs.OneAnswer.{TurnsOne, WaitsWhere}
+use Rattle.web_http1.specs.OneAnswer.{WaitsWhere}
 use Rattle.web_http1.specs.Polls.{AllowsReply}
+use Rattle.web_http1.specs.RefusalReplies.{refusal_text}
 
 -- a body that is in memory, or has the length that it states: what is written of it does not
 -- depend on how it comes
@@ -136,20 +137,37 @@ module _ {S L D C V E Y U W : Type 0} (s : Setting S L D C V E Y U W) where
       pub used : n ≡ message.used
       pub begun : IsBegun message before behind closes due
 
+    -- the connection ended by a refusal, or an allocation failed
+    abbrev pub EndsRefused : Limits → List ℕ → List ℕ → List ℕ → Ended → Type 0
+    EndsRefused limits bytes before behind ended.Closed = ⊥
+    EndsRefused limits bytes before behind (ended.Refused w) =
+        IsSettled limits bytes (next.Refused w)
+        × (behind ≡ before ++ refusal_text settings (refusal_status w))
+    EndsRefused limits bytes before behind ended.SourceFault = ⊥
+    EndsRefused limits bytes before behind ended.NoMemory = behind ≡ before
+
+    -- a step that began no reply
+    abbrev pub TurnsUnbegun : Limits → List ℕ → List ℕ → List ℕ → Turned → Type 0
+    TurnsUnbegun limits bytes before behind (turned.Goes used) = ⊥
+    TurnsUnbegun limits bytes before behind (turned.Waits skipped p) =
+        WaitsBehind limits bytes (turned.Waits skipped p) × (behind ≡ before)
+    TurnsUnbegun limits bytes before behind (turned.Ended end) =
+        EndsRefused limits bytes before behind end
+
     -- one step
     abbrev pub BeginsOne : Limits → List ℕ → List ℕ → List ℕ → BegunTurn S → Type 0
     BeginsOne limits bytes before behind (turn.Begun used reply) =
         OneBegun limits bytes before behind used reply.closes reply.due
     BeginsOne limits bytes before behind (turn.Turned t) =
-        BeginsNone t × IsTurned s limits bytes before behind t
-        × TurnsOne s limits bytes before behind t
+        BeginsNone t × (AddsNothing settings → IsTurned s limits bytes before behind t)
+        × TurnsUnbegun limits bytes before behind t
 
     -- the connection ended, after a whole reply that closes or by a refusal
     abbrev pub EndsBegun : Limits → List ℕ → List ℕ → List ℕ → Ended → Type 0
     EndsBegun limits bytes before behind ended.Closed =
         (n : ℕ) × OneBegun limits bytes before behind n true None
     EndsBegun limits bytes before behind (ended.Refused w) =
-        IsSettled limits bytes (next.Refused w) × (behind ≡ before ++ refusal_bytes w)
+        EndsRefused limits bytes before behind (ended.Refused w)
     EndsBegun limits bytes before behind ended.SourceFault = ⊥
     EndsBegun limits bytes before behind ended.NoMemory = behind ≡ before
 

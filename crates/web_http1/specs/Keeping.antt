@@ -1,7 +1,8 @@
 -- How many bytes are kept of a message that is not whole.
-use Rattle.std.specs.Prelude.{◌≡◌, ℕ, ◌+◌, ◌<◌, ◌≤◌, ◌⊎◌, List, length}
+use Rattle.std.specs.Prelude.{◌≡◌, ℕ, ◌+◌, ◌<◌, ◌≤◌, ◌⊎◌, false, List, length}
+use Rattle.web_messages.specs.EmptyLines.{is_blank}
 use Rattle.web_messages.specs.NextMessage.{framing_in}
-use Rattle.web_messages.specs.Progress.{HeadFound}
+use Rattle.web_messages.specs.Progress.{HeadFound, MayBecomeHead}
 use Rattle.web_messages.specs.declared.framing.Framing.TheVariants as framing
 use Rattle.web_messages.specs.declared.head.Head.{Head}
 use Rattle.web_messages.specs.declared.limits.Limits.{Limits}
@@ -21,7 +22,12 @@ pub record WaitsForChunks (limits : Limits) (bytes : List ℕ) : Type 0 where
   pub found : HeadFound limits bytes head
   pub declared : framing_in limits head ≡ framing.Chunked
 
--- no more bytes than a head may have; or a head and a part of its body
+-- no more bytes than a head may have, which may still become one
+abbrev pub WaitsForHead : Limits → List ℕ → Type 0
+WaitsForHead limits bytes =
+    (length bytes ≤ limits.head) × (is_blank bytes ≡ false → MayBecomeHead limits bytes)
+
+-- bytes of a head; or a head and a part of its body
 abbrev pub KeepsFew : Limits → List ℕ → Type 0
 KeepsFew limits bytes =
-    (length bytes ≤ limits.head) ⊎ (WaitsForBody limits bytes ⊎ WaitsForChunks limits bytes)
+    WaitsForHead limits bytes ⊎ (WaitsForBody limits bytes ⊎ WaitsForChunks limits bytes)

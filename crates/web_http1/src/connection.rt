@@ -14,6 +14,7 @@ ghost use Rattle.web_http1.specs.Connections.{bytes_open, ended_at};
 ghost use Rattle.web_http1.specs.Expecting.{AwaitsContinue, Continues};
 ghost use Rattle.web_http1.specs.Keeping.{KeepsFew};
 ghost use Rattle.web_http1.specs.OneAnswer.{IsAnswered, WaitsWhere};
+ghost use Rattle.web_http1.specs.RefusalReplies.{FinishesWhere};
 
 use crate::answered::Answered;
 use crate::answering::{Left, Rooms, Turned, answer_rest, finish_rest, serve_next};
@@ -22,6 +23,7 @@ use crate::begun::Begun;
 use crate::due_body::DueBody;
 use crate::ended::Ended;
 use crate::expecting::{awaits_continue, put_continue};
+use crate::refusing::finish_rest_as;
 use crate::settings::ReplySettings;
 use std::alloc::Global;
 use std::marker::Model;
@@ -204,10 +206,10 @@ impl Connection {
     }
 
     /// Writes the reply to each message that is whole, in their order, and the reply of a refusal
-    /// that no byte that follows can lift; that of a head may come later, at the latest by
-    /// `finish`. It ends after a reply that closes, and after a refusal. Where an allocation
-    /// failed it ends too, with `Ended::NoMemory`. Of empty lines before a head no more are kept
-    /// than a head may have.
+    /// that no byte that follows can lift; that of a head once its empty line is there, or as many
+    /// bytes as it may have. It ends after a reply that closes, and after a refusal. Where an
+    /// allocation failed it ends too, with `Ended::NoMemory`. Of empty lines before a head no more
+    /// are kept than a head may have.
     pub fn answer<A: App, Args: FromRequest<A>, H: Handler<Args>>(
         &mut self,
         alloc: Global,
@@ -500,6 +502,30 @@ impl Connection {
         let progress = mem::replace(&mut self.progress, Progress::start());
         let rest = &self.buffer[self.start..];
         let ended = finish_rest(alloc, &self.limits, rest, progress, &mut self.rooms, out);
+        self.ended = Some(ended);
+        ended
+    }
+
+    /// Ends as `finish` does, after `begin_next`: the reply of a refusal is as the settings say.
+    pub fn finish_with(
+        &mut self,
+        alloc: Global,
+        settings: &ReplySettings,
+        out: &mut Vec<u8>,
+    ) -> Ended
+        requires waits { WaitsForMore self.old }
+        ensures ended { self.new.ended ≡ Some result }
+        ensures finishes { FinishesWhere settings.now self.old result out.old.items out.new.items }
+        ensures same { AddsNothing settings.now
+            → Finishes self.old result out.old.items out.new.items }
+    {
+        if let Some(ended) = self.ended {
+            return ended;
+        }
+        let progress = mem::replace(&mut self.progress, Progress::start());
+        let rest = &self.buffer[self.start..];
+        let rooms = &mut self.rooms;
+        let ended = finish_rest_as(alloc, &self.limits, rest, progress, rooms, settings, out);
         self.ended = Some(ended);
         ended
     }

@@ -30,7 +30,7 @@ pub after_turn-requires-clause-inside : goal.after_turn-requires-clause-inside
 after_turn-requires-clause-inside g c =
     let s = setting_of g.Args.FromRequest.means g.Args.Error.Into.converts (g.H.Handler.answers c.args.handler.now) g.H.Output.Responder.responds g.A.Source.Source.feed g.Args.Future.Poll.gives g.H.Future.Poll.gives c.args.worker.now in
     subst (λ (v : ConnectionView). IsInside v c.in-Turned.turned) (sym c.in-Turned.ensures.same)
-    (of.turn_inside s c.args.settings.now c.args.self c.args.out.now.items c.begin.new.out.items c.in-Turned.turned c.in-Turned.ensures.one.0 c.in-Turned.ensures.one.1)
+    (of.turn_inside s c.args.settings.now c.args.self c.args.out.now.items c.begin.new.out.items c.in-Turned.turned c.in-Turned.ensures.one.0 c.in-Turned.ensures.one.2)
 
 pub returns-in-Begun-clause-made : goal.returns-in-Begun-clause-made
 returns-in-Begun-clause-made g c =
@@ -116,7 +116,7 @@ returns-in-Turned-clause-waits g c =
     let turned = c.in-Turned.turned in
     let one = c.in-Turned.ensures.one in
     let is = c.after_turn.ensures ∙ ap (λ (v : ConnectionView). begun.Answered (after_turn v turned) (turned_answer turned)) c.in-Turned.ensures.same in
-    subst (λ r. BegunWaits r) (sym is) (of.turn_waits s c.args.settings.now c.args.self c.args.out.now.items c.begin.new.out.items turned one.0 one.1)
+    subst (λ r. BegunWaits r) (sym is) (of.turn_waits s c.args.settings.now c.args.self c.args.out.now.items c.begin.new.out.items turned one.0 one.2)
 
 pub returns-in-Turned-clause-begun : goal.returns-in-Turned-clause-begun
 returns-in-Turned-clause-begun g c =
@@ -136,4 +136,4 @@ returns-in-Turned-clause-steps g c =
     let one = c.in-Turned.ensures.one in
     let is = c.after_turn.ensures ∙ ap (λ (v : ConnectionView). begun.Answered (after_turn v turned) (turned_answer turned)) c.in-Turned.ensures.same in
     λ off all. subst (λ r. BegunSteps s c.args.self c.args.out.now.items c.begin.new.out.items r) (sym is)
-    (of.turn_goes s c.args.settings.now c.args.self c.args.out.now.items c.begin.new.out.items turned unended one.0 one.1)
+    (of.turn_goes s c.args.settings.now c.args.self c.args.out.now.items c.begin.new.out.items turned unended one.0 (one.1 off))
