@@ -78,14 +78,16 @@ MayBecomeHead limits bytes =
     ((n : ℕ) × BlankFront bytes n × HasNoEmptyLine bytes n)
     ⊎ (MayBecomeRequest bytes ⊎ (find_fault limits bytes ≡ None))
 
--- a head that is looked for has fewer bytes than it may have, and may still come of them; and a
--- body that is read to a length has fewer than that, which it may have
+-- A head that is looked for has fewer bytes than it may have, and may still come of them. A body
+-- that is read to a length has fewer than that, which it may have. After the chunks that were read
+-- there is a part of one chunk, or of the trailers.
 abbrev pub IsShort : Limits → List ℕ → Progress → Type 0
 IsShort limits bytes (progress.Head s) =
     is_blank bytes ≡ false → (length bytes < limits.head) × MayBecomeHead limits bytes
 IsShort limits bytes (progress.Sized head n) =
     (n ≤ limits.body) × (length bytes < head.value.length + n)
-IsShort limits bytes (progress.Chunked head place body) = ⊤
+IsShort limits bytes (progress.Chunked head place body) =
+    length bytes ≤ head.value.length + (place.at + (place.left + 16642))
 
 -- what is known: the next message whatever follows; or how far it was read, and what it is where
 -- nothing follows, which is no message and no refusal that stands
