@@ -5,7 +5,7 @@ use Rattle.web_reply.specs.ResponseBodies.{Plain}
 use Rattle.web_reply.specs.Replies.{Reply}
 use Rattle.web_routing.specs.ServiceRoutes.{ChangedSteps, changed_states}
 use Rattle.web_routing.specs.StateServices.{kept_states}
-use Rattle.web_routing.specs.ServiceStates.{MayStep, SameSteps, States, Steps}
+use Rattle.web_worker.specs.ServiceStates.{MayStep, SameSteps, States, Steps}
 
 module _ {X Q : Type 0} (changes : Q → Reply Plain → Reply Plain → Type 0)
     (a b : X → Q → Option (Reply Plain) → X → Type 0)

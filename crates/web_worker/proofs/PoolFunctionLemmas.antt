@@ -17,7 +17,7 @@ use Rattle.web_worker.specs.PoolRun.{SerialState, NotTaken, return_held}
 use Rattle.web_worker.proofs.NumberedPairsLemmas.{each_both, each_left}
 use Rattle.web_worker.proofs.PoolRunLemmas.{run_same, unequal}
 
-module _ {S L D C V E Y U W : Type 0} (s : Setting S L D C V E Y U W) where
+module _ {S L D C V K : Type 0} (s : Setting S L D C V K) where
   -- an exchange that n polls may leave unfinished is not answered before
   not_before : (n d : ℕ) (x : ExchangeView S L D C) (r : Reply Plain) → AnswersOnce s x d r → AllowedOutcome s n x Unfinished → n ≤ d
   not_before n d x r once (inl e) = omega (arith, e)

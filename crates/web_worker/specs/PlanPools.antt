@@ -24,7 +24,7 @@ abbrev pub pool_after : {L X : Type 0} → (ℕ → ℕ) → Pool L → List X �
 pool_after delay p xs plan =
     let ran = run_entries delay p (map (λ _. NotTaken) xs) [] plan in return_held ran.0 ran.1
 
-module _ {S L D C V E Y U W : Type 0} (s : Setting S L D C V E Y U W) where
+module _ {S L D C V K : Type 0} (s : Setting S L D C V K) where
   -- each exchange has this one delay, and one reply
   abbrev pub EachAnswersOnce : List (ExchangeView S L D C) → (ℕ → ℕ) → Type 0
   EachAnswersOnce xs delay =
