@@ -1,7 +1,6 @@
 //! The head of a response.
 ghost use Rattle.std.specs.Prelude.{◌≡◌, IfOk};
 
-use bytes::ByteStr;
 use http::{StatusCode, Version};
 use http_header::{HeaderMap, HeaderValue};
 use std::alloc::Global;
@@ -24,7 +23,7 @@ pub enum ConnectionType {
 /// Contracts see it as its bytes.
 #[derive(Debug, Drop)]
 pub struct Reason {
-    text: ByteStr,
+    text: &'static str,
 }
 
 impl Model for Reason {
@@ -41,21 +40,21 @@ impl Reason {
         ensures { result ≡ text.now }
     {
         Reason {
-            text: ByteStr::from_static(text),
+            text,
         }
     }
 
     pub fn as_str(&self) -> &str
         ensures { result.now ≡ self.now }
     {
-        self.text.as_str()
+        self.text
     }
 }
 
 impl Duplicate for Reason {
     fn duplicate(&self, _alloc: Global) -> Result<Reason, NoMemory> {
         Ok(Reason {
-            text: self.text.clone()?,
+            text: self.text,
         })
     }
 }
