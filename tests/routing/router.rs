@@ -57,11 +57,11 @@ fn site(rt: &impl Abort, alloc: Global) -> impl Service<Site, Whole> {
         table(rt, alloc),
         Two {
             middle: 1,
-            below: Only(HandlerService::immediate(|_none: ()| all(alloc))),
+            below: Only(HandlerService::immediate(move |_none: ()| all(alloc))),
             above: Two {
                 middle: 1,
-                below: Only(HandlerService::immediate(|id| one(alloc, id))),
-                above: Only(HandlerService::immediate(|args| said(alloc, args))),
+                below: Only(HandlerService::immediate(move |id| one(alloc, id))),
+                above: Only(HandlerService::immediate(move |args| said(alloc, args))),
             },
         },
         HandlerService::immediate(|none| nothing(none)),
@@ -93,7 +93,7 @@ fn a_route_is_found_by_its_pattern_and_its_method(rt: HostRuntime) {
     let expected = "\
         200 - all items\n\
         200 - item 7\n\
-        404 - can not parse \"seven\" to a u32\n\
+        404 - Path deserialize error: id: no whole number from 0 to 4294967295\n\
         200 - a b: new\n\
         200 - item 7\n\
         405 - \n\
