@@ -39,9 +39,7 @@ impl Reason {
     pub fn of(text: &'static str) -> Reason
         ensures { result ≡ text.now }
     {
-        Reason {
-            text,
-        }
+        Reason { text }
     }
 
     pub fn as_str(&self) -> &str
@@ -53,9 +51,7 @@ impl Reason {
 
 impl Duplicate for Reason {
     fn duplicate(&self, _alloc: Global) -> Result<Reason, NoMemory> {
-        Ok(Reason {
-            text: self.text,
-        })
+        Ok(Reason { text: self.text })
     }
 }
 
