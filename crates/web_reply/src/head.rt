@@ -31,7 +31,7 @@ impl Model for Reason {
 
     ghost Value = { List ℕ };
 
-    ghost view = { λ r. r.text };
+    ghost view = { λ r. r.text.now };
 }
 
 impl Reason {
