@@ -1,6 +1,7 @@
 //! The head of a response.
 ghost use Rattle.std.specs.Prelude.{◌≡◌, IfOk};
 
+use bytes::ByteStr;
 use http::{StatusCode, Version};
 use http_header::{HeaderMap, HeaderValue};
 use std::alloc::Global;
@@ -23,7 +24,7 @@ pub enum ConnectionType {
 /// Contracts see it as its bytes.
 #[derive(Debug, Drop)]
 pub struct Reason {
-    text: &'static str,
+    text: ByteStr,
 }
 
 impl Model for Reason {
@@ -31,7 +32,7 @@ impl Model for Reason {
 
     ghost Value = { List ℕ };
 
-    ghost view = { λ r. r.text.now };
+    ghost view = { λ r. r.text };
 }
 
 impl Reason {
@@ -39,19 +40,23 @@ impl Reason {
     pub fn of(text: &'static str) -> Reason
         ensures { result ≡ text.now }
     {
-        Reason { text }
+        Reason {
+            text: ByteStr::from_static(text),
+        }
     }
 
     pub fn as_str(&self) -> &str
         ensures { result.now ≡ self.now }
     {
-        self.text
+        self.text.as_str()
     }
 }
 
 impl Duplicate for Reason {
     fn duplicate(&self, _alloc: Global) -> Result<Reason, NoMemory> {
-        Ok(Reason { text: self.text })
+        Ok(Reason {
+            text: self.text.clone()?,
+        })
     }
 }
 

@@ -1,3 +1,5 @@
+pub mod RouteTableLemmas
+pub mod RouterLemmas
 pub mod ServiceLemmas
 pub mod ServiceLawLemmas
 pub mod ServedLemmas

@@ -2,10 +2,13 @@
 use Rattle.std.proofs.Common.{◌≡◌, ℕ, refl, subst, sym, inl, inr}
 use Rattle.std.specs.Prelude.{Option, None, Some, List, Result, Ok, Err, IfOk, ⊤}
 use Rattle.web_request.specs.declared.source.Mark.{Mark}
+use Rattle.web_request.specs.Request.{Request}
 use Rattle.web_reply.specs.ResponseBodies.{Plain}
 use Rattle.web_reply.specs.Replies.{Reply}
-use Rattle.web_worker.specs.HandlerCalls.{AreOver, Calls}
-use Rattle.web_worker.specs.Outcomes.{OutcomeView}
+use Rattle.web_worker.specs.HandlerCalls.{AreOver, Calls, IsCall}
+use Rattle.web_worker.specs.ExchangeRules.{Rules}
+use Rattle.web_worker.specs.HandlerServices.{extracting_promise}
+use Rattle.web_worker.specs.Outcomes.{OutcomeMeets, OutcomeView}
 use Rattle.web_worker.specs.Outcomes.{OutcomeView.Replied, OutcomeView.Unfinished}
 use Rattle.web_worker.specs.Outcomes.{OutcomeView.NoMemory}
 use Rattle.web_worker.specs.ServicePromises.{Begins, Narrows, Polls, Promise}
@@ -77,3 +80,35 @@ changed_ends changes (Replied t) r s old new e p c =
     let same : t ≡ r = cc in (t, p, subst (λ (z : Reply Plain). changes z s) (sym same) c)
 changed_ends changes Unfinished r s old new e p c = absurd cc
 changed_ends changes NoMemory r s old new e p c = absurd cc
+
+-- the calls of the service inside, whose reply was changed
+pub calls_changed : {V : Type 0} (over : Type 0) (arguments : ℕ → Option V → Type 0)
+    (over_new : Type 0) (o : OutcomeView) (r s : Reply Plain) (calls_old calls_new : Option (List V))
+    → o ≡ Replied r → Calls over arguments over_new o calls_old calls_new
+    → Calls over arguments over_new (Replied s) None None
+calls_changed {V} over arguments over_new (Replied t) r s calls_old calls_new e c =
+    (c.0, refl, called c.0 c.2, c.3)
+  where
+    called : (call : Option V) → IsCall over arguments (Replied t) call
+        → IsCall over arguments (Replied s) call
+    called (Some v) a = a
+    called None (inl n) = inl n
+    called None (inr n) = absurd cc
+calls_changed over arguments over_new Unfinished r s calls_old calls_new e c = absurd cc
+calls_changed over arguments over_new NoMemory r s calls_old calls_new e c = absurd cc
+
+-- its reply could not be changed
+pub calls_lost : {V : Type 0} (over : Type 0) (arguments : ℕ → Option V → Type 0)
+    (over_new : Type 0) → Calls over arguments over_new NoMemory None None
+calls_lost over arguments over_new = (None, refl, inr refl, tt)
+
+-- ---- a service whose handler gives its value at once
+
+module _ {L D C V E Y U : Type 0} (R : Rules L D C V E Y) (extracts : U → ℕ → Result V E → Type 0)
+    (q : Request L D C) where
+  pub at_once : (f g : U) (v : V) (y : Y) (o : OutcomeView) → extracts f 0 (Ok v)
+      → R.answers v 0 y → OutcomeMeets (λ r. R.responds y q r) o
+      → Polls o (extracting_promise R extracts f q) (extracting_promise R extracts g q)
+  at_once f g v y (Replied r) a b meets = (0, Ok v, a, (0, y, b, meets, refl))
+  at_once f g v y Unfinished a b meets = absurd meets
+  at_once f g v y NoMemory a b meets = tt

@@ -2,6 +2,7 @@ pub mod ImmediateAnswers
 pub mod ReplyFunctions
 pub mod ReplyHeaders
 pub mod RequestPaths
+pub mod RouteTables
 pub mod RoutedPaths
 pub mod ServedExchanges
 pub mod ServiceRoutes

@@ -1,5 +1,10 @@
 //! A service of many routes, each with extractors of its own.
 
+ghost use Rattle.std.specs.Prelude.{◌≡◌, IfOk};
+ghost use Rattle.web_reply.specs.ResponseBodies.{box_plain};
+ghost use Rattle.web_reply.specs.Replies.{plain_reply};
+ghost use Rattle.web_routing.specs.RoutedPaths.{methods_reply, resource_of};
+
 use crate::route_table::{Found, RouteTable};
 use crate::services::Services;
 use http::{Method, StatusCode};
@@ -52,8 +57,9 @@ impl<A: App, S: Services<A>, T: Service<A, Whole>> Service<A, Whole> for Router<
     ghost use Rattle.std.specs.Prelude.{◌≡◌, refl};
     ghost use Rattle.web_routing.specs.RoutedPaths.{by_route, by_route_request, methods_promise};
     ghost use Rattle.web_routing.specs.RoutedPaths.{routed, router_finished, router_keeps};
-    ghost use Rattle.web_routing.specs.RoutedPaths.{router_left, router_open, with_parameters};
-    ghost use Rattle.web_routing.specs.ServiceRoutes.{both_states, same_still};
+    ghost use Rattle.web_routing.specs.RoutedPaths.{router_left, router_open, router_states};
+    ghost use Rattle.web_routing.specs.RoutedPaths.{with_parameters};
+    ghost use Rattle.web_routing.specs.ServiceRoutes.{same_still};
 
     type Call = RouterCall<S::Call, T::Call>;
 
@@ -71,7 +77,8 @@ impl<A: App, S: Services<A>, T: Service<A, Whole>> Service<A, Whole> for Router<
 
     ghost ready = { λ s. S.ready s.services × T.ready s.other };
 
-    ghost states = { both_states (λ s. s.services) (λ s. s.other) S.states T.states };
+    ghost states = { router_states (λ s. s.table) (λ s. s.services) (λ s. s.other)
+        S.states T.states };
 
     ghost same_promises = { λ a b. (b.table ≡ a.table)
         × S.same_promises a.services b.services × T.same_promises a.other b.other };
@@ -139,7 +146,10 @@ fn methods_reply<A: App>(
     table: &RouteTable,
     place: usize,
     method: &Method,
-) -> Result<HttpResponse<BoxBody<A::Source>>, NoMemory> {
+) -> Result<HttpResponse<BoxBody<A::Source>>, NoMemory>
+    ensures { IfOk result (λ reply. plain_reply (box_plain A.Source.feed) reply
+        ≡ methods_reply method.now (resource_of table.now place)) }
+{
     let status = if *method == Method::OPTIONS {
         StatusCode::NO_CONTENT
     } else {

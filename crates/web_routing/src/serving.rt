@@ -29,7 +29,7 @@ fn poll_up_to<A: App, Args, S: Service<A, Args>>(
         flight.new worker.old worker.new service.old service.new }
 {
     for _done in 0..polls {
-        if flight.outcome().is_some() {
+        if !flight.is_open() {
             break;
         }
         poll_flight::<A, Args, S>(alloc, worker, service, flight);

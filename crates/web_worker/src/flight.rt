@@ -125,7 +125,7 @@ impl<A: App, Args, S: Service<A, Args>> Flight<A, Args, S> {
     }
 
     /// Whether it is not answered yet.
-    pub(crate) fn is_open(&self) -> bool
+    pub fn is_open(&self) -> bool
         ensures { result ≡ is_open self.now }
     {
         match &self.stage {

@@ -16,7 +16,7 @@ returns-in-Some-make_record-clause-polls g c = λ x is.
 
 pub returns-in-None-clause-polls : goal.returns-in-None-clause-polls
 returns-in-None-clause-polls g c = λ x is.
-    rw c.in-None.ensures.kept
+    rw (c.in-None.ensures.kept, c.replace-waiting.ensures.after)
     (flight_lost (setting_of (g.S.Service.completed c.args.service.now)
     (g.S.Service.promise c.args.service.now) (g.S.Service.left c.args.service.now)
     g.A.Source.Source.feed c.args.pool.now)

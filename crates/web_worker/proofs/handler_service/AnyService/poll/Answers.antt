@@ -1,4 +1,6 @@
-use Rattle.web_worker.specs.HandlerServices.{rules_of}
+use Rattle.web_worker.specs.declared.handler_service.Work.TheVariants.{Extracting}
+use Rattle.web_worker.specs.HandlerCalls.{AreOver}
+use Rattle.web_worker.specs.HandlerServices.{Come, rules_of}
 use Rattle.web_worker.specs.Outcomes.{outcome_view}
 use Rattle.web_worker.proofs.HandlerServiceLemmas.{called, calls_made, calls_made_err}
 use Rattle.web_worker.proofs.HandlerServiceLemmas.{calls_pending, calls_refused, extracting}
@@ -43,10 +45,11 @@ returns-in-Ok-clause-calls g c =
 pub returns-in-Err-clause-calls : goal.returns-in-Err-clause-calls
 returns-in-Err-clause-calls g c =
     rw c.in-Extracting.is
-    (calls_made_err _ (g.Args.Future.Poll.gives c.in-Extracting.future) c.in-Err.field-0 c.in-Ready-Ok.args
+    (calls_made_err g.row.H-Future.Denot (g.Args.Future.Poll.gives c.in-Extracting.future)
+    c.in-Err.field-0 c.in-Ready-Ok.args
     (rw c.in-Ready-Ok.field-0-is at c.in-Ready-Ok.ensures.value)
     (g.H.Handler.calls c.args.self.now) (g.H.Handler.calls c.call.new.self)
-    c.in-Err.ensures.calls _)
+    c.in-Err.ensures.calls (AreOver (Come (g.Args.Future.Poll.gives c.poll.new.self))))
 
 pub returns-in-Ready-Err-clause-polls : goal.returns-in-Ready-Err-clause-polls
 returns-in-Ready-Err-clause-polls g c =
@@ -55,7 +58,7 @@ returns-in-Ready-Err-clause-polls g c =
     (g.H.Handler.answers c.args.self.now) g.H.Output.Responder.responds)
     g.Args.Future.Poll.gives g.H.Future.Poll.gives c.args.request.now.request
     c.in-Extracting.future c.in-Ready-Err.error
-    (outcome_view g.A.Source.Source.feed c.error_outcome.result) _
+    (outcome_view g.A.Source.Source.feed c.error_outcome.result) (Extracting c.poll.new.self)
     (rw c.in-Ready-Err.field-0-is at c.in-Ready-Err.ensures.value) c.error_outcome.ensures)
 
 pub returns-in-Ready-Err-clause-calls : goal.returns-in-Ready-Err-clause-calls
