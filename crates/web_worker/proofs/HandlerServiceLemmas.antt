@@ -1,6 +1,6 @@
 -- A call of a handler, begun and polled.
 use Rattle.std.proofs.Common.{◌≡◌, ℕ, suc, ◌+◌, refl, ap, arith, inl, inr}
-use Rattle.std.specs.Prelude.{Bool, false, Option, None, Some, Result, Ok, Err, List, ⊤}
+use Rattle.std.specs.Prelude.{Bool, false, Option, None, Some, Result, Ok, Err, List}
 use Rattle.web_texts.specs.declared.memory.NoMemory.{NoMemory as Wanting}
 use Rattle.web_request.specs.declared.source.Mark.{Mark}
 use Rattle.web_request.specs.Request.{Request}

@@ -1,7 +1,7 @@
 -- One poll in function form.
 use Rattle.std.proofs.Common.{◌≡◌, ℕ, zero, suc, List, [], ◌∷◌, ap, refl, sym, arith, subst}
 use Rattle.std.proofs.Common.{inl, inr}
-use Rattle.std.specs.Prelude.{Option, None, Some, true, ⊤, MatchOption}
+use Rattle.std.specs.Prelude.{Option, None, Some, true, MatchOption}
 use Rattle.std.specs.Prelude.{slice_get, slice_set, ◌⊎◌}
 use Rattle.web_request.specs.Pool.{Pool}
 use Rattle.web_reply.specs.ResponseBodies.{Plain}

@@ -1,14 +1,14 @@
 -- What stays of the pool over a plan, how many records it makes, and which allocations failed.
-use Rattle.std.proofs.Common.{◌≡◌, ℕ, zero, suc, ◌+◌, ◌<◌, ◌≤◌, Bool, true, false, cond, ◌||◌, List, [], ◌∷◌, map, length, refl, sym, ◌∙◌, ap, arith, subst, ◌⊎◌, inl, inr}
+use Rattle.std.proofs.Common.{◌≡◌, ℕ, zero, suc, ◌+◌, ◌≤◌, Bool, true, false, cond, ◌||◌, List, [], ◌∷◌, map, length, refl, sym, ◌∙◌, ap, arith, subst, inl, inr}
 use Rattle.std.specs.Prelude.{Option, None, Some, MatchOption, slice_get, slice_set}
 use Rattle.std.specs.List.{list_any}
-use Rattle.web_request.specs.Pool.{Pool, after_give_back, after_start, made_after, next_serial}
-use Rattle.web_worker.specs.Outcomes.{OutcomeView, OutcomeView.Replied, OutcomeView.Unfinished, OutcomeView.NoMemory}
+use Rattle.web_request.specs.Pool.{Pool, after_start, made_after, next_serial}
+use Rattle.web_worker.specs.Outcomes.{OutcomeView.NoMemory}
 use Rattle.web_worker.specs.Exchanges.{ExchangeView, FlightView}
 use Rattle.web_worker.specs.Exchanges.{FlightView.Waiting, FlightView.InFlight, FlightView.Answered}
 use Rattle.web_worker.specs.ServicePromises.{Promise}
 use Rattle.web_worker.specs.Setting.{Setting}
-use Rattle.web_worker.specs.Flights.{FlightStep, PollResult, exchange_promise, flight_outcome}
+use Rattle.web_worker.specs.Flights.{FlightStep, PollResult, exchange_promise}
 use Rattle.web_worker.specs.PollOne.{PollsAt, NoChange, FlightPoll}
 use Rattle.web_worker.specs.PoolSteps.{TakesOrReturns, after_release, serial_of}
 use Rattle.web_worker.specs.PlanPools.{with_records}

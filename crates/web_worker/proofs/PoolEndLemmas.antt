@@ -1,6 +1,6 @@
 -- The records that are held at the end of a plan come back.
-use Rattle.std.proofs.Common.{◌≡◌, ℕ, suc, ◌+◌, ◌<◌, ◌≤◌, Bool, false, List, [], ◌∷◌, map, drop, length, refl, sym, ◌∙◌, ap, arith, drop-cons, get_or}
-use Rattle.std.specs.Prelude.{Option, None, Some, slice_index_or, ◌||◌}
+use Rattle.std.proofs.Common.{◌≡◌, ℕ, suc, ◌+◌, ◌<◌, List, [], ◌∷◌, map, drop, length, refl, ◌∙◌, ap, arith, drop-cons}
+use Rattle.std.specs.Prelude.{None, slice_index_or}
 use Rattle.std.specs.List.{list_any}
 use Rattle.web_request.specs.Pool.{Pool, after_give_back}
 use Rattle.web_worker.specs.Exchanges.{ExchangeView, FlightView}

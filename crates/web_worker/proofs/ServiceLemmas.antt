@@ -1,6 +1,6 @@
 -- One poll of a flight, made of those of its service.
 use Rattle.std.proofs.Common.{◌≡◌, ◌∙◌, ℕ, suc, ap, refl, subst, sym, inl, inr}
-use Rattle.std.specs.Prelude.{Bool, true, false, Option, None, Some, List, ⊤, MatchOption}
+use Rattle.std.specs.Prelude.{true, false, Option, None, Some, List, ⊤, MatchOption}
 use Rattle.std.specs.Prelude.{slice_get, slice_set}
 use Rattle.web_request.specs.declared.source.Mark.{Mark}
 use Rattle.web_request.specs.Feed.{Feed}
@@ -13,15 +13,15 @@ use Rattle.web_reply.specs.Replies.{Reply}
 use Rattle.web_worker.specs.Exchanges.{CallView, ExchangeView, FlightView}
 use Rattle.web_worker.specs.Exchanges.{FlightView.Waiting, FlightView.InFlight}
 use Rattle.web_worker.specs.Exchanges.{FlightView.Answered}
-use Rattle.web_worker.specs.Flights.{FlightCalls, FlightStep, IsFor, IsPast, PollResult}
+use Rattle.web_worker.specs.Flights.{FlightCalls, IsFor, IsPast, PollResult}
 use Rattle.web_worker.specs.Flights.{SameRequest, exchange_promise, flight_outcome}
-use Rattle.web_worker.specs.Flights.{flight_promise, is_open}
-use Rattle.web_worker.specs.HandlerCalls.{AreOver, Calls, CallsAre, ComeNow, HaveCome, IsCall}
+use Rattle.web_worker.specs.Flights.{flight_promise}
+use Rattle.web_worker.specs.HandlerCalls.{AreOver, Calls, ComeNow, HaveCome, IsCall}
 use Rattle.web_worker.specs.HandlerCalls.{ArgumentsMove}
 use Rattle.web_worker.specs.Outcomes.{OutcomeView, OutcomeView.Replied, OutcomeView.Unfinished}
 use Rattle.web_worker.specs.Outcomes.{OutcomeView.NoMemory, is_unfinished}
 use Rattle.web_worker.specs.PollOne.{BeginsFlight, CallPoll, FlightPoll, NoChange, PollsAt}
-use Rattle.web_worker.specs.PoolSteps.{HeldOrReturned, TakesOrReturns, serial_of}
+use Rattle.web_worker.specs.PoolSteps.{HeldOrReturned, serial_of}
 use Rattle.web_worker.specs.ServicePromises.{Begins, Narrows, OnUnfinished, Polls, Promise}
 use Rattle.web_worker.specs.ServicePromises.{SameService, one_later}
 use Rattle.web_worker.specs.Setting.{Setting, setting_with}

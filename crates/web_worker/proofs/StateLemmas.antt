@@ -1,5 +1,5 @@
 -- The state of a service over steps.
-use Rattle.std.proofs.Common.{◌≡◌, ◌∙◌, refl, subst, inl, inr}
+use Rattle.std.proofs.Common.{◌∙◌, refl, subst, inl, inr}
 use Rattle.std.specs.Prelude.{Option, None, Some}
 use Rattle.web_reply.specs.ResponseBodies.{Plain}
 use Rattle.web_reply.specs.Replies.{Reply}

@@ -1,5 +1,5 @@
 -- What a whole plan makes of the pool, by the delays of its exchanges.
-use Rattle.std.specs.Prelude.{◌≡◌, ℕ, ◌<◌, ◌≤◌, List, [], Bool, false, Some, map, slice_get}
+use Rattle.std.specs.Prelude.{◌≡◌, ℕ, ◌<◌, ◌≤◌, List, [], false, Some, map, slice_get}
 use Rattle.std.specs.List.{list_any}
 use Rattle.web_request.specs.Pool.{Pool}
 use Rattle.web_reply.specs.ResponseBodies.{Plain}
@@ -12,7 +12,7 @@ use Rattle.web_worker.specs.Setting.{Setting}
 use Rattle.web_worker.specs.Flights.{ExchangeGives}
 use Rattle.web_worker.specs.OutcomeFunctions.{AnswersOnce}
 use Rattle.web_worker.specs.PlanOutcomes.{EachFrom, lacks_memory, poll_count}
-use Rattle.web_worker.specs.PoolRun.{SerialState, NotTaken, return_held, run_entries}
+use Rattle.web_worker.specs.PoolRun.{NotTaken, return_held, run_entries}
 
 -- the pool that keeps these records and made so many
 abbrev pub with_records : {L : Type 0} → List ℕ → ℕ → Pool L → Pool L

@@ -1,5 +1,5 @@
 -- What a plan makes of the pool of records, and which exchange holds the record of which number.
-use Rattle.std.specs.Prelude.{◌≡◌, ◌==◌, ℕ, ◌+◌, ◌≤◌, List, [], ◌∷◌, ◌++◌, Option, None, Some}
+use Rattle.std.specs.Prelude.{◌==◌, ℕ, ◌+◌, ◌≤◌, List, [], ◌∷◌, ◌++◌, Option, None, Some}
 use Rattle.std.specs.Prelude.{Bool, true, false, cond, nat_lt, slice_get, slice_set}
 use Rattle.web_request.specs.Pool.{Pool, after_give_back, after_start, next_serial}
 use Rattle.web_worker.specs.Exchanges.{FlightView.Waiting, FlightView.InFlight}

@@ -1,4 +1,4 @@
-use Rattle.std.proofs.Common.{◌≡◌, ◌∙◌, sym, subst}
+use Rattle.std.proofs.Common.{◌∙◌, sym, subst}
 use Rattle.web_worker.specs.Outcomes.{OutcomeView, outcome_view}
 use Rattle.web_worker.specs.ServiceStates.{MovesTo}
 use Rattle.web_worker.specs.Setting.{setting_of}

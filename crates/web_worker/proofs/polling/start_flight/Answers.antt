@@ -1,4 +1,4 @@
-use Rattle.std.proofs.Common.{◌≡◌, rules}
+use Rattle.std.proofs.Common.{rules}
 use Rattle.web_worker.specs.Exchanges.{flight_view}
 use Rattle.web_worker.specs.Setting.{setting_of}
 use Rattle.web_worker.proofs.ServiceLemmas.{flight_begun, flight_lost}

@@ -87,3 +87,6 @@ returns-clause-made g c =
     let count = waiting_start c.as_mut_slice.result.now c.args.exchanges.items waiting in
     let made = c.serve_flights.ensures.made in
     omega (arith, count, made)
+
+pub returns-in_default-clause-same_promises : goal.returns-in_default-clause-same_promises
+returns-in_default-clause-same_promises g c = g.met.S.Service.same_itself c.args.service.now
