@@ -13,6 +13,6 @@ returns-in-Some-clause-later g c = λ r not_yet may f same unanswered.
     reply_later g.A.Source.Source.feed (g.S.Service.completed old) (g.S.Service.completed new)
     (g.S.Service.promise old) (g.S.Service.promise new) (g.S.Service.left old)
     (g.S.Service.left new) c.args.worker.now c.poll_flight.new.worker
-    (g.S.Service.keeps old new c.poll_flight.ensures.same_promises) rest _
+    (g.met.S.Service.keeps old new c.poll_flight.ensures.same_promises) rest _
     c.poll_flight.new.flight c.poll_flight.ensures.polls.step r not_yet may f
     (cc (same, c.in-Some.is)) unanswered
