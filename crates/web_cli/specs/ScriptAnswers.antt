@@ -84,7 +84,7 @@ fault_text fault =
     codes "line " ++ decimal fault.line ++ codes ": " ++ reason_text fault.reason ++ newline
 
 -- P of what the script says, where the flights wait for its exchanges and this is its plan
-abbrev pub FlightsOf : {U W : Type 0} → List (FlightView Feed DemoLayer DemoLocal DemoConn U W)
+abbrev pub FlightsOf : {K : Type 0} → List (FlightView Feed DemoLayer DemoLocal DemoConn K)
     → List ℕ → (ScriptView → Type 0) → Type 0
 FlightsOf flights plan P =
     (es : List ScriptedExchangeView) → flights ≡ map (λ e. Waiting (demo_exchange e)) es
