@@ -9,14 +9,14 @@ use Rattle.web_http1.proofs.connection.Connection.answer_next.Goals as goal
 
 pub serve_next-turned-requires-clause-room : goal.serve_next-turned-requires-clause-room
 serve_next-turned-requires-clause-room g c =
-    let s = setting_of g.Args.FromRequest.means g.Args.Error.Into.converts (g.H.Handler.answers c.args.handler.now) g.H.Output.Responder.responds g.A.Source.Source.feed g.Args.Future.Poll.gives g.H.Future.Poll.gives c.args.worker.now in
+    let s = setting_of (g.H.Service.completed c.args.handler.now) (g.H.Service.promise c.args.handler.now) (g.H.Service.left c.args.handler.now) g.A.Source.Source.feed c.args.worker.now in
     let rest = rest_is c.deref.result.now c.self.inside.buffer.items c.self.inside.start c.deref.ensures.value in
     one.room_there s c.self.inside.limits c.self.inside.buffer.items c.self.inside.start c.self.inside.ended _ [] [] rest c.in_default.is c.args.worker.now.made _
     (subst (λ (v : ConnectionView). c.args.worker.now.made + bytes_open v < 18446744073709551616) (sym c.self.view_is) c.requires.room)
 
 pub invariant_of-self : goal.invariant_of-self
 invariant_of-self g c =
-    let s = setting_of g.Args.FromRequest.means g.Args.Error.Into.converts (g.H.Handler.answers c.args.handler.now) g.H.Output.Responder.responds g.A.Source.Source.feed g.Args.Future.Poll.gives g.H.Future.Poll.gives c.args.worker.now in
+    let s = setting_of (g.H.Service.completed c.args.handler.now) (g.H.Service.promise c.args.handler.now) (g.H.Service.left c.args.handler.now) g.A.Source.Source.feed c.args.worker.now in
     let rest = rest_is c.deref.result.now c.self.inside.buffer.items c.self.inside.start c.deref.ensures.value in
     let turned = rw c.in-Goes.is at c.serve_next-turned.ensures.turned in (
       one.inside_there s c.self.inside.limits c.self.inside.buffer.items c.self.inside.start c.self.inside.ended _ c.args.out.now.items c.serve_next-turned.new.out.items rest c.in_default.is c.in-Goes.used c.self.invariant.0 turned.1,
@@ -25,7 +25,7 @@ invariant_of-self g c =
 
 pub invariant_of-self-in-Waits : goal.invariant_of-self-in-Waits
 invariant_of-self-in-Waits g c =
-    let s = setting_of g.Args.FromRequest.means g.Args.Error.Into.converts (g.H.Handler.answers c.args.handler.now) g.H.Output.Responder.responds g.A.Source.Source.feed g.Args.Future.Poll.gives g.H.Future.Poll.gives c.args.worker.now in
+    let s = setting_of (g.H.Service.completed c.args.handler.now) (g.H.Service.promise c.args.handler.now) (g.H.Service.left c.args.handler.now) g.A.Source.Source.feed c.args.worker.now in
     let rest = rest_is c.deref.result.now c.self.inside.buffer.items c.self.inside.start c.deref.ensures.value in
     let turned = rw c.in-Waits.is at c.serve_next-turned.ensures.turned in (
       one.inside_there s c.self.inside.limits c.self.inside.buffer.items c.self.inside.start c.self.inside.ended _ c.args.out.now.items c.serve_next-turned.new.out.items rest c.in_default.is c.in-Waits.skipped c.self.invariant.0 turned.0.0.inside,
@@ -34,7 +34,7 @@ invariant_of-self-in-Waits g c =
 
 pub invariant_of-self-in-Ended : goal.invariant_of-self-in-Ended
 invariant_of-self-in-Ended g c =
-    let s = setting_of g.Args.FromRequest.means g.Args.Error.Into.converts (g.H.Handler.answers c.args.handler.now) g.H.Output.Responder.responds g.A.Source.Source.feed g.Args.Future.Poll.gives g.H.Future.Poll.gives c.args.worker.now in
+    let s = setting_of (g.H.Service.completed c.args.handler.now) (g.H.Service.promise c.args.handler.now) (g.H.Service.left c.args.handler.now) g.A.Source.Source.feed c.args.worker.now in
     let rest = rest_is c.deref.result.now c.self.inside.buffer.items c.self.inside.start c.deref.ensures.value in (
       c.self.invariant.0,
       subst (λ (p : Progress). IsProgress c.self.inside.limits (drop c.self.inside.start c.self.inside.buffer.items) p) (sym c.replace-progress.ensures.after) (c.start.ensures c.self.inside.limits (drop c.self.inside.start c.self.inside.buffer.items)),
@@ -42,7 +42,7 @@ invariant_of-self-in-Ended g c =
 
 pub returns-in-Goes-clause-made : goal.returns-in-Goes-clause-made
 returns-in-Goes-clause-made g c =
-    let s = setting_of g.Args.FromRequest.means g.Args.Error.Into.converts (g.H.Handler.answers c.args.handler.now) g.H.Output.Responder.responds g.A.Source.Source.feed g.Args.Future.Poll.gives g.H.Future.Poll.gives c.args.worker.now in
+    let s = setting_of (g.H.Service.completed c.args.handler.now) (g.H.Service.promise c.args.handler.now) (g.H.Service.left c.args.handler.now) g.A.Source.Source.feed c.args.worker.now in
     let rest = rest_is c.deref.result.now c.self.inside.buffer.items c.self.inside.start c.deref.ensures.value in
     let turned = rw c.in-Goes.is at c.serve_next-turned.ensures.turned in
     let made = rw c.in-Goes.is at c.serve_next-turned.ensures.made in
@@ -51,7 +51,7 @@ returns-in-Goes-clause-made g c =
 
 pub returns-in-Goes-clause-answered : goal.returns-in-Goes-clause-answered
 returns-in-Goes-clause-answered g c =
-    let s = setting_of g.Args.FromRequest.means g.Args.Error.Into.converts (g.H.Handler.answers c.args.handler.now) g.H.Output.Responder.responds g.A.Source.Source.feed g.Args.Future.Poll.gives g.H.Future.Poll.gives c.args.worker.now in
+    let s = setting_of (g.H.Service.completed c.args.handler.now) (g.H.Service.promise c.args.handler.now) (g.H.Service.left c.args.handler.now) g.A.Source.Source.feed c.args.worker.now in
     let rest = rest_is c.deref.result.now c.self.inside.buffer.items c.self.inside.start c.deref.ensures.value in
     let turned = rw c.in-Goes.is at c.serve_next-turned.ensures.turned in
     let one_reply = rw c.in-Goes.is at c.serve_next-turned.ensures.one in
@@ -60,7 +60,7 @@ returns-in-Goes-clause-answered g c =
 
 pub returns-in-Goes-clause-steps : goal.returns-in-Goes-clause-steps
 returns-in-Goes-clause-steps g c =
-    let s = setting_of g.Args.FromRequest.means g.Args.Error.Into.converts (g.H.Handler.answers c.args.handler.now) g.H.Output.Responder.responds g.A.Source.Source.feed g.Args.Future.Poll.gives g.H.Future.Poll.gives c.args.worker.now in
+    let s = setting_of (g.H.Service.completed c.args.handler.now) (g.H.Service.promise c.args.handler.now) (g.H.Service.left c.args.handler.now) g.A.Source.Source.feed c.args.worker.now in
     let rest = rest_is c.deref.result.now c.self.inside.buffer.items c.self.inside.start c.deref.ensures.value in
     let turned = rw c.in-Goes.is at c.serve_next-turned.ensures.turned in
     rw (← c.self.view_is)
@@ -68,7 +68,7 @@ returns-in-Goes-clause-steps g c =
 
 pub returns-in-Waits-clause-made : goal.returns-in-Waits-clause-made
 returns-in-Waits-clause-made g c =
-    let s = setting_of g.Args.FromRequest.means g.Args.Error.Into.converts (g.H.Handler.answers c.args.handler.now) g.H.Output.Responder.responds g.A.Source.Source.feed g.Args.Future.Poll.gives g.H.Future.Poll.gives c.args.worker.now in
+    let s = setting_of (g.H.Service.completed c.args.handler.now) (g.H.Service.promise c.args.handler.now) (g.H.Service.left c.args.handler.now) g.A.Source.Source.feed c.args.worker.now in
     let rest = rest_is c.deref.result.now c.self.inside.buffer.items c.self.inside.start c.deref.ensures.value in
     let turned = rw c.in-Waits.is at c.serve_next-turned.ensures.turned in
     let made = rw c.in-Waits.is at c.serve_next-turned.ensures.made in
@@ -77,7 +77,7 @@ returns-in-Waits-clause-made g c =
 
 pub returns-in-Waits-clause-answered : goal.returns-in-Waits-clause-answered
 returns-in-Waits-clause-answered g c =
-    let s = setting_of g.Args.FromRequest.means g.Args.Error.Into.converts (g.H.Handler.answers c.args.handler.now) g.H.Output.Responder.responds g.A.Source.Source.feed g.Args.Future.Poll.gives g.H.Future.Poll.gives c.args.worker.now in
+    let s = setting_of (g.H.Service.completed c.args.handler.now) (g.H.Service.promise c.args.handler.now) (g.H.Service.left c.args.handler.now) g.A.Source.Source.feed c.args.worker.now in
     let rest = rest_is c.deref.result.now c.self.inside.buffer.items c.self.inside.start c.deref.ensures.value in
     let turned = rw c.in-Waits.is at c.serve_next-turned.ensures.turned in
     let one_reply = rw c.in-Waits.is at c.serve_next-turned.ensures.one in
@@ -86,7 +86,7 @@ returns-in-Waits-clause-answered g c =
 
 pub returns-in-Waits-clause-steps : goal.returns-in-Waits-clause-steps
 returns-in-Waits-clause-steps g c =
-    let s = setting_of g.Args.FromRequest.means g.Args.Error.Into.converts (g.H.Handler.answers c.args.handler.now) g.H.Output.Responder.responds g.A.Source.Source.feed g.Args.Future.Poll.gives g.H.Future.Poll.gives c.args.worker.now in
+    let s = setting_of (g.H.Service.completed c.args.handler.now) (g.H.Service.promise c.args.handler.now) (g.H.Service.left c.args.handler.now) g.A.Source.Source.feed c.args.worker.now in
     let rest = rest_is c.deref.result.now c.self.inside.buffer.items c.self.inside.start c.deref.ensures.value in
     let turned = rw c.in-Waits.is at c.serve_next-turned.ensures.turned in
     rw (← c.self.view_is)
@@ -94,14 +94,14 @@ returns-in-Waits-clause-steps g c =
 
 pub returns-in-Waits-clause-waits : goal.returns-in-Waits-clause-waits
 returns-in-Waits-clause-waits g c =
-    let s = setting_of g.Args.FromRequest.means g.Args.Error.Into.converts (g.H.Handler.answers c.args.handler.now) g.H.Output.Responder.responds g.A.Source.Source.feed g.Args.Future.Poll.gives g.H.Future.Poll.gives c.args.worker.now in
+    let s = setting_of (g.H.Service.completed c.args.handler.now) (g.H.Service.promise c.args.handler.now) (g.H.Service.left c.args.handler.now) g.A.Source.Source.feed c.args.worker.now in
     let rest = rest_is c.deref.result.now c.self.inside.buffer.items c.self.inside.start c.deref.ensures.value in
     let turned = rw c.in-Waits.is at c.serve_next-turned.ensures.turned in
     one.waits_where s c.self.inside.limits c.self.inside.buffer.items c.self.inside.start c.self.inside.ended _ c.args.out.now.items c.serve_next-turned.new.out.items rest c.in_default.is c.in-Waits.skipped c.in-Waits.progress turned
 
 pub returns-clause-answered : goal.returns-clause-answered
 returns-clause-answered g c =
-    let s = setting_of g.Args.FromRequest.means g.Args.Error.Into.converts (g.H.Handler.answers c.args.handler.now) g.H.Output.Responder.responds g.A.Source.Source.feed g.Args.Future.Poll.gives g.H.Future.Poll.gives c.args.worker.now in
+    let s = setting_of (g.H.Service.completed c.args.handler.now) (g.H.Service.promise c.args.handler.now) (g.H.Service.left c.args.handler.now) g.A.Source.Source.feed c.args.worker.now in
     let rest = rest_is c.deref.result.now c.self.inside.buffer.items c.self.inside.start c.deref.ensures.value in
     let one_reply = rw c.in-Ended.is at c.serve_next-turned.ensures.one in
     rw (← c.self.view_is)
@@ -109,7 +109,7 @@ returns-clause-answered g c =
 
 pub returns-clause-steps : goal.returns-clause-steps
 returns-clause-steps g c =
-    let s = setting_of g.Args.FromRequest.means g.Args.Error.Into.converts (g.H.Handler.answers c.args.handler.now) g.H.Output.Responder.responds g.A.Source.Source.feed g.Args.Future.Poll.gives g.H.Future.Poll.gives c.args.worker.now in
+    let s = setting_of (g.H.Service.completed c.args.handler.now) (g.H.Service.promise c.args.handler.now) (g.H.Service.left c.args.handler.now) g.A.Source.Source.feed c.args.worker.now in
     let rest = rest_is c.deref.result.now c.self.inside.buffer.items c.self.inside.start c.deref.ensures.value in
     let turned = rw c.in-Ended.is at c.serve_next-turned.ensures.turned in
     rw (← c.self.view_is)

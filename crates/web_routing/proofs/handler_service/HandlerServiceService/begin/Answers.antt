@@ -1,13 +1,15 @@
 use Rattle.web_body.specs.Payload.{payload_feed}
-use Rattle.web_routing.specs.HandlerServices.{rules_of}
-use Rattle.web_routing.proofs.ServiceLemmas.{begun}
+use Rattle.web_routing.proofs.ServiceLemmas.{if_ok, whole_begins, whole_to_come}
 use Rattle.web_routing.proofs.handler_service.HandlerServiceService.begin.Goals as goal
 
 pub returns-clause-begins : goal.returns-clause-begins
 returns-clause-begins g c =
-    begun (rules_of g.Args.FromRequest.means g.Args.Error.Into.converts
-    (g.H.Handler.answers c.args.self.now.handler) g.H.Output.Responder.responds)
-    g.Args.Future.Poll.gives g.H.Future.Poll.gives c.args.request.now.request
-    c.in_ok-from_request.field-0 (payload_feed g.A.Source.Source.feed c.args.payload.now).marks
-    (payload_feed g.A.Source.Source.feed c.from_request.new.payload).marks
-    c.in_ok-from_request.ensures.extracts
+    if_ok _ _ _ (λ call begun.
+    whole_begins (g.H.Service.promise c.args.self.now.handler c.args.request.now.request)
+    (payload_feed g.A.Source.Source.feed c.args.payload.now).marks
+    (g.H.Service.left c.args.self.now.handler call c.begin.new.request.request) begun)
+    c.begin.ensures.begins
+
+pub returns-clause-to_come : goal.returns-clause-to_come
+returns-clause-to_come g c =
+    if_ok _ _ _ (λ call come. whole_to_come) c.begin.ensures.to_come
