@@ -1,4 +1,4 @@
-use Rattle.std.proofs.Common.{◌≡◌, ◌∙◌, ◌++◌, ◌==◌, ap, sym, string_bytes, length, false, List, ℕ}
+use Rattle.std.proofs.Common.{◌≡◌, ◌∙◌, ◌++◌, ◌==◌, ap, sym, string_bytes, length, false}
 use Rattle.std.specs.List.{list_all}
 use Rattle.web_paths.specs.FileNames.{is_file_name, is_name_byte}
 use Rattle.web_paths.specs.PathsBelow.{names_in, segments}
