@@ -18,7 +18,7 @@ SLOW_CLIENTS = 100
 CONNECTIONS = 10_000
 MESSAGES, FIRST_MESSAGES, MORE_KILOBYTES = 100_000, 10_000, 256
 # The most that one message may cost a process, in kilobytes.
-MESSAGE_KILOBYTES = 8_192
+MESSAGE_KILOBYTES = 12_288
 
 
 def connected(port):
@@ -138,7 +138,22 @@ TABLE = [
     (head("GET  /items/7 HTTP/1.1", "Host: a"), 400, True),
     (head("GET /items/7 HTTP/1.1 ", "Host: a"), 400, True),
     (head("GET /items/7", "Host: a"), 400, True),
-    (head("GET /items/7 HTTP/0.9", "Host: a"), 400, True),
+    (head("GET /items/7 HTTP/0.9", "Host: a"), 505, True),
+    (head("GET /items/7 HTTP/1.2", "Host: a"), 505, True),
+    (head("GET /items/7 HTTP/1.1"), 400, True),
+    (head("GET /items/7 HTTP/1.1", "Host: a", "Host: a"), 400, True),
+    (head("GET /items/7#x HTTP/1.1", "Host: a"), 400, True),
+    (head("GET /items/7#/../8 HTTP/1.1", "Host: a"), 400, True),
+    (head("GET http://a/items/7 HTTP/1.1", "Host: a"), 400, True),
+    (head("GET items/7 HTTP/1.1", "Host: a"), 400, True),
+    (head("GET * HTTP/1.1", "Host: a"), 400, True),
+    (head("OPTIONS * HTTP/1.1", "Host: a"), 204, False),
+    (head("CONNECT a:443 HTTP/1.1", "Host: a"), 400, True),
+    (head("GET /items/%37 HTTP/1.1", "Host: a"), 200, False),
+    (head(f"GET /{'a' * 9_000} HTTP/1.1", "Host: a"), 414, True),
+    (head("GET /items/7 HTTP/1.1", "Host: a", f"X: {'a' * 9_000}"), 431, True),
+    (head("GET /items/7 HTTP/1.1", "Host: a", *[f"x{it}: a" for it in range(99)]), 200, False),
+    (head("GET /items/7 HTTP/1.1", "Host: a", *[f"x{it}: a" for it in range(100)]), 431, True),
     (head("G(T /items/7 HTTP/1.1", "Host: a"), 400, True),
     (head("GET /items/7\x00 HTTP/1.1", "Host: a"), 400, True),
     (head("GET /items/7 HTTP/1.1", "Host: a", "X: a\x00b"), 400, True),
@@ -151,14 +166,15 @@ TABLE = [
     (head("POST /items HTTP/1.1", "Host: a", "Content-Length: 99999999999999999999"), 400, True),
     (head("POST /items HTTP/1.1", "Host: a", "Content-Length: 2000000"), 413, True),
     (head("POST /items HTTP/1.1", "Host: a", "Content-Length: 2", "Transfer-Encoding: chunked", body=b"0\r\n\r\n"), 400, True),
-    (head("POST /items HTTP/1.1", "Host: a", "Transfer-Encoding: chunked, chunked", body=b"0\r\n\r\n"), 400, True),
-    (head("POST /items HTTP/1.1", "Host: a", "Transfer-Encoding: xchunked", body=b"0\r\n\r\n"), 400, True),
+    (head("POST /items HTTP/1.1", "Host: a", "Transfer-Encoding: chunked, chunked", body=b"0\r\n\r\n"), 501, True),
+    (head("POST /items HTTP/1.1", "Host: a", "Transfer-Encoding: xchunked", body=b"0\r\n\r\n"), 501, True),
+    (head("POST /items HTTP/1.1", "Host: a", "Transfer-Encoding: gzip, chunked", body=b"0\r\n\r\n"), 501, True),
     (head("POST /items HTTP/1.1", "Host: a", "Transfer-Encoding: chunked", body=b"-1\r\n\r\n"), 400, True),
     (head("POST /items HTTP/1.1", "Host: a", "Transfer-Encoding: chunked", body=b"2\r\n{}0\r\n\r\n"), 400, True),
     (head("POST /items HTTP/1.1", "Host: a", "Transfer-Encoding: chunked", body=b"2\n{}\r\n0\r\n\r\n"), 400, True),
     (head("POST /items HTTP/1.1", "Host: a", "Transfer-Encoding: chunked", body=b"fffffffff\r\n"), 400, True),
     (head("POST /items HTTP/1.1", "Host: a", "Transfer-Encoding: chunked", body=b"100001\r\n"), 413, True),
-    (b"PRI * HTTP/2.0\r\n\r\nSM\r\n\r\n", 400, True),
+    (b"PRI * HTTP/2.0\r\n\r\nSM\r\n\r\n", 505, True),
     (b"\x16\x03\x01\x00\xa5\x01\x00\x00\xa1\x03\x03\r\n\r\n", 400, True),
 ]
 
@@ -185,17 +201,22 @@ def nested(length):
     return b"[" + b",".join([item] * max((length - 2) // (len(item) + 1), 1)) + b"]"
 
 
-def in_chunks_of_one(length):
-    return b"".join(b"1;" + b"a" * 250 + b"\r\nx\r\n" for _ in range(length)) + b"0\r\n\r\n"
+def in_chunks(content, extension):
+    """Each byte as a chunk with an extension of this length."""
+    return b"".join(b"1;" + b"a" * extension + b"\r\n%c\r\n" % it for it in content) + b"0\r\n\r\n"
 
 
-def shapes(most):
+def shapes(most, most_json):
     json = "Content-Type: application/json"
     text = b"[" + b"0," * (most // 2 - 2) + b"0]"
     fields = [f"a{it}: b" for it in range(60)]
-    yield "JSON, nested objects", head("POST /items HTTP/1.1", "Host: a", json, f"Content-Length: {len(nested(most))}", body=nested(most))
+    for length in (most_json, most):
+        deep = nested(length)
+        yield "JSON, nested objects", head("POST /items HTTP/1.1", "Host: a", json, f"Content-Length: {len(deep)}", body=deep)
+    chunks = in_chunks(nested(most_json), 26)
+    yield "the same in chunks of one byte", head("POST /items HTTP/1.1", "Host: a", json, "Transfer-Encoding: chunked", body=chunks)
     yield "JSON, numbers", head("POST /items HTTP/1.1", "Host: a", json, f"Content-Length: {len(text)}", body=text)
-    yield "chunks of one byte", head("POST /items HTTP/1.1", "Host: a", json, "Transfer-Encoding: chunked", body=in_chunks_of_one(most))
+    yield "chunks of one byte", head("POST /items HTTP/1.1", "Host: a", json, "Transfer-Encoding: chunked", body=in_chunks(b"x" * most, 250))
     yield "a body that is not read", head("POST /visits HTTP/1.1", "Host: a", f"Content-Length: {most}", body=b"a" * most)
     yield "many fields", head("GET /visits HTTP/1.1", "Host: a", *fields)
     yield "many cookies", head("GET /visits HTTP/1.1", "Host: a", "Cookie: " + "a=;" * 2_000)
@@ -222,7 +243,7 @@ def most_kilobytes(path, data):
         return status, most
 
 
-def measure(path, listener, most_body):
+def measure(path, listener, most_body, most_json):
     """Prints what was seen, and how many of the bounds hold."""
     passed = []
 
@@ -244,7 +265,7 @@ def measure(path, listener, most_body):
     (_, before, files), (replied, behind, more_files) = one_process(path)
     seen(f"{replied} messages through one process: {before} kB and {files} files past the first {FIRST_MESSAGES}, {behind} kB and "
          f"{more_files} files past all", replied == MESSAGES and behind <= before + MORE_KILOBYTES and files == more_files)
-    for name, data in shapes(most_body):
+    for name, data in shapes(most_body, most_json):
         status, most = most_kilobytes(path, data)
         seen(f"{name}, {len(data)} bytes: {status}, at most {most} kB", most <= MESSAGE_KILOBYTES)
     print(f"{passed.count(True)} passed, {passed.count(False)} failed")

@@ -1,9 +1,10 @@
 use Rattle.std.proofs.Common.{◌≡◌, ◌+◌, ◌≤◌, length}
 use Rattle.web_http1.specs.Connections.{bytes_open}
-use Rattle.example_site.proofs.serving.answer_whole.Given as goal
+use Rattle.web_stdio.proofs.serving.answer_whole.Given as goal
 
 abbrev pub invariant-messages : goal.invariant-messages
 invariant-messages g l = record {
+  ready : g.H.Handler.ready l.handler;
   made : l.worker.made + bytes_open l.connection ≤ l.fn.worker.made + bytes_open l.fn.connection;
 }
 
