@@ -1,0 +1,8 @@
+//! One exchange as a future, with a worker and a handler of its own.
+#![tactic(auto)]
+
+mod future;
+mod laws;
+
+pub use future::Answering;
+pub use laws::one_reply_law;
