@@ -70,9 +70,7 @@ pub fn calls_law<A: App, Args, H: Service<A, Args>>()
 /// has the bytes of one that is collected, where each body has the length that it states.
 ///
 /// The contract is a law, over the clauses of these calls; there is nothing to call it for.
-pub fn begun_calls_law<A: App, Args: FromRequest<A>, H: Handler<Args>>()
-where
-    H::Output: Responder<A>,
+pub fn begun_calls_law<A: App, Args, H: Service<A, Args>>()
     ensures prefix { (handler : H) (pool : Pool A.Layer) (limits : LimitsOf)
         (calls : List Call) (new : ConnectionView) (given : List ℕ)
         → CalledOrBegun (⟦<H as Serves<A, Args>>⟧.setting handler pool) (open_at limits [])

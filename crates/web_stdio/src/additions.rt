@@ -52,6 +52,7 @@ impl Additions {
                 last: false,
                 length_at_head: settings.length_at_head,
                 date: None,
+                refusals: None,
             },
         }
     }

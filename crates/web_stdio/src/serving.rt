@@ -11,12 +11,10 @@ use std::hash::RandomState;
 use std::io::{Read, Write};
 use std::random::RandomSource;
 use std::time::Clock;
-use web_extract::FromRequest;
 use web_http1::{Answered, Begun, Connection, Ended};
 use web_messages::HeadRoom;
-use web_reply::Responder;
 use web_request::App;
-use web_worker::{Handler, Worker};
+use web_worker::{Service, Worker};
 
 /// The greatest `ServeSettings::last_byte`.
 const GREATEST_LAST_BYTE: u64 = 1 << 61;
@@ -35,21 +33,19 @@ fn most_taken(settings: &ServeSettings) -> u64
 /// Answers the messages that are whole, and sends each reply before it makes the next one. A client
 /// that waits before it sends a body is told to go on. Returns the connection, which has ended or
 /// waits for more.
-fn answer_whole<C: Clock, A: App, Args: FromRequest<A>, H: Handler<Args>, W: Write>(
+fn answer_whole<C: Clock, A: App, Args, S: Service<A, Args>, W: Write>(
     alloc: Global,
     clock: &C,
     worker: &mut Worker<A>,
-    handler: &mut H,
+    service: &mut S,
     additions: &mut Additions,
     taken: u64,
     connection: Connection,
     output: &mut W,
 ) -> Result<Connection, ServeFault>
-where
-    H::Output: Responder<A>,
-    requires ready { H.ready handler.old }
+    requires ready { S.ready service.old }
     requires room { worker.old.made + bytes_open connection < 2 ^ 64 }
-    ensures ready { H.ready handler.new }
+    ensures ready { S.ready service.new }
     ensures made { IfOk result (λ after. worker.new.made + bytes_open after
         ≤ worker.old.made + bytes_open connection) }
     ensures waits { IfOk result (λ after. WaitsForMore after) }
@@ -58,7 +54,13 @@ where
     let mut out = Vec::new(alloc);
     'messages: loop {
         additions.set_next(alloc, clock, taken)?;
-        match connection.begin_next(alloc, worker, handler, additions.reply(), &mut out) {
+        match connection.begin_next::<A, Args, S>(
+            alloc,
+            worker,
+            service,
+            additions.reply(),
+            &mut out,
+        ) {
             Begun::Answered(after, Answered::Replied) => {
                 send(&mut out, output)?;
                 additions.count_reply();
@@ -101,24 +103,22 @@ fn finish<W: Write>(
 /// Takes a piece, and answers each message that is whole then. Where more bytes than
 /// `Limits::kept` would be kept, it refuses what is left. Returns the connection, which has ended
 /// or waits for more.
-fn take_piece<C: Clock, A: App, Args: FromRequest<A>, H: Handler<Args>, W: Write>(
+fn take_piece<C: Clock, A: App, Args, S: Service<A, Args>, W: Write>(
     alloc: Global,
     clock: &C,
     worker: &mut Worker<A>,
-    handler: &mut H,
+    service: &mut S,
     additions: &mut Additions,
     taken: u64,
     connection: Connection,
     piece: &[u8],
     output: &mut W,
 ) -> Result<Connection, ServeFault>
-where
-    H::Output: Responder<A>,
-    requires ready { H.ready handler.old }
+    requires ready { S.ready service.old }
     requires unended { connection.ended ≡ None }
     requires waits { WaitsForMore connection }
     requires room { worker.old.made + (length connection.left + length piece.now) < 2 ^ 64 }
-    ensures ready { H.ready handler.new }
+    ensures ready { S.ready service.new }
     ensures made { IfOk result (λ after. worker.new.made + bytes_open after
         ≤ worker.old.made + (length connection.left + length piece.now)) }
     ensures waits { IfOk result (λ after. WaitsForMore after) }
@@ -127,19 +127,19 @@ where
     if connection.feed(alloc, piece).is_err() {
         return finish(alloc, connection, output);
     }
-    let after = answer_whole(
-        alloc, clock, worker, handler, additions, taken, connection, output,
+    let after = answer_whole::<C, A, Args, S, W>(
+        alloc, clock, worker, service, additions, taken, connection, output,
     )?;
     Ok(after)
 }
 
 /// Reads piece by piece until the connection ends: at the end of the input, after a reply that
 /// closes, where it would keep more than `Limits::kept`, or after the most bytes that are taken.
-fn serve_pieces<C, A, Args, H, R, W>(
+fn serve_pieces<C, A, Args, S, R, W>(
     alloc: Global,
     clock: &C,
     worker: &mut Worker<A>,
-    handler: &mut H,
+    service: &mut S,
     settings: &ServeSettings,
     room: HeadRoom,
     input: &mut R,
@@ -148,14 +148,12 @@ fn serve_pieces<C, A, Args, H, R, W>(
 where
     C: Clock,
     A: App,
-    Args: FromRequest<A>,
-    H: Handler<Args>,
-    H::Output: Responder<A>,
+    S: Service<A, Args>,
     R: Read,
     W: Write,
-    requires ready { H.ready handler.old }
+    requires ready { S.ready service.old }
     requires room { worker.old.made ≤ 2 ^ 62 }
-    ensures ready { H.ready handler.new }
+    ensures ready { S.ready service.new }
 {
     let mut connection = Connection::with_room(alloc, settings.limits, room);
     let mut additions = Additions::new(*settings);
@@ -168,11 +166,11 @@ where
             return finish(alloc, connection, output);
         }
         taken += count as u64;
-        connection = take_piece(
+        connection = take_piece::<C, A, Args, S, W>(
             alloc,
             clock,
             worker,
-            handler,
+            service,
             &mut additions,
             taken,
             connection,
@@ -198,7 +196,7 @@ fn may_send(connection: &Connection) -> bool {
 /// Serves one connection: reads pieces, and answers each message that is whole before it reads on.
 /// One reply is in memory at a time, and of a body that is not in memory one piece.
 ///
-/// Header maps have random keys of `rt`. The worker needs room for one record. The handler keeps
+/// Header maps have random keys of `rt`. The worker needs room for one record. The service keeps
 /// what it keeps from one message to the next: behind a front that pools connections those are of
 /// several clients.
 ///
@@ -212,11 +210,11 @@ fn may_send(connection: &Connection) -> bool {
 ///
 /// Where reading, writing or memory failed. A program writes no text of its own then: where inetd
 /// started it, standard error is the connection too.
-pub fn serve<C, A, Args, H, R, W>(
+pub fn serve<C, A, Args, S, R, W>(
     alloc: Global,
     rt: &C,
     worker: &mut Worker<A>,
-    handler: &mut H,
+    service: &mut S,
     settings: &ServeSettings,
     input: &mut R,
     output: &mut W,
@@ -224,18 +222,18 @@ pub fn serve<C, A, Args, H, R, W>(
 where
     C: Clock + RandomSource,
     A: App,
-    Args: FromRequest<A>,
-    H: Handler<Args>,
-    H::Output: Responder<A>,
+    S: Service<A, Args>,
     R: Read,
     W: Write,
-    requires ready { H.ready handler.old }
+    requires ready { S.ready service.old }
     requires room { worker.old.made ≤ 2 ^ 62 }
-    ensures ready { H.ready handler.new }
+    ensures ready { S.ready service.new }
 {
     let keys = RandomState::new(rt).map_err(ServeFault::Input)?;
     let room = HeadRoom::with_keys(alloc, keys);
-    let connection = serve_pieces(alloc, rt, worker, handler, settings, room, input, output)?;
+    let connection = serve_pieces::<C, A, Args, S, R, W>(
+        alloc, rt, worker, service, settings, room, input, output,
+    )?;
     if may_send(&connection) {
         drop_rest(input)?;
     }

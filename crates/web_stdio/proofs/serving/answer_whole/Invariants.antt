@@ -4,7 +4,7 @@ use Rattle.web_stdio.proofs.serving.answer_whole.Given as goal
 
 abbrev pub invariant-messages : goal.invariant-messages
 invariant-messages g l = record {
-  ready : g.H.Handler.ready l.handler;
+  ready : g.S.Service.ready l.service;
   made : l.worker.made + bytes_open l.connection ≤ l.fn.worker.made + bytes_open l.fn.connection;
 }
 

@@ -4,7 +4,7 @@ use Rattle.web_stdio.proofs.serving.serve_pieces.Given as goal
 
 abbrev pub invariant-pieces : goal.invariant-pieces
 invariant-pieces g l = record {
-  ready : g.H.Handler.ready l.handler;
+  ready : g.S.Service.ready l.service;
   unended : l.connection.ended ≡ None;
   waits : WaitsForMore l.connection;
   made : l.worker.made + bytes_open l.connection ≤ l.fn.worker.made + l.taken;
