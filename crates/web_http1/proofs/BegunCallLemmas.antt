@@ -1,6 +1,5 @@
 -- Calls of which some begin a reply whose body is then written to its end.
-use Rattle.std.proofs.Common.{◌≡◌, ℕ, ◌⊎◌, inl, inr, List, [], ◌∷◌, ◌++◌, Option, None, Some, refl, sym, ap, ◌∙◌, subst, append_assoc, append-nil}
-use Rattle.std.specs.Prelude.{MatchOption}
+use Rattle.std.proofs.Common.{◌≡◌, ℕ, ◌⊎◌, inl, inr, List, [], ◌∷◌, ◌++◌, None, Some, sym, ap, ◌∙◌, subst, append_assoc, append-nil}
 use Rattle.std.proofs.lemmas.List.{append_cancel_left}
 use Rattle.web_request.specs.Feed.{Feed}
 use Rattle.web_worker.specs.Setting.{Setting}
@@ -11,9 +10,8 @@ use Rattle.web_http1.specs.declared.due_body.BodyStage.TheVariants as stage
 use Rattle.web_http1.specs.declared.due_body.BodyWritten.{BodyWritten}
 use Rattle.web_http1.specs.declared.due_body.BodyWritten.TheVariants as written
 use Rattle.web_http1.specs.declared.due_body.DueBody.{DueBody}
-use Rattle.web_http1.specs.declared.ended.Ended.{Ended}
 use Rattle.web_http1.specs.BegunAnswers.{BegunSteps, after_begun}
-use Rattle.web_http1.specs.BegunCalls.{AnswersAny, BeginsWhole, CalledOrBegun, GoesWell, SendsAll, SendsBody, Writes, WritesStep}
+use Rattle.web_http1.specs.BegunCalls.{AnswersAny, BeginsWhole, CalledOrBegun, GoesWell, SendsAll, SendsBody, Writes}
 use Rattle.web_http1.specs.ConnectionCalls.{Call, Called}
 use Rattle.web_http1.specs.Connections.{ConnectionView, StepsFrom, StepsTo}
 use Rattle.web_http1.specs.ConnectionSteps.{with_piece}
@@ -70,7 +68,7 @@ module _ {S L D C V K : Type 0} (s : Setting S L D C V K) where
       → SendsBody s old due before behind new given → (new ≡ due.connection) × StepsFrom s old new before (before ++ given)
   sent_steps old due before behind new given steps b =
       let w = all_written s.feed due b.results b.last b.body b.writes b.text b.to_come in
-      let none = none_left (body_feed s.feed b.last) b.last.stage w.rest b.sent w.to_come in
+      let none = none_left s.feed (body_feed s.feed b.last) b.last.stage w.rest b.sent w.to_come in
       let text_is : b.text ≡ b.body = w.parts ∙ ap (λ (t : List ℕ). b.body ++ t) none ∙ append-nil b.body in
       let written : behind ++ b.text ≡ before ++ given =
       ap (λ (t : List ℕ). t ++ b.text) b.head_is ∙ append_assoc before b.head b.text

@@ -10,6 +10,7 @@ pub mod NextExistsLemmas
 pub mod AnswersExistLemmas
 pub mod PieceLemmas
 pub mod OneLemmas
+pub mod WaitLemmas
 pub mod CallLemmas
 pub mod GoesLemmas
 pub mod AllowedLemmas

@@ -7,7 +7,8 @@ use Rattle.web_request.specs.Body.{ends_in_fault, piece_bytes}
 use Rattle.web_reply.specs.ResponseBodies.{Plain}
 use Rattle.web_reply.specs.Replies.{Reply}
 use Rattle.web_worker.specs.Setting.{Setting}
-use Rattle.web_messages.specs.Progress.{IsProgress, IsSettled}
+use Rattle.web_messages.specs.Progress.{IsSettled}
+use Rattle.web_messages.specs.Joining.{ReadsAlike}
 use Rattle.web_messages.specs.Sameness.{SameMessage}
 use Rattle.web_messages.specs.declared.limits.Limits.{Limits}
 use Rattle.web_messages.specs.declared.message.Message.{Message}
@@ -33,7 +34,7 @@ use Rattle.web_http1.specs.Connections.{ConnectionView, StepsFrom, StepsTo, ende
 use Rattle.web_http1.specs.ConnectionSteps.{IsTurned, WaitsBehind, turned_left}
 use Rattle.web_http1.specs.DueBodies.{IsToCome, body_feed}
 use Rattle.web_http1.specs.MessageExchanges.{exchange_of}
-use Rattle.web_http1.specs.OneAnswer.{WaitsWhere}
+use Rattle.web_http1.specs.OneAnswer.{Waits, WaitsWhere}
 use Rattle.web_http1.specs.Polls.{AllowsReply}
 use Rattle.web_http1.specs.RefusalReplies.{refusal_text}
 
@@ -72,23 +73,30 @@ after_reply c n closes (Some due) =
       connection = moved c n closes;
     })
 
--- no more bytes are skipped than are left, and the progress is that of the others
+-- more bytes have to come after those that are skipped; or the connection ended
 abbrev pub IsInside : ConnectionView → Turned → Type 0
-IsInside c (turned.Goes used) = used ≤ length c.left
-IsInside c (turned.Waits skipped p) =
-    (skipped ≤ length c.left) × IsProgress c.limits (drop skipped c.left) p
+IsInside c (turned.Goes used) = ⊥
+IsInside c (turned.Waits skipped p) = WaitsBehind c.limits c.left (turned.Waits skipped p)
 IsInside c (turned.Ended e) = ⊤
 
--- the connection after a step that began no reply
-abbrev pub after_turn : ConnectionView → Turned → ConnectionView
-after_turn c (turned.Goes used) = moved c used false
-after_turn c (turned.Waits skipped p) = moved c skipped false
-after_turn c (turned.Ended e) = ended_at c.limits c.left e
+-- The connection waits after the bytes that are skipped. The bytes that are left then, which are no
+-- more than these, read the same, whatever follows. Or an allocation failed.
+abbrev pub WaitsAfter : ConnectionView → ConnectionView → Answered → Type 0
+WaitsAfter old new answered.Replied = ⊥
+WaitsAfter old new answered.Waits =
+    (new.ended ≡ None) × (new.limits ≡ old.limits) × (length new.left ≤ length old.left)
+    × ((more : List ℕ) → ReadsAlike old.limits (old.left ++ more) (new.left ++ more))
+    × Waits new
+WaitsAfter old new (answered.Ended end) =
+    (end ≡ ended.NoMemory) × (new ≡ ended_at old.limits old.left ended.NoMemory)
 
-abbrev pub turned_answer : Turned → Answered
-turned_answer (turned.Goes used) = answered.Replied
-turned_answer (turned.Waits skipped p) = answered.Waits
-turned_answer (turned.Ended e) = answered.Ended e
+-- the connection after a step that began no reply
+abbrev pub TurnsTo : {S : Type 0} → ConnectionView → Turned → Begun S → Type 0
+TurnsTo c (turned.Goes used) r = ⊥
+TurnsTo c (turned.Waits skipped p) (begun.Answered new a) = WaitsAfter (moved c skipped false) new a
+TurnsTo c (turned.Waits skipped p) (begun.Due due) = ⊥
+TurnsTo c (turned.Ended e) r =
+    r ≡ begun.Answered (ended_at c.limits c.left e) (answered.Ended e)
 
 -- no reply was begun: a refusal, or more bytes have to come, or an allocation failed
 abbrev pub BeginsNone : Turned → Type 0

@@ -25,9 +25,13 @@ closing_text date head body =
     begun_head date head (Some (framing.Length (length body))) true ++ body
 
 -- the first of these replies that has the status
+abbrev pub first_reply : List (Reply (List ℕ)) → ℕ → Option (Reply (List ℕ))
+first_reply replies status = find (λ r. r.head.status == status) replies
+
+-- the same, where there are any
 abbrev pub own_reply : Option (Vec (Reply (List ℕ)) Global) → ℕ → Option (Reply (List ℕ))
 own_reply None status = None
-own_reply (Some replies) status = find (λ r. r.head.status == status) replies.items
+own_reply (Some replies) status = first_reply replies.items status
 
 -- that reply, or where there is none an empty one of the status
 abbrev pub refusal_text : ReplySettings → ℕ → List ℕ

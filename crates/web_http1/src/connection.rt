@@ -4,9 +4,10 @@ ghost use Rattle.web_worker.specs.PlanPools.{with_records};
 ghost use Rattle.web_http1.specs.BegunReplies.{AddsNothing};
 ghost use Rattle.web_http1.specs.BegunAnswers.{AllHaveTheirLength, BeginsNext, BegunSteps};
 ghost use Rattle.web_http1.specs.BegunAnswers.{BegunWaits, after_begun};
-ghost use Rattle.web_http1.specs.BegunAnswers.{BeginsNone, BeginsOne, IsInside, after_reply};
-ghost use Rattle.web_http1.specs.BegunAnswers.{after_turn, answered_after, begun_left};
-ghost use Rattle.web_http1.specs.BegunAnswers.{end_after, moved, turned_answer};
+ghost use Rattle.web_http1.specs.BegunAnswers.{BeginsOne, IsInside, TurnsTo, WaitsAfter};
+ghost use Rattle.web_http1.specs.BegunAnswers.{after_reply, answered_after, begun_left};
+ghost use Rattle.web_http1.specs.BegunAnswers.{end_after, moved};
+ghost use Rattle.web_http1.specs.ConnectionSteps.{WaitsBehind};
 ghost use Rattle.web_http1.specs.DueBodies.{cut};
 ghost use Rattle.web_http1.specs.Connections.{Finishes, IsOwnEnd, StepsFrom, WaitsForMore};
 ghost use Rattle.web_http1.specs.Connections.{bytes_open, ended_at};
@@ -129,9 +130,11 @@ impl Connection {
         self.ended
     }
 
-    /// How many bytes are kept: those that came after the last message that was answered, of empty
-    /// lines alone no more than a head may have. Those of a message that is not whole are kept as
-    /// they came. A loop may end a connection that keeps too many by `finish`.
+    /// How many bytes are kept: those that came after the last message that was answered. Of empty
+    /// lines alone they are no more than a head may have, and of chunks no more than a head and a
+    /// body of the greatest size, a sixteenth of this size, and 20,738 bytes: the lines of chunks
+    /// that were read are dropped, so that they may be fewer bytes than came. A loop may end a
+    /// connection that keeps too many by `finish`.
     pub fn kept(&self) -> usize
         ensures { result ≡ length self.now.left }
     {
@@ -246,7 +249,9 @@ impl Connection {
         );
         self.start = answered.place;
         match answered.left {
-            Left::Open(progress) => put_in(&mut self.progress, progress),
+            Left::Open(progress) => {
+                self.wait(alloc, 0, progress);
+            }
             Left::Ended(ended) => self.ended = Some(ended),
         }
     }
@@ -296,11 +301,7 @@ impl Connection {
                 self.start += used;
                 Answered::Replied
             }
-            Turned::Waits(skipped, progress) => {
-                self.start += skipped;
-                put_in(&mut self.progress, progress);
-                Answered::Waits
-            }
+            Turned::Waits(skipped, progress) => self.wait(alloc, skipped, progress),
             Turned::Ended(ended) => {
                 self.ended = Some(ended);
                 Answered::Ended(ended)
@@ -368,7 +369,7 @@ impl Connection {
         }
         match connection.begin(alloc, worker, handler, settings, out) {
             BegunTurn::Begun(used, reply) => connection.after_reply(used, reply),
-            BegunTurn::Turned(turned) => connection.after_turn(turned),
+            BegunTurn::Turned(turned) => connection.after_turn(alloc, turned),
         }
     }
 
@@ -418,14 +419,30 @@ impl Connection {
         self.ended = end_after(closes);
     }
 
-    /// Goes on after so many bytes that are no more needed.
-    fn skip(&mut self, skipped: usize, progress: Progress)
+    /// Waits for more bytes, after so many that are no more needed. Of chunks that were read the
+    /// lines are dropped, where they are many.
+    fn wait(&mut self, alloc: Global, skipped: usize, progress: Progress) -> Answered
         requires unended { self.old.ended ≡ None }
-        requires inside { IsInside self.old (Turned.Waits skipped progress) }
-        ensures { self.new ≡ moved self.old skipped false }
+        requires behind { WaitsBehind self.old.limits self.old.left
+            (Turned.Waits skipped progress) }
+        ensures { WaitsAfter (moved self.old skipped false) self.new result }
     {
         self.start += skipped;
+        let mut progress = progress;
+        let joined = progress.join_chunks(alloc, &self.limits, &self.buffer[self.start..]);
         put_in(&mut self.progress, progress);
+        match joined {
+            Ok(Some(joined)) => {
+                self.buffer = joined;
+                self.start = 0;
+                Answered::Waits
+            }
+            Ok(None) => Answered::Waits,
+            Err(NoMemory) => {
+                self.ended = Some(Ended::NoMemory);
+                Answered::Ended(Ended::NoMemory)
+            }
+        }
     }
 
     /// Ends so.
@@ -449,17 +466,16 @@ impl Connection {
     }
 
     /// After a step that began no reply.
-    fn after_turn<S>(self, turned: Turned) -> Begun<S>
+    fn after_turn<S>(self, alloc: Global, turned: Turned) -> Begun<S>
         requires unended { self.ended ≡ None }
-        requires none { BeginsNone turned }
         requires inside { IsInside self turned }
-        ensures { result ≡ Begun.Answered (after_turn self turned) (turned_answer turned) }
+        ensures { TurnsTo self turned result }
     {
         let mut connection = self;
         match turned {
             Turned::Waits(skipped, progress) => {
-                connection.skip(skipped, progress);
-                Begun::Answered(connection, Answered::Waits)
+                let answered = connection.wait(alloc, skipped, progress);
+                Begun::Answered(connection, answered)
             }
             Turned::Ended(ended) => {
                 connection.end(ended);

@@ -3,7 +3,7 @@ ghost use Rattle.std.specs.Prelude.{◌≡◌, ◌++◌, OnErr, OnOk, option_map
 ghost use Rattle.web_messages.specs.Progress.{IsProgress};
 ghost use Rattle.web_http1.specs.Connections.{AllOpen};
 ghost use Rattle.web_http1.specs.RefusalReplies.{FinishesAs, RefusesAs, closing_text, own_reply};
-ghost use Rattle.web_http1.specs.RefusalReplies.{refusal_text};
+ghost use Rattle.web_http1.specs.RefusalReplies.{first_reply, refusal_text};
 
 use crate::answering::Rooms;
 use crate::beginning::put_begun_head;
@@ -21,6 +21,13 @@ use web_reply::{HttpResponse, ResponseHead};
 use web_texts::NoMemory;
 
 /// The first of these replies that has the status.
+fn first_reply(replies: &[HttpResponse<Bytes>], status: StatusCode) -> Option<&HttpResponse<Bytes>>
+    ensures { option_map (λ r. r.now) result ≡ first_reply replies.now status }
+{
+    replies.iter().find(|reply| reply.status() == status)
+}
+
+/// The first of these replies, where there are any, that has the status.
 fn own_reply(
     replies: &Option<Vec<HttpResponse<Bytes>>>,
     status: StatusCode,
@@ -28,7 +35,7 @@ fn own_reply(
     ensures { option_map (λ r. r.now) result ≡ own_reply replies.now status }
 {
     match replies {
-        Some(replies) => replies.iter().find(|reply| reply.status() == status),
+        Some(replies) => first_reply(replies.as_slice(), status),
         None => None,
     }
 }

@@ -1,7 +1,6 @@
 use Rattle.std.proofs.Common.{◌+◌, ◌≤◌, ap, ◌∙◌, length, subst, sym}
 use Rattle.web_worker.specs.Setting.{setting_of}
-use Rattle.web_http1.specs.BegunAnswers.{BeginsNext, BegunSteps, BegunWaits, IsInside, after_begun, after_reply, after_turn, turned_answer}
-use Rattle.web_http1.specs.declared.begun.Begun.TheVariants as begun
+use Rattle.web_http1.specs.BegunAnswers.{BeginsNext, BegunSteps, BegunWaits, IsInside, TurnsTo, after_begun, after_reply}
 use Rattle.web_http1.specs.Connections.{ConnectionView, bytes_open}
 use Rattle.web_http1.proofs.BegunLemmas as of
 use Rattle.web_http1.proofs.connection.Connection.begin_next.Goals as goal
@@ -21,10 +20,6 @@ after_reply-requires g c =
 pub after_turn-requires-clause-unended : goal.after_turn-requires-clause-unended
 after_turn-requires-clause-unended g c =
     ap (λ (v : ConnectionView). v.ended) c.in-Turned.ensures.same ∙ sym c.in_default.ensures
-
-pub after_turn-requires-clause-none : goal.after_turn-requires-clause-none
-after_turn-requires-clause-none g c =
-    c.in-Turned.ensures.one.0
 
 pub after_turn-requires-clause-inside : goal.after_turn-requires-clause-inside
 after_turn-requires-clause-inside g c =
@@ -96,9 +91,8 @@ returns-in-Turned-clause-made g c =
     let unended = sym c.in_default.ensures in
     let turned = c.in-Turned.turned in
     let one = c.in-Turned.ensures.one in
-    let is = c.after_turn.ensures ∙ ap (λ (v : ConnectionView). begun.Answered (after_turn v turned) (turned_answer turned)) c.in-Turned.ensures.same in
-    subst (λ r. c.begin.new.worker.made + bytes_open (after_begun r) ≤ c.args.worker.now.made + bytes_open c.args.self) (sym is)
-    (of.turn_made c.args.self turned c.args.worker.now.made c.begin.new.worker.made unended c.in-Turned.ensures.made)
+    let to = subst (λ (v : ConnectionView). TurnsTo v turned c.after_turn.result) c.in-Turned.ensures.same c.after_turn.ensures in
+    of.turn_made c.args.self turned c.after_turn.result c.args.worker.now.made c.begin.new.worker.made unended to c.in-Turned.ensures.made
 
 pub returns-in-Turned-clause-limits : goal.returns-in-Turned-clause-limits
 returns-in-Turned-clause-limits g c =
@@ -106,8 +100,8 @@ returns-in-Turned-clause-limits g c =
     let unended = sym c.in_default.ensures in
     let turned = c.in-Turned.turned in
     let one = c.in-Turned.ensures.one in
-    let is = c.after_turn.ensures ∙ ap (λ (v : ConnectionView). begun.Answered (after_turn v turned) (turned_answer turned)) c.in-Turned.ensures.same in
-    ap (λ r. (after_begun r).limits) is ∙ of.turn_limits c.args.self turned
+    let to = subst (λ (v : ConnectionView). TurnsTo v turned c.after_turn.result) c.in-Turned.ensures.same c.after_turn.ensures in
+    of.turn_limits c.args.self turned c.after_turn.result to
 
 pub returns-in-Turned-clause-waits : goal.returns-in-Turned-clause-waits
 returns-in-Turned-clause-waits g c =
@@ -115,8 +109,8 @@ returns-in-Turned-clause-waits g c =
     let unended = sym c.in_default.ensures in
     let turned = c.in-Turned.turned in
     let one = c.in-Turned.ensures.one in
-    let is = c.after_turn.ensures ∙ ap (λ (v : ConnectionView). begun.Answered (after_turn v turned) (turned_answer turned)) c.in-Turned.ensures.same in
-    subst (λ r. BegunWaits r) (sym is) (of.turn_waits s c.args.settings.now c.args.self c.args.out.now.items c.begin.new.out.items turned one.0 one.2)
+    let to = subst (λ (v : ConnectionView). TurnsTo v turned c.after_turn.result) c.in-Turned.ensures.same c.after_turn.ensures in
+    of.turn_waits s c.args.settings.now c.args.self c.args.out.now.items c.begin.new.out.items turned c.after_turn.result to
 
 pub returns-in-Turned-clause-begun : goal.returns-in-Turned-clause-begun
 returns-in-Turned-clause-begun g c =
@@ -124,9 +118,8 @@ returns-in-Turned-clause-begun g c =
     let unended = sym c.in_default.ensures in
     let turned = c.in-Turned.turned in
     let one = c.in-Turned.ensures.one in
-    let is = c.after_turn.ensures ∙ ap (λ (v : ConnectionView). begun.Answered (after_turn v turned) (turned_answer turned)) c.in-Turned.ensures.same in
-    subst (λ r. BeginsNext s c.args.settings.now c.args.self c.args.out.now.items c.begin.new.out.items r) (sym is)
-    (of.turn_next s c.args.settings.now c.args.self c.args.out.now.items c.begin.new.out.items turned unended one.0 one.2)
+    let to = subst (λ (v : ConnectionView). TurnsTo v turned c.after_turn.result) c.in-Turned.ensures.same c.after_turn.ensures in
+    of.turn_next s c.args.settings.now c.args.self c.args.out.now.items c.begin.new.out.items turned c.after_turn.result unended one.0 one.2 to
 
 pub returns-in-Turned-clause-steps : goal.returns-in-Turned-clause-steps
 returns-in-Turned-clause-steps g c =
@@ -134,6 +127,5 @@ returns-in-Turned-clause-steps g c =
     let unended = sym c.in_default.ensures in
     let turned = c.in-Turned.turned in
     let one = c.in-Turned.ensures.one in
-    let is = c.after_turn.ensures ∙ ap (λ (v : ConnectionView). begun.Answered (after_turn v turned) (turned_answer turned)) c.in-Turned.ensures.same in
-    λ off all. subst (λ r. BegunSteps s c.args.self c.args.out.now.items c.begin.new.out.items r) (sym is)
-    (of.turn_goes s c.args.settings.now c.args.self c.args.out.now.items c.begin.new.out.items turned unended one.0 (one.1 off))
+    let to = subst (λ (v : ConnectionView). TurnsTo v turned c.after_turn.result) c.in-Turned.ensures.same c.after_turn.ensures in
+    λ off all. of.turn_goes s c.args.settings.now c.args.self c.args.out.now.items c.begin.new.out.items turned c.after_turn.result unended one.0 (one.1 off) to
