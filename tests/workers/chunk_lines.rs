@@ -92,8 +92,12 @@ fn drain<H: Handler<Bytes, Output = Echo>>(
 fn the_lines_of_chunks_are_dropped(rt: HostRuntime) {
     let alloc = rt.alloc();
     let bytes = messages(alloc).expect(&rt, "memory");
-    for (way, step) in [(Way::All, 1_000), (Way::One, 777), (Way::Begun, 4_096), (Way::All, 65_536)]
-    {
+    for (way, step) in [
+        (Way::All, 1_000),
+        (Way::One, 777),
+        (Way::Begun, 4_096),
+        (Way::All, 65_536),
+    ] {
         let mut worker: Worker<Site> = worker(&rt, alloc, NoData);
         let mut handler = FnHandler(|body: Bytes| -> Result<Ready<Echo>, NoMemory> {
             let body = BoxBody::Bytes(body);
