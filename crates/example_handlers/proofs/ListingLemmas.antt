@@ -27,7 +27,7 @@ use Rattle.web_extract.specs.LayerConfigurations.{Configurations, payload_settin
 use Rattle.web_extract.specs.ListMeanings.{Means2, Member}
 use Rattle.web_extract.specs.OptionArgument.{GivesOption, as_option}
 use Rattle.web_extract.specs.declared.never.Never.{Never}
-use Rattle.web_worker.specs.ExchangeRules.{Replies, RepliesBefore}
+use Rattle.web_worker.specs.ExchangeRules.{Rules, Replies, RepliesBefore}
 use Rattle.web_worker.specs.PlanCalls.{ArgumentsOnce}
 use Rattle.web_worker.specs.Exchanges.{ExchangeView}
 use Rattle.web_worker.specs.OutcomeFunctions.{AnswersOnce}
