@@ -1,5 +1,5 @@
 -- Routes of tables: their names and the parts of paths are ASCII.
-use Rattle.std.proofs.Common.{◌≡◌, ℕ, zero, suc, ◌+◌, ◌-◌, ◌<◌, ◌≤◌, refl, arith, inl, inr, length}
+use Rattle.std.proofs.Common.{◌≡◌, ℕ, zero, suc, ◌+◌, ◌-◌, ◌<◌, ◌≤◌, ap, refl, arith, inl, inr, length}
 use Rattle.std.proofs.Common.{take, drop}
 use Rattle.std.specs.Prelude.{Bool, true, false, cond, List, [], ◌∷◌, ◌++◌, ltb, leb, ◌&&◌, ◌==◌, ◌||◌, ◌⊎◌}
 use Rattle.std.specs.Prelude.{Option, None, Some, Result, Ok, Err, IfSome, slice_get, slice_index}
@@ -25,7 +25,7 @@ use Rattle.matchit.specs.declared.error.InsertError.{InsertError}
 use Rattle.matchit.specs.declared.error.InsertError.TheVariants.{OutOfMemory}
 use Rattle.web_texts.specs.Pairs.{Pair}
 use Rattle.web_routing.specs.RoutedPaths.{IsFound, ResourceView, TableView, found_for, is_ascii}
-use Rattle.web_routing.specs.RoutedPaths.{parameters, served_by}
+use Rattle.web_routing.specs.RoutedPaths.{parameters, routes_in, served_by}
 use Rattle.web_routing.specs.declared.route_table.Found.TheVariants as found
 use Rattle.web_routing.specs.RouteTables.{AreAsciiRows, EachRow}
 
@@ -226,8 +226,8 @@ parsed_ascii pattern a = on (scan scan_start pattern) (scan_ascii scan_start pat
 
 not_both : (e f : InsertError) → ◌≡◌ {A = Result (Unit {0}) InsertError} (Ok tt) (Err e)
     ⊎ ◌≡◌ {A = Result (Unit {0}) InsertError} (Ok tt) (Err f) → ⊥
-not_both e f (inl no) = cc
-not_both e f (inr no) = cc
+not_both e f (inl same) = cc
+not_both e f (inr same) = cc
 
 -- an insert of an ASCII pattern leaves rows whose names are ASCII
 pub inserted_ascii : (pattern : List ℕ) (value : ℕ) (old new : RowsOf (RouteOf ℕ))
@@ -257,7 +257,8 @@ pub finds_methods : (t : TableView) (method path : List ℕ) (r : RouteOf ℕ) (
     (params : List Pair) → IsAscii path → first t.patterns path ≡ Some r
     → slice_get t.resources r.value ≡ Some s → served_by s.routes method ≡ None
     → IsFound t (found_for t method path) (found.OtherMethods r.value) params
-finds_methods t method path r s params a f g h = rw (ascii_is path a, f, g, h) refl
+finds_methods t method path r s params a f g h =
+    rw (ascii_is path a, f, g, h) (ap routes_in g)
 
 -- all of a list, where as many are taken
 pub all_taken : {X : Type 0} (P : X → Type 0) (xs : List X) (n : ℕ) → length xs ≤ n

@@ -1,5 +1,6 @@
-use Rattle.std.proofs.Common.{◌≡◌, ℕ, rules}
+use Rattle.std.proofs.Common.{◌≡◌, ℕ, length, refl, rules}
 use Rattle.std.specs.Prelude.{None, Some, slice_get}
+use Rattle.std.proofs.lemmas.Option.{slice_get_read}
 use Rattle.matchit.specs.Params.{AllText}
 use Rattle.matchit.specs.Router.{RouteOf}
 use Rattle.matchit.specs.Seek.{first}
@@ -29,7 +30,10 @@ returns-in_ok-pairs_of-in-Some-served_by c =
     rw c.in-Ok.ensures.path
     (walked_text r.pattern r.text c.args.path.now r.names 0 0
     (first_ascii t.patterns c.args.path.now r c.self.invariant is) ascii) in
-    let there : slice_get t.resources r.value ≡ Some c.in-Some.resource.now = search rules in
+    let there : slice_get t.resources r.value ≡ Some c.in-Some.resource.now =
+    rw c.deref.ensures.value at
+    (slice_get_read c.deref.result.now (length c.deref.result.now) r.value c.in-Some.resource.now
+    refl c.in-Some.ensures.lookup.3.0 c.in-Some.ensures.lookup.1) in
     let served : served_by c.in-Some.resource.now.routes c.args.method.now
     ≡ Some c.in-Some-served_by.number = search rules in
     let pairs : c.in_ok-pairs_of-in-Some-served_by.field-0.items ≡ parameters r c.args.path.now =
@@ -55,7 +59,10 @@ returns-in-None c =
       count = c.self.inside.count;
     } in
     let is : first t.patterns c.args.path.now ≡ Some r = c.in-Ok.ensures.found in
-    let there : slice_get t.resources r.value ≡ Some c.in-Some.resource.now = search rules in
+    let there : slice_get t.resources r.value ≡ Some c.in-Some.resource.now =
+    rw c.deref.ensures.value at
+    (slice_get_read c.deref.result.now (length c.deref.result.now) r.value c.in-Some.resource.now
+    refl c.in-Some.ensures.lookup.3.0 c.in-Some.ensures.lookup.1) in
     let served : served_by c.in-Some.resource.now.routes c.args.method.now ≡ None =
     search rules in
     rw (← c.self.view_is)
