@@ -1,5 +1,4 @@
 use Rattle.std.proofs.Common.{Err, Some, ap, subst}
-use Rattle.std.specs.Prelude.{IfSome}
 use Rattle.http_header.specs.FieldValue.{plain_value}
 use Rattle.web_texts.specs.HeaderValues.{GivesValue}
 use Rattle.web_entities.specs.DispositionTexts.{disposition_text}
