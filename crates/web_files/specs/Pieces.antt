@@ -1,5 +1,6 @@
 -- The bytes of a reader that are sent in pieces.
-use Rattle.std.specs.Prelude.{◌≡◌, ◌≤◌, ◌+◌, ℕ, List, None, Option, false, length, ⊤}
+use Rattle.std.specs.Prelude.{◌≡◌, ◌≤◌, ◌+◌, ℕ, List, [], ◌∷◌, ◌++◌, None, Option, false}
+use Rattle.std.specs.Prelude.{Some, flat_map, length, take, ⊤}
 use Rattle.std.specs.Io.KnownBytes.{Consumes, Keeps}
 use Rattle.web_request.specs.Feed.{Feed}
 use Rattle.web_request.specs.declared.source.Turn.{Turn}
@@ -36,3 +37,28 @@ ReadsPiece Stall old new = ⊥
 ReadsPiece Fault old new = Keeps old.left new.left
 ReadsPiece End old new = Keeps old.left new.left × (old.feed.answers ≡ 0)
 ReadsPiece NoMemory old new = ⊤
+
+-- a run of results that are these pieces
+abbrev pub GivesPieces : PiecesLeft → List (List ℕ) → PiecesLeft → Type 0
+GivesPieces old [] new = new ≡ old
+GivesPieces old (piece ∷ more) new =
+    (mid : PiecesLeft) × ReadsPiece (Piece piece) old mid × GivesPieces mid more new
+
+-- the bytes of pieces, one after the other
+abbrev pub bytes_of : List (List ℕ) → List ℕ
+bytes_of pieces = flat_map (λ piece. piece) pieces
+
+-- Of a reader that has these bytes left: the pieces so far are a front of them, and no longer than
+-- the number that was to be given.
+abbrev pub SendsAFront : Type 0
+SendsAFront =
+    (count : ℕ) (bytes : List ℕ) (pieces : List (List ℕ)) (last : PiecesLeft)
+    → GivesPieces (pieces_of count (Some bytes)) pieces last
+    → (rest : List ℕ) × (bytes ≡ bytes_of pieces ++ rest) × (length (bytes_of pieces) ≤ count)
+
+-- Where the end comes after them, they are that many of these bytes, from the first on.
+abbrev pub SendsAll : Type 0
+SendsAll =
+    (count : ℕ) (bytes : List ℕ) (pieces : List (List ℕ)) (last after : PiecesLeft)
+    → GivesPieces (pieces_of count (Some bytes)) pieces last → ReadsPiece End last after
+    → (bytes_of pieces ≡ take count bytes) × (length (bytes_of pieces) ≡ count)

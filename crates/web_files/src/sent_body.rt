@@ -1,4 +1,7 @@
 //! Replies whose bodies are read as they are sent.
+ghost use Rattle.std.specs.Prelude.{IfOk, IfSome};
+ghost use Rattle.web_files.specs.SentBodies.{IsMoved, IsSized, SendsIfRead, SendsPart, Streams};
+
 use crate::file_pieces::FilePieces;
 use http::StatusCode;
 use std::alloc::Global;
@@ -6,33 +9,53 @@ use std::io::{Read, Seek, SeekFrom};
 use web_body::Payload;
 use web_folders::{FilePart, FolderBody};
 use web_reply::{BoxBody, HttpResponse};
-use web_request::Source;
 use web_texts::NoMemory;
 
 /// More bytes than any file has.
 const TOO_MANY: u64 = 1 << 63;
 
-fn sized<S: Source>(
+fn sized<F: Read + Drop>(
     alloc: Global,
     count: u64,
-    payload: Payload<S>,
-) -> Result<BoxBody<S>, NoMemory> {
+    payload: Payload<FilePieces<F>>,
+) -> Result<BoxBody<FilePieces<F>>, NoMemory>
+    ensures { IfOk result (λ body. IsSized count payload body) }
+{
     Ok(BoxBody::Sized(count, Box::new(alloc, payload)?))
+}
+
+/// The file at this position, from which it is read next. `None` if it cannot be read from there.
+fn moved<F: Read + Seek + Drop>(file: F, first: u64) -> Option<F>
+    ensures { IfSome result (λ moved. IsMoved (record {
+        left = F.remaining; position = F.stream_position; bytes = F.stream_bytes })
+        file first moved) }
+{
+    let mut file = file;
+    if first == 0 {
+        return Some(file);
+    }
+    match file.seek(SeekFrom::Start(first)) {
+        Ok(_) => Some(file),
+        Err(_) => None,
+    }
 }
 
 /// The bytes of a part of a file. `None` if the file cannot be read from there.
 fn part_body<F: Read + Seek + Drop>(
     alloc: Global,
     part: FilePart<F>,
-) -> Result<Option<BoxBody<FilePieces<F>>>, NoMemory> {
+) -> Result<Option<BoxBody<FilePieces<F>>>, NoMemory>
+    ensures { IfOk result (λ found. IfSome found (λ body. SendsPart (record {
+            left = F.remaining; position = F.stream_position; bytes = F.stream_bytes })
+        part body)) }
+{
     let FilePart { file, first, count } = part;
-    let mut file = file;
     if count >= TOO_MANY {
         return Ok(None);
     }
-    if first > 0 && file.seek(SeekFrom::Start(first)).is_err() {
+    let Some(file) = moved(file, first) else {
         return Ok(None);
-    }
+    };
     let pieces = FilePieces::new(alloc, file, count);
     Ok(Some(sized(alloc, count, Payload::Stream(pieces))?))
 }
@@ -41,7 +64,11 @@ fn part_body<F: Read + Seek + Drop>(
 fn sent_body<F: Read + Seek + Drop>(
     alloc: Global,
     body: FolderBody<F>,
-) -> Result<Option<BoxBody<FilePieces<F>>>, NoMemory> {
+) -> Result<Option<BoxBody<FilePieces<F>>>, NoMemory>
+    ensures { IfOk result (λ sent. SendsIfRead (record {
+            left = F.remaining; position = F.stream_position; bytes = F.stream_bytes })
+        body sent) }
+{
     match body {
         FolderBody::Empty => Ok(Some(BoxBody::Empty)),
         FolderBody::Page(page) => Ok(Some(BoxBody::Bytes(page))),
@@ -56,7 +83,11 @@ fn sent_body<F: Read + Seek + Drop>(
 pub fn streamed<F: Read + Seek + Drop>(
     alloc: Global,
     reply: HttpResponse<FolderBody<F>>,
-) -> Result<HttpResponse<BoxBody<FilePieces<F>>>, NoMemory> {
+) -> Result<HttpResponse<BoxBody<FilePieces<F>>>, NoMemory>
+    ensures { IfOk result (λ sent. Streams (record {
+            left = F.remaining; position = F.stream_position; bytes = F.stream_bytes })
+        reply sent) }
+{
     let (reply, body) = reply.into_parts();
     match sent_body(alloc, body)? {
         Some(body) => Ok(reply.set_body(body)),

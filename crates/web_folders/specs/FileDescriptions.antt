@@ -1,5 +1,5 @@
 -- What a reply says of a file, by what the open file says of itself.
-use Rattle.std.specs.Prelude.{◌≡◌, ◌≤◌, ℕ, false, List, ◌∷◌, ◌++◌, codes}
+use Rattle.std.specs.Prelude.{◌≡◌, ◌≤◌, ℕ, false, List, ◌++◌, codes}
 use Rattle.std.specs.Prelude.{Option, None, Some}
 use Rattle.std.specs.Fmt.{digits}
 use Rattle.http_header.specs.FieldValue.{plain_value}

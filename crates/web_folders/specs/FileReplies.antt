@@ -34,9 +34,9 @@ has_content status = status == 200 || status == 206
 abbrev pub is_kept : ℕ → Bool
 is_kept status = has_content status || status == 304
 
-abbrev pub content_headers : FolderSettings → List ℕ → FileCoding → ℕ → Headers → Headers
-content_headers s path coding status headers =
-    let content = has_content status in
+-- what the content is, where there is some
+abbrev pub content_headers : FolderSettings → List ℕ → FileCoding → Bool → Headers → Headers
+content_headers s path coding content headers =
     with_header
     (with_header
     (with_header headers (codes "content-encoding") (if_allowed content (coding_name coding)))
@@ -49,7 +49,7 @@ content_headers s path coding status headers =
 abbrev pub added_headers : FolderSettings → List ℕ → FileCoding → ℕ → Headers → Headers
 added_headers s path coding status headers =
     with_header
-    (with_header (content_headers s path coding status headers)
+    (with_header (content_headers s path coding (has_content status) headers)
     (codes "cache-control") (if_allowed (is_kept status) s.cache_control))
     (codes "vary") (if_allowed s.compressed (Some (plain_value (codes "accept-encoding"))))
 

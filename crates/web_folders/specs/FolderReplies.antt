@@ -3,9 +3,9 @@ use Rattle.std.specs.Prelude.{◌≡◌, ℕ, ◌==◌, ◌&&◌, ◌||◌, Bool
 use Rattle.std.specs.Prelude.{Option, None, Some, codes, length, is_some, if◌then◌else◌}
 use Rattle.http_header.specs.FieldValue.{FieldValue, plain_value}
 use Rattle.web_reply.specs.Replies.{Reply, bare_reply}
-use Rattle.web_reply.specs.HeaderSteps.{is_field_value}
 use Rattle.web_docs.specs.Conditions.{Headers, values}
 use Rattle.web_docs.specs.DescribedReplies.{reply_with}
+use Rattle.web_docs.specs.Documents.{field_value_of}
 use Rattle.web_docs.specs.Verdicts.{is_get, is_head}
 use Rattle.web_paths.specs.PathsBelow.{NamesBelow, below_of, child_of, joined, sibling_of}
 use Rattle.web_folders.specs.FileCodings.{SendsCoding}
@@ -43,13 +43,13 @@ query_text query = if length query == 0 then [] else codes "?" ++ query
 abbrev pub with_slash : List ℕ → List ℕ → List ℕ
 with_slash path query = path ++ (codes "/" ++ query_text query)
 
+abbrev pub moved_to : {F : Type 0} → Option FieldValue → Reply (FolderBody F)
+moved_to None = not_found
+moved_to (Some location) = reply_with 301 ((codes "location", location ∷ []) ∷ []) body.Empty
+
 -- 301 to there, where a header can have it
 abbrev pub moved_reply : {F : Type 0} → List ℕ → List ℕ → Reply (FolderBody F)
-moved_reply path query =
-    if is_field_value (with_slash path query)
-    then reply_with 301 ((codes "location", plain_value (with_slash path query) ∷ []) ∷ [])
-    body.Empty
-    else not_found
+moved_reply path query = moved_to (field_value_of (with_slash path query))
 
 abbrev pub page_headers : Headers
 page_headers =

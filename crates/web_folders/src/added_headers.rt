@@ -1,7 +1,8 @@
 //! The headers of a reply with a file beside those of its description.
-ghost use Rattle.std.specs.Prelude.{◌≡◌, IfOk, OnOk};
+ghost use Rattle.std.specs.Prelude.{◌≡◌, ◌&&◌, IfOk, OnOk};
 ghost use Rattle.web_folders.specs.FileDispositions.{disposition_value as disposition_value_lem};
-ghost use Rattle.web_folders.specs.FileReplies.{added_headers, has_content as has_content_lem};
+ghost use Rattle.web_folders.specs.FileReplies.{added_headers, content_headers};
+ghost use Rattle.web_folders.specs.FileReplies.{has_content as has_content_lem};
 ghost use Rattle.web_folders.specs.FileReplies.{if_allowed as if_allowed_lem, with_header};
 ghost use Rattle.web_folders.specs.FileReplies.{is_kept as is_kept_lem};
 
@@ -54,11 +55,16 @@ fn is_kept(status: StatusCode) -> bool
     has_content(status) || status == StatusCode::NOT_MODIFIED
 }
 
-fn disposition(alloc: Global, wanted: bool, path: &str) -> Result<Option<HeaderValue>, NoMemory>
+fn disposition(
+    alloc: Global,
+    content: bool,
+    wanted: bool,
+    path: &str,
+) -> Result<Option<HeaderValue>, NoMemory>
     ensures { IfOk result (λ value.
-        value ≡ if_allowed_lem wanted (disposition_value_lem path.now)) }
+        value ≡ if_allowed_lem (content && wanted) (disposition_value_lem path.now)) }
 {
-    if wanted {
+    if content && wanted {
         return disposition_value(alloc, path);
     }
     Ok(None)
@@ -73,6 +79,27 @@ fn cache_control(wanted: bool, settings: &FolderSettings) -> Result<Option<Heade
     }
 }
 
+/// Adds what the content is, if there is some.
+fn add_content_headers(
+    alloc: Global,
+    headers: &mut HeaderMap<HeaderValue>,
+    settings: &FolderSettings,
+    path: &str,
+    coding: FileCoding,
+    content: bool,
+) -> Result<(), NoMemory>
+    ensures { OnOk result (headers.new
+        ≡ content_headers settings.now path.now coding content headers.old) }
+{
+    let shown = disposition(alloc, content, settings.dispositions, path)?;
+    let coded = if_allowed(content, coding.value());
+    let nosniff = if_allowed(content, Some(HeaderValue::from_static("nosniff")));
+    put(headers, CONTENT_ENCODING, coded)?;
+    put(headers, CONTENT_DISPOSITION, shown)?;
+    put(headers, X_CONTENT_TYPE_OPTIONS, nosniff)?;
+    Ok(())
+}
+
 /// Adds the headers of a reply of this status with the file at this path, in this coding.
 pub(crate) fn add_headers(
     alloc: Global,
@@ -85,22 +112,11 @@ pub(crate) fn add_headers(
     ensures { OnOk result (headers.new
         ≡ added_headers settings.now path.now coding status headers.old) }
 {
-    let content = has_content(status);
-    let shown = disposition(alloc, content && settings.dispositions, path)?;
     let kept = cache_control(is_kept(status), settings)?;
-    let nosniff = Some(HeaderValue::from_static("nosniff"));
-    let vary = Some(HeaderValue::from_static("accept-encoding"));
-    put(
-        headers,
-        CONTENT_ENCODING,
-        if_allowed(content, coding.value()),
-    )?;
-    put(headers, CONTENT_DISPOSITION, shown)?;
-    put(
-        headers,
-        X_CONTENT_TYPE_OPTIONS,
-        if_allowed(content, nosniff),
-    )?;
+    let accept = Some(HeaderValue::from_static("accept-encoding"));
+    let vary = if_allowed(settings.compressed, accept);
+    add_content_headers(alloc, headers, settings, path, coding, has_content(status))?;
     put(headers, CACHE_CONTROL, kept)?;
-    put(headers, VARY, if_allowed(settings.compressed, vary))
+    put(headers, VARY, vary)?;
+    Ok(())
 }

@@ -9,6 +9,8 @@ ghost use Rattle.web_folders.specs.FileDispositions.{is_shown as is_shown_lem, i
 ghost use Rattle.web_folders.specs.FileDispositions.{filename_params as filename_params_lem};
 ghost use Rattle.web_folders.specs.FileDispositions.{disposition_type as disposition_type_lem};
 ghost use Rattle.web_folders.specs.FileDispositions.{utf8_value as utf8_value_lem};
+ghost use Rattle.web_docs.specs.Documents.{field_value_of};
+ghost use Rattle.web_entities.specs.DispositionTexts.{disposition_text};
 
 use crate::media_type::media_type_of;
 use http_header::HeaderValue;
@@ -101,13 +103,11 @@ fn file_disposition(alloc: Global, path: &str) -> Result<ContentDisposition, NoM
     })
 }
 
-/// The value of Content-Disposition (RFC 6266) for the file at this path. None if its name can be
-/// in no header, as one with a line break.
-pub(crate) fn disposition_value(alloc: Global, path: &str) -> Result<Option<HeaderValue>, NoMemory>
-    ensures { IfOk result (λ value. value ≡ disposition_value_lem path.now) }
+/// The value that a disposition prints, if it may stand in a header.
+fn printed(alloc: Global, disposition: &ContentDisposition) -> Result<Option<HeaderValue>, NoMemory>
+    ensures { IfOk result (λ value. value ≡ field_value_of (disposition_text disposition.now)) }
 {
-    let disposition = file_disposition(alloc, path)?;
-    match printed_value(alloc, &disposition) {
+    match printed_value(alloc, disposition) {
         Ok(value) => {
             // It says that a header may hold the value.
             let _bytes = value.as_bytes();
@@ -116,4 +116,14 @@ pub(crate) fn disposition_value(alloc: Global, path: &str) -> Result<Option<Head
         Err(Fail::Of(_)) => Ok(None),
         Err(Fail::NoMemory) => Err(NoMemory),
     }
+}
+
+/// The value of Content-Disposition (RFC 6266) for the file at this path. None if its name can be
+/// in no header, as one with a line break.
+pub(crate) fn disposition_value(alloc: Global, path: &str) -> Result<Option<HeaderValue>, NoMemory>
+    ensures { IfOk result (λ value. value ≡ disposition_value_lem path.now) }
+{
+    let disposition = file_disposition(alloc, path)?;
+    let value = printed(alloc, &disposition)?;
+    Ok(value)
 }

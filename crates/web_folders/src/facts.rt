@@ -1,6 +1,7 @@
 //! What is known of a file before it is read.
 ghost use Rattle.std.specs.Prelude.{◌≡◌, IfOk};
 ghost use Rattle.web_folders.specs.FileDescriptions.{DescribesFile, IsLastChange, file_tag};
+ghost use Rattle.web_folders.specs.FileDescriptions.{file_tag_text};
 ghost use Rattle.web_folders.specs.FileDescriptions.{time_text};
 
 use crate::media_type::media_type_of;
@@ -10,7 +11,7 @@ use std::alloc::Global;
 use std::fmt;
 use web_docs::Described;
 use web_entities::EntityTag;
-use web_texts::{Fail, NoMemory, Text};
+use web_texts::{NoMemory, Text};
 
 /// When a file was last changed, in whole seconds.
 #[derive(Clone, Copy, Debug, PartialEq, Eq)]
@@ -66,10 +67,8 @@ pub struct FileFacts {
 }
 
 impl FileFacts {
-    /// The strong tag of this version: inode, length, seconds and nanoseconds in hexadecimal, as
-    /// `1a:c:65a0:0`.
-    pub fn tag(&self, alloc: Global) -> Result<EntityTag, NoMemory>
-        ensures { IfOk result (λ tag. tag ≡ file_tag self.now) }
+    fn tag_text(&self, alloc: Global) -> Result<Text, NoMemory>
+        ensures { IfOk result (λ text. text ≡ file_tag_text self.now) }
     {
         let FileFacts {
             inode,
@@ -78,7 +77,16 @@ impl FileFacts {
             nanos,
         } = *self;
         let text = format!(in alloc; "{inode:x}:{length:x}:{changed}:{nanos:x}")?;
-        Ok(EntityTag::new_strong(Text::from(text)))
+        Ok(Text::from(text))
+    }
+
+    /// The strong tag of this version: inode, length, seconds and nanoseconds in hexadecimal, as
+    /// `1a:c:65a0:0`.
+    pub fn tag(&self, alloc: Global) -> Result<EntityTag, NoMemory>
+        ensures { IfOk result (λ tag. tag ≡ file_tag self.now) }
+    {
+        let text = self.tag_text(alloc)?;
+        Ok(EntityTag::new_strong(text))
     }
 
     /// What a reply says of the file of this name.
@@ -89,8 +97,8 @@ impl FileFacts {
         let media_type = HeaderValue::from_static(media_type_of(path));
         match Described::new(alloc, media_type, tag, self.changed.date()) {
             Ok(described) => Ok(described),
-            Err(Fail::NoMemory) => Err(NoMemory),
-            Err(Fail::Of(_)) => unreachable!(),
+            // The other error is none of such a tag: each of its bytes may stand in a header.
+            Err(_) => Err(NoMemory),
         }
     }
 }

@@ -1,11 +1,14 @@
 //! A folder that is served.
 ghost use Rattle.std.specs.Prelude.{◌≡◌, IfOk};
 ghost use Rattle.web_request.specs.Head.{head_path, head_query};
-ghost use Rattle.web_folders.specs.FolderReplies.{IsFolderReply, ListsFolder, RepliesWithFolder};
+ghost use Rattle.std.specs.Option.{option_map};
+ghost use Rattle.web_folders.specs.FolderReplies.{IsFolderReply, ListsEntries, ListsFolder};
+ghost use Rattle.web_folders.specs.FolderReplies.{RepliesWithFolder};
 ghost use Rattle.web_folders.specs.FolderReplies.{RepliesWithIndex, SendsBelow, SendsFileAt};
 ghost use Rattle.web_folders.specs.FolderReplies.{SendsFound, index_of, is_read as is_read_lem};
 
 use crate::body::FolderBody;
+use crate::entry::FolderEntry;
 use crate::folder_files::{FolderFiles, Found, OpenedFile};
 use crate::listing::{listing_page, sorted};
 use crate::offers::CodingOffers;
@@ -37,6 +40,28 @@ impl<F> Model for Folder<F> {
     ghost view = { λ f. record { files = f.files; settings = f.settings } };
 }
 
+/// The page that lists these entries, or 404 if they could not be read.
+fn listed<F: Drop>(
+    alloc: Global,
+    settings: &FolderSettings,
+    method: &Method,
+    headers: &HeaderMap<HeaderValue>,
+    path: &Below,
+    entries: Option<Vec<FolderEntry>>,
+) -> Result<HttpResponse<FolderBody<F>>, NoMemory>
+    ensures { IfOk result (λ reply. ListsEntries settings.now
+        (record { method = method.now; headers = headers.now }) path.now
+        (option_map (λ v. v.items) entries) reply) }
+{
+    let Some(entries) = entries else {
+        return Ok(not_found(alloc));
+    };
+    let sorted = sorted(entries)?;
+    let page = listing_page(alloc, path.as_str(), settings.hidden, sorted.as_slice())?;
+    let reply = listing(alloc, method, page)?;
+    Ok(reply)
+}
+
 /// The page that lists a folder, if folders are listed and it can be read, or 404.
 fn list_folder<F: FolderFiles>(
     alloc: Global,
@@ -54,12 +79,9 @@ fn list_folder<F: FolderFiles>(
     if !settings.lists {
         return Ok(not_found(alloc));
     }
-    let Some(entries) = files.entries(alloc, folder)? else {
-        return Ok(not_found(alloc));
-    };
-    let entries = sorted(entries)?;
-    let page = listing_page(alloc, path.as_str(), settings.hidden, entries.as_slice())?;
-    listing(alloc, method, page)
+    let entries = files.entries(alloc, folder)?;
+    let reply = listed(alloc, settings, method, headers, path, entries)?;
+    Ok(reply)
 }
 
 impl<F: FolderFiles + Drop> Folder<F> {
@@ -160,7 +182,8 @@ impl<F: FolderFiles + Drop> Folder<F> {
             return moved(alloc, target, query);
         }
         let place = path.child(alloc, "index.html", self.settings.hidden)?;
-        self.send_index(alloc, method, headers, path, folder, place)
+        let reply = self.send_index(alloc, method, headers, path, folder, place)?;
+        Ok(reply)
     }
 
     /// The reply with what was found at a path.

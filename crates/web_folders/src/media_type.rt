@@ -1,8 +1,10 @@
 //! Media types by the ends of names.
-ghost use Rattle.std.specs.Prelude.{◌≡◌, IsTrue};
+ghost use Rattle.std.specs.Prelude.{◌≡◌, IsTrue, true};
 ghost use Rattle.http_header.specs.FieldValue.{is_visible_text};
 ghost use Rattle.web_folders.specs.FileMediaTypes.{are_visible, extension_of as extension_of_lem};
 ghost use Rattle.web_folders.specs.FileMediaTypes.{media_type_in, media_type_of as media_type_lem};
+ghost use Rattle.web_folders.specs.FileMediaTypes.{plain_rows};
+ghost use Rattle.std.specs.Str.{str_eq_ignore_ascii_case};
 
 use web_texts::cut_at_last;
 
@@ -68,18 +70,22 @@ fn extension_of(path: &str) -> &str
     }
 }
 
+fn is_same(extension: &str, other: &str) -> bool
+    ensures { result ≡ str_eq_ignore_ascii_case extension.now other.now }
+{
+    extension.eq_ignore_ascii_case(other)
+}
+
 /// The media type of an extension, in any ASCII case, in these rows.
 fn media_type_in(rows: &[(&'static str, &'static str)], extension: &str) -> &'static str
-    requires { are_visible rows.now ≡ true }
-    ensures value { result.now ≡ media_type_in rows.now extension.now }
+    requires { are_visible (plain_rows rows.now) ≡ true }
+    ensures value { result.now ≡ media_type_in (plain_rows rows.now) extension.now }
     ensures visible { IsTrue (is_visible_text result.now) }
 {
-    let mut rest = rows;
-    'rows: while let Some((row, later)) = rest.split_first() {
-        if extension.eq_ignore_ascii_case(row.0) {
+    for row in rows {
+        if is_same(extension, row.0) {
             return row.1;
         }
-        rest = later;
     }
     "application/octet-stream"
 }

@@ -1,12 +1,13 @@
 //! The choice among the codings of a file.
 ghost use Rattle.std.specs.Prelude.{◌≡◌, IfOk, map, slice_get, unwrap_or};
 ghost use Rattle.std.specs.Option.{option_and_then};
+ghost use Rattle.http_header.specs.HeaderMap.{remove};
 ghost use Rattle.web_folders.specs.FileCodings.{IsCodingFor, SendsCoding, encoding_of};
 ghost use Rattle.web_folders.specs.FileCodings.{coding_headers as coding_headers_lem};
 
 use crate::coding::FileCoding;
 use bytes::Bytes;
-use http_header::{ACCEPT, ACCEPT_LANGUAGE, HeaderMap, HeaderValue};
+use http_header::{ACCEPT, ACCEPT_LANGUAGE, HeaderMap, HeaderName, HeaderValue};
 use std::alloc::Global;
 use std::marker::Model;
 use web_texts::{APPLICATION_OCTET_STREAM, Fail, Mime, NoMemory};
@@ -63,14 +64,26 @@ fn variants(alloc: Global, codings: &[FileCoding]) -> Result<Variants, NoMemory>
     }
 }
 
+fn copy_headers(headers: &HeaderMap<HeaderValue>) -> Result<HeaderMap<HeaderValue>, NoMemory>
+    ensures { IfOk result (λ copy. copy ≡ headers.now) }
+{
+    Ok(headers.clone()?)
+}
+
+fn without(headers: HeaderMap<HeaderValue>, name: HeaderName) -> HeaderMap<HeaderValue>
+    ensures { result ≡ remove headers name }
+{
+    let mut rest = headers;
+    rest.remove(name);
+    rest
+}
+
 /// The request's headers without those that ask for a media type or a language.
 fn coding_headers(headers: &HeaderMap<HeaderValue>) -> Result<HeaderMap<HeaderValue>, NoMemory>
     ensures { IfOk result (λ rest. rest ≡ coding_headers_lem headers.now) }
 {
-    let mut rest = headers.clone()?;
-    rest.remove(&ACCEPT);
-    rest.remove(&ACCEPT_LANGUAGE);
-    Ok(rest)
+    let copy = copy_headers(headers)?;
+    Ok(without(without(copy, ACCEPT), ACCEPT_LANGUAGE))
 }
 
 /// The coding at this place, or none.

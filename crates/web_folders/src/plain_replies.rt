@@ -1,9 +1,11 @@
 //! Replies without a file.
-ghost use Rattle.std.specs.Prelude.{◌≡◌, IfOk, string_bytes};
+ghost use Rattle.std.specs.Prelude.{◌≡◌, IfOk, Some, string_bytes};
 ghost use Rattle.web_docs.specs.DescribedReplies.{reply_with};
 ghost use Rattle.web_folders.specs.FolderReplies.{failed as failed_lem, is_read as is_read_lem};
 ghost use Rattle.web_folders.specs.FolderReplies.{listing_reply};
+ghost use Rattle.web_docs.specs.Documents.{field_value_of};
 ghost use Rattle.web_folders.specs.FolderReplies.{moved_reply, not_found as not_found_lem};
+ghost use Rattle.web_folders.specs.FolderReplies.{moved_to as moved_to_lem};
 ghost use Rattle.web_folders.specs.FolderReplies.{no_such_method as no_such_method_lem};
 ghost use Rattle.web_folders.specs.FolderReplies.{page_body as page_body_lem};
 ghost use Rattle.web_folders.specs.FolderReplies.{with_slash as with_slash_lem};
@@ -94,6 +96,33 @@ fn with_slash(alloc: Global, path: &str, query: &str) -> Result<String, NoMemory
     Ok(text)
 }
 
+/// The value of Location that is this text, if it may stand in a header.
+fn location(text: String) -> Result<Option<HeaderValue>, NoMemory>
+    ensures { IfOk result (λ value. value ≡ field_value_of (string_bytes text)) }
+{
+    match HeaderValue::from_string(text) {
+        Ok(value) => {
+            // It says that a header may hold the value.
+            let _bytes = value.as_bytes();
+            Ok(Some(value))
+        }
+        Err(HeaderValueError::Invalid) => Ok(None),
+        Err(HeaderValueError::OutOfMemory) => Err(NoMemory),
+    }
+}
+
+fn moved_to<F: Drop>(
+    alloc: Global,
+    location: HeaderValue,
+) -> Result<HttpResponse<FolderBody<F>>, NoMemory>
+    ensures { IfOk result (λ reply. reply ≡ moved_to_lem (Some location)) }
+{
+    let mut headers = HeaderMap::empty(alloc);
+    put(&mut headers, LOCATION, Some(location))?;
+    let status = StatusCode::MOVED_PERMANENTLY;
+    Ok(response(alloc, status, headers, FolderBody::Empty))
+}
+
 /// The redirect to the path with a slash after it, which keeps the query. 404 if no header can have
 /// it.
 pub(crate) fn moved<F: Drop>(
@@ -104,19 +133,9 @@ pub(crate) fn moved<F: Drop>(
     ensures { IfOk result (λ reply. reply ≡ moved_reply path.now query.now) }
 {
     let text = with_slash(alloc, path, query)?;
-    match HeaderValue::from_string(text) {
-        Ok(location) => {
-            let mut headers = HeaderMap::empty(alloc);
-            put(&mut headers, LOCATION, Some(location))?;
-            Ok(response(
-                alloc,
-                StatusCode::MOVED_PERMANENTLY,
-                headers,
-                FolderBody::Empty,
-            ))
-        }
-        Err(HeaderValueError::Invalid) => Ok(not_found(alloc)),
-        Err(HeaderValueError::OutOfMemory) => Err(NoMemory),
+    match location(text)? {
+        Some(location) => moved_to(alloc, location),
+        None => Ok(not_found(alloc)),
     }
 }
 
