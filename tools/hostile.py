@@ -17,6 +17,8 @@ UNREAD_CLIENTS, UNREAD_BYTES, UNREAD_KILOBYTES = 8, 32_768, 16_384
 SLOW_CLIENTS = 100
 CONNECTIONS = 10_000
 MESSAGES, FIRST_MESSAGES, MORE_KILOBYTES = 100_000, 10_000, 256
+# After so many bytes of a connection its next reply is the last.
+LAST_BYTE = 1_073_741_824
 # The most that one message may cost a process, in kilobytes.
 MESSAGE_KILOBYTES = 12_288
 
@@ -122,6 +124,21 @@ def one_process(path):
         return seen
 
 
+def until_last(path, most):
+    """How many messages with a long body one process answers before it closes, how many replies say so, and its status."""
+    message = head("POST /visits HTTP/1.1", "Host: a", f"Content-Length: {most}", body=bytes(most))
+    with subprocess.Popen([path], stdin=subprocess.PIPE, stdout=subprocess.PIPE) as it:
+        sender = threading.Thread(target=feed, args=(it.stdin, message, LAST_BYTE // len(message) + 10), daemon=True)
+        sender.start()
+        data = it.stdout.read()
+        sender.join()
+        with contextlib.suppress(OSError):
+            it.stdin.close()
+        status = it.wait()
+    closing = len(re.findall(rb"(?m)^connection: close\r$", data))
+    return data.count(b"HTTP/1.1 405 "), -(-LAST_BYTE // len(message)), closing, status
+
+
 # Requests that another server reads otherwise, or that are none, with the status that they get and whether it closes.
 
 def head(line, *fields, body=b""):
@@ -222,9 +239,10 @@ def shapes(most, most_json):
     yield "many cookies", head("GET /visits HTTP/1.1", "Host: a", "Cookie: " + "a=;" * 2_000)
 
 
-def feed(stream, data):
+def feed(stream, data, count=1):
     with contextlib.suppress(OSError):
-        stream.write(data)
+        for _ in range(count):
+            stream.write(data)
         stream.flush()
 
 
@@ -265,6 +283,9 @@ def measure(path, listener, most_body, most_json):
     (_, before, files), (replied, behind, more_files) = one_process(path)
     seen(f"{replied} messages through one process: {before} kB and {files} files past the first {FIRST_MESSAGES}, {behind} kB and "
          f"{more_files} files past all", replied == MESSAGES and behind <= before + MORE_KILOBYTES and files == more_files)
+    replied, most, closing, status = until_last(path, most_body)
+    seen(f"{replied} messages with long bodies before a process closes, {closing} of whose replies say so: status {status}",
+         replied in (most - 1, most) and closing == 1 and status == 0)
     for name, data in shapes(most_body, most_json):
         status, most = most_kilobytes(path, data)
         seen(f"{name}, {len(data)} bytes: {status}, at most {most} kB", most <= MESSAGE_KILOBYTES)
