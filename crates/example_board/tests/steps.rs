@@ -8,11 +8,11 @@ use sqlite::Connection;
 use std::alloc::Global;
 use std::process::Abort;
 use web_request::NoData;
-use web_routing::{Service, StateService, serve_to_end};
+use web_routing::{Service, StateService, Whole, serve_to_end};
 use web_testing::{TestReply, TestRequest, test_worker};
 
 /// The status, the Location and the text of the reply to each request.
-fn replies<S: Service<Site>>(
+fn replies<S: Service<Site, Whole>>(
     rt: &impl Abort,
     alloc: Global,
     service: &mut S,
