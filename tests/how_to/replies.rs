@@ -1,7 +1,7 @@
 //! What a service replies, as a text.
 use std::alloc::Global;
 use std::process::Abort;
-use web::routing::Service;
+use web::routing::{Service, Whole};
 use web::{Exchange, NoData, PlainApp, serve_to_end};
 use web_body::Marks;
 use web_testing::{TestReply, TestRequest, test_worker};
@@ -22,7 +22,7 @@ fn shown(rt: &impl Abort, alloc: Global, reply: &TestReply, headers: &[&str]) ->
 }
 
 /// The replies of a service to these requests, one after the other, a line each.
-pub(crate) fn replies<S: Service<Site>>(
+pub(crate) fn replies<S: Service<Site, Whole>>(
     rt: &impl Abort,
     alloc: Global,
     service: &mut S,

@@ -2,7 +2,7 @@
 use std::alloc::Global;
 use std::process::Abort;
 use web_request::App;
-use web_routing::{Service, serve_to_end};
+use web_routing::{Service, Whole, serve_to_end};
 use web_testing::{TestReply, TestRequest, test_worker};
 use web_worker::{Exchange, Outcome};
 
@@ -19,7 +19,7 @@ pub(crate) fn shown<A: App>(rt: &impl Abort, alloc: Global, outcome: Outcome<A>)
 }
 
 /// What a service replies to an exchange after so many polls at most.
-pub(crate) fn reply<A: App, S: Service<A>>(
+pub(crate) fn reply<A: App, S: Service<A, Whole>>(
     rt: &impl Abort,
     alloc: Global,
     root: A::Layer,
@@ -33,7 +33,7 @@ pub(crate) fn reply<A: App, S: Service<A>>(
 }
 
 /// What a service replies to each of these requests, one after the other, in lines.
-pub(crate) fn replies<A: App, S: Service<A>>(
+pub(crate) fn replies<A: App, S: Service<A, Whole>>(
     rt: &impl Abort,
     alloc: Global,
     root: A::Layer,

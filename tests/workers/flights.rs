@@ -10,10 +10,10 @@ use std::process::Abort;
 use web_extract::FromRequest;
 use web_reply::Responder;
 use web_request::{App, NoData};
-use web_worker::{Exchange, Flight, Handler, Worker, poll_one};
+use web_worker::{Exchange, Flight, Handler, Service, Worker, poll_one};
 
 /// A flight of each exchange.
-fn flights<A: App, Args: FromRequest<A>, H: Handler<Args>>(
+fn flights<A: App, Args, H: Service<A, Args>>(
     rt: &impl Abort,
     alloc: Global,
     exchanges: Vec<Exchange<A>>,
@@ -26,7 +26,7 @@ fn flights<A: App, Args: FromRequest<A>, H: Handler<Args>>(
 }
 
 /// Adds how many records the worker made, and the outcome that a flight shows.
-fn write_flight<A: App, Args: FromRequest<A>, H: Handler<Args>>(
+fn write_flight<A: App, Args, H: Service<A, Args>>(
     rt: &impl Abort,
     lines: &mut String,
     made: u64,

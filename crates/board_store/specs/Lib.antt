@@ -1,3 +1,4 @@
+pub mod BoardAnswers
 pub mod BoardRows
 pub mod BoardSteps
 pub mod Draft

@@ -10,10 +10,9 @@ use crate::lines::{put, put_number, put_numbered};
 use crate::response::put_response;
 use std::alloc::Global;
 use web_body::Marks;
-use web_extract::FromRequest;
 use web_request::App;
 use web_texts::NoMemory;
-use web_worker::{Flight, Handler, Outcome};
+use web_worker::{Flight, Outcome, Service};
 
 const UNFINISHED: &[u8] = b"unfinished\n";
 
@@ -33,7 +32,7 @@ fn put_outcome<A: App<Source = Marks>>(
 }
 
 /// The outcome of a flight. One that is not answered is unfinished.
-fn put_flight<A: App<Source = Marks>, Args: FromRequest<A>, H: Handler<Args>>(
+fn put_flight<A: App<Source = Marks>, Args, H: Service<A, Args>>(
     alloc: Global,
     out: &mut Vec<u8>,
     flight: &Flight<A, Args, H>,
@@ -47,7 +46,7 @@ fn put_flight<A: App<Source = Marks>, Args: FromRequest<A>, H: Handler<Args>>(
     }
 }
 
-fn put_flights<A: App<Source = Marks>, Args: FromRequest<A>, H: Handler<Args>>(
+fn put_flights<A: App<Source = Marks>, Args, H: Service<A, Args>>(
     alloc: Global,
     out: &mut Vec<u8>,
     flights: &[Flight<A, Args, H>],
@@ -89,7 +88,7 @@ fn put_pool(out: &mut Vec<u8>, serials: &[u64], made: u64) -> Result<(), NoMemor
 ///
 /// `NoMemory` where the text, or the list in which the names of headers are sorted, cannot be
 /// allocated.
-pub fn printed<A: App<Source = Marks>, Args: FromRequest<A>, H: Handler<Args>>(
+pub fn printed<A: App<Source = Marks>, Args, H: Service<A, Args>>(
     alloc: Global,
     flights: &[Flight<A, Args, H>],
     serials: &[u64],

@@ -8,17 +8,16 @@ ghost use Rattle.cli_print.specs.SummaryText.{reply_status, status_line, statuse
 use crate::lines::{put, put_number, put_numbered};
 use std::alloc::Global;
 use web_body::Marks;
-use web_extract::FromRequest;
 use web_request::App;
 use web_texts::NoMemory;
-use web_worker::{Flight, Handler, Outcome};
+use web_worker::{Flight, Outcome, Service};
 
 /// The least status, and how many there are (RFC 9110, section 15).
 const FIRST_STATUS: usize = 100;
 
 const STATUS_COUNT: usize = 900;
 
-fn is_unfinished<A: App<Source = Marks>, Args: FromRequest<A>, H: Handler<Args>>(
+fn is_unfinished<A: App<Source = Marks>, Args, H: Service<A, Args>>(
     flight: &Flight<A, Args, H>,
 ) -> bool
     ensures { result ≡ is_unfinished (flight_outcome flight.now) }
@@ -26,7 +25,7 @@ fn is_unfinished<A: App<Source = Marks>, Args: FromRequest<A>, H: Handler<Args>>
     matches!(flight.outcome(), None | Some(Outcome::Unfinished))
 }
 
-fn count_unfinished<A: App<Source = Marks>, Args: FromRequest<A>, H: Handler<Args>>(
+fn count_unfinished<A: App<Source = Marks>, Args, H: Service<A, Args>>(
     flights: &[Flight<A, Args, H>],
 ) -> u64
     requires room { length flights.now < 2 ^ 64 }
@@ -42,7 +41,7 @@ fn count_unfinished<A: App<Source = Marks>, Args: FromRequest<A>, H: Handler<Arg
 }
 
 /// The status of a reply. There is none where no reply was given.
-fn reply_status<A: App<Source = Marks>, Args: FromRequest<A>, H: Handler<Args>>(
+fn reply_status<A: App<Source = Marks>, Args, H: Service<A, Args>>(
     flight: &Flight<A, Args, H>,
 ) -> Option<u16>
     ensures value { result ≡ reply_status (flight_outcome flight.now) }
@@ -65,7 +64,7 @@ fn count_at(counts: &mut Vec<u64>, place: usize)
 }
 
 /// For each status from 100 to 999, how many replies have it.
-fn count_statuses<A: App<Source = Marks>, Args: FromRequest<A>, H: Handler<Args>>(
+fn count_statuses<A: App<Source = Marks>, Args, H: Service<A, Args>>(
     alloc: Global,
     flights: &[Flight<A, Args, H>],
 ) -> Result<Vec<u64>, NoMemory>
@@ -96,7 +95,7 @@ fn put_status(out: &mut Vec<u8>, status: u64, count: u64) -> Result<(), NoMemory
     put_numbered(out, b" ", count)
 }
 
-fn put_statuses<A: App<Source = Marks>, Args: FromRequest<A>, H: Handler<Args>>(
+fn put_statuses<A: App<Source = Marks>, Args, H: Service<A, Args>>(
     alloc: Global,
     out: &mut Vec<u8>,
     flights: &[Flight<A, Args, H>],
@@ -119,7 +118,7 @@ fn put_statuses<A: App<Source = Marks>, Args: FromRequest<A>, H: Handler<Args>>(
 /// # Errors
 ///
 /// `NoMemory` where the text, or the list in which the replies are counted, cannot be allocated.
-pub fn summarized<A: App<Source = Marks>, Args: FromRequest<A>, H: Handler<Args>>(
+pub fn summarized<A: App<Source = Marks>, Args, H: Service<A, Args>>(
     alloc: Global,
     script_len: u64,
     flights: &[Flight<A, Args, H>],

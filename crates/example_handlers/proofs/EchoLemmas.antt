@@ -13,10 +13,12 @@ use Rattle.web_extract.specs.BytesArgument.{MeansBytes, bytes_result}
 use Rattle.web_extract.specs.LayerConfigurations.{Configurations, payload_settings}
 use Rattle.web_extract.specs.ListResults.{DelayedResult}
 use Rattle.web_extract.specs.ReadyFuture.{GivesHeld}
-use Rattle.web_worker.specs.ExchangeRules.{Replies, RepliesBefore}
 use Rattle.web_worker.specs.Exchanges.{ExchangeView}
 use Rattle.web_worker.specs.OutcomeFunctions.{AnswersOnce}
-use Rattle.web_worker.specs.Setting.{Setting, setting_of}
+use Rattle.web_worker.specs.declared.handler_service.Work.{Work}
+use Rattle.web_worker.specs.ExchangeRules.{Rules, Replies, RepliesBefore}
+use Rattle.web_worker.specs.HandlerServices.{handler_setting, rules_of}
+use Rattle.web_worker.specs.Setting.{Setting}
 use Rattle.example_handlers.specs.Examples.{IsTold, body_delay, body_reply, content_reply, marks_or_none}
 use Rattle.example_handlers.proofs.ToldBodiesLemmas.{comes_before, is_told, once_told}
 
@@ -35,11 +37,16 @@ module _ {S L D C U W J F P Q T : Type 0} (of_layer : L → Configurations J F P
     (only : (body : List ℕ) (n : ℕ) (y : List ℕ) → answers body n y → (n ≡ 0) × (y ≡ body))
     (feed : S → Feed) (arguments : U → ℕ → Result (List ℕ) Fault → Type 0)
     (handling : W → ℕ → List ℕ → Type 0) (pool : Pool L) where
-  abbrev pub echo : Setting S L D C (List ℕ) Fault (List ℕ) U W
-  echo = setting_of (λ q m rest n x. MeansBytes (payload_settings of_layer q.layers) q.head.headers m rest n x) (λ e f. f ≡ e)
-      answers (λ b q r. r ≡ bytes_reply b) feed arguments handling pool
+  abbrev pub echo_rules : Rules L D C (List ℕ) Fault (List ℕ)
+  echo_rules = rules_of (λ q m rest n x. MeansBytes (payload_settings of_layer q.layers) q.head.headers m rest n x) (λ e f. f ≡ e)
+      answers (λ b q r. r ≡ bytes_reply b)
 
-  once : (q : Request L D C) (m : List Mark) (k : ℕ) (p : Reply Plain) → Replies echo.rules q m k p
+  abbrev pub echo : Setting S L D C (List ℕ) (Work U W)
+  echo = handler_setting (λ q m rest n x. MeansBytes (payload_settings of_layer q.layers) q.head.headers m rest n x) (λ e f. f ≡ e)
+      answers (λ b q r. r ≡ bytes_reply b)
+      feed arguments handling pool
+
+  once : (q : Request L D C) (m : List Mark) (k : ℕ) (p : Reply Plain) → Replies echo_rules q m k p
       → (k ≡ (body_in of_layer q m).delay) × (p ≡ content_reply (body_in of_layer q m).result)
   once q m k p (rest, n, Ok v, (left, delay, value), (j, y, answer, response, sum)) =
       let one = only v j y answer in
@@ -49,10 +56,10 @@ module _ {S L D C U W J F P Q T : Type 0} (of_layer : L → Configurations J F P
       (after ∙ delay, rw (← value) (rw turns at response))
 
   before : (q : Request L D C) (m : List Mark) (polls : ℕ) → (body_in of_layer q m).delay < polls
-      → RepliesBefore echo.rules q m polls
+      → RepliesBefore echo_rules q m polls
   before q m polls more rest n x means =
       let delay = means.1 in
-      comes_before echo.rules 0 (λ v k y answer. (only v k y answer).0) polls n x
+      comes_before echo_rules 0 (λ v k y answer. (only v k y answer).0) polls n x
       (omega (arith, delay, more))
 
   pub echoed : (x : ExchangeView S L D C) → IsTold feed x

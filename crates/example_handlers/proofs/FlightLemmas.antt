@@ -13,18 +13,18 @@ one_at_most : (b : Bool) → cond b 1 0 ≤ 1
 one_at_most true = omega arith
 one_at_most false = omega arith
 
-module _ {S L D C U W : Type 0} where
-  pub may_make_most : (o : Option (FlightView S L D C U W)) → may_make o ≤ 1
+module _ {S L D C K : Type 0} where
+  pub may_make_most : (o : Option (FlightView S L D C K)) → may_make o ≤ 1
   may_make_most None = omega arith
   may_make_most (Some f) = one_at_most (is_waiting f)
 
   -- one record more can be counted, which is the most that a poll makes
-  pub room : (made top : ℕ) (o : Option (FlightView S L D C U W)) → made + 1 < top
+  pub room : (made top : ℕ) (o : Option (FlightView S L D C K)) → made + 1 < top
       → made + may_make o < top
   room made top o more = let least = may_make_most o in omega (arith, more, least)
 
   -- no more flights wait than there are
-  pub waiting_count_most : (fs : List (FlightView S L D C U W)) → waiting_count fs ≤ length fs
+  pub waiting_count_most : (fs : List (FlightView S L D C K)) → waiting_count fs ≤ length fs
   waiting_count_most [] = omega arith
   waiting_count_most (f ∷ fs) =
       let one = one_at_most (is_waiting f) in

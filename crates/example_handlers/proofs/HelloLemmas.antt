@@ -36,7 +36,7 @@ one_stall = unfold reading in refl
 hello_bytes : answer_of (reading default_limit hello_marks).content ≡ Ok (codes "hello")
 hello_bytes = unfold reading in refl
 
-module _ {S L D C V E Y U W : Type 0} (s : Setting S L D C V E Y U W) (x : ExchangeView S L D C)
+module _ {S L D C V K : Type 0} (s : Setting S L D C V K) (x : ExchangeView S L D C)
     (d : ℕ) (r : Reply Plain) (once : AnswersOnce s x d r) (plan : List ℕ) where
   named : (o : OutcomeView) → (o ≡ NoMemory) ⊎ (o ≡ outcome_of d r (poll_count plan 0))
       → (o ∷ [] ≡ outcome_of d r (poll_count plan 0) ∷ []) ⊎ (o ∷ [] ≡ NoMemory ∷ [])

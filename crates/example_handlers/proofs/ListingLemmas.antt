@@ -27,11 +27,13 @@ use Rattle.web_extract.specs.LayerConfigurations.{Configurations, payload_settin
 use Rattle.web_extract.specs.ListMeanings.{Means2, Member}
 use Rattle.web_extract.specs.OptionArgument.{GivesOption, as_option}
 use Rattle.web_extract.specs.declared.never.Never.{Never}
-use Rattle.web_worker.specs.ExchangeRules.{Replies, RepliesBefore}
+use Rattle.web_worker.specs.ExchangeRules.{Rules, Replies, RepliesBefore}
 use Rattle.web_worker.specs.PlanCalls.{ArgumentsOnce}
 use Rattle.web_worker.specs.Exchanges.{ExchangeView}
 use Rattle.web_worker.specs.OutcomeFunctions.{AnswersOnce}
-use Rattle.web_worker.specs.Setting.{Setting, setting_of}
+use Rattle.web_worker.specs.declared.handler_service.Work.{Work}
+use Rattle.web_worker.specs.HandlerServices.{Come, Means, handler_setting, rules_of}
+use Rattle.web_worker.specs.Setting.{Setting}
 use Rattle.example_handlers.specs.Examples.{IsTold, body_and_rest, body_delay, body_reply}
 use Rattle.example_handlers.specs.Examples.{content_reply, marks_or_none, with_rest}
 use Rattle.example_handlers.proofs.EchoLemmas.{body_in}
@@ -151,18 +153,29 @@ module _ (converts : Fault → Fault → Type 0)
     list_once m rest n x (left, j) =
         listed_as m rest left n x j.n1 j.x1 j.first_gives j.n2 j.x2 j.second_gives j.delay j.result
 
+  -- where each result has this delay and this value, so has what is seen of them
+  come_once : {V E : Type 0} (d : ℕ) (y : Option V) (gives : ℕ → Result V E → Type 0)
+      → ((k : ℕ) (z : Result V E) → gives k z → (k ≡ d) × (result_ok z ≡ y))
+      → (k : ℕ) (z : Option V) → Come gives k z → (k ≡ d) × (z ≡ y)
+  come_once d y gives each k (Some v) a = each k (Ok v) a
+  come_once d y gives each k None a = each k (Err a.0) a.1
+
   module _ {S L D C U W J F P Q T : Type 0} (of_layer : L → Configurations J F P Q T)
       (same : Fault → Fault → Type 0)
       (is_same : (e f : Fault) → same e f → f ≡ e) (feed : S → Feed)
       (arguments : U → ℕ → Result Arguments Fault → Type 0)
       (handling : W → ℕ → List ℕ → Type 0) (pool : Pool L) where
-    abbrev pub listing : Setting S L D C Arguments Fault (List ℕ) U W
-    listing = setting_of (λ q m rest n x. ListMeans (payload_settings of_layer q.layers) q.head.headers m rest n x) same
+    abbrev pub listing_rules : Rules L D C Arguments Fault (List ℕ)
+    listing_rules = rules_of (λ q m rest n x. ListMeans (payload_settings of_layer q.layers) q.head.headers m rest n x) same
+        (λ args n y. (n ≡ 0) × (y ≡ args.0)) (λ b q r. r ≡ bytes_reply b)
+
+    abbrev pub listing : Setting S L D C Arguments (Work U W)
+    listing = handler_setting (λ q m rest n x. ListMeans (payload_settings of_layer q.layers) q.head.headers m rest n x) same
         (λ args n y. (n ≡ 0) × (y ≡ args.0)) (λ b q r. r ≡ bytes_reply b)
         feed arguments handling pool
 
     once : (q : Request L D C) (m : List Mark) (k : ℕ) (p : Reply Plain)
-        → Replies listing.rules q m k p
+        → Replies listing_rules q m k p
         → (k ≡ (body_in of_layer q m).delay) × (p ≡ content_reply (body_in of_layer q m).result)
     once q m k p (rest, n, Ok v, means, (j, y, (now, is), response, sum)) =
         let h = list_once (payload_settings of_layer q.layers) q.head.headers m rest n (Ok v) means in
@@ -178,10 +191,10 @@ module _ (converts : Fault → Fault → Type 0)
         )
 
     before : (q : Request L D C) (m : List Mark) (polls : ℕ)
-        → (body_in of_layer q m).delay < polls → RepliesBefore listing.rules q m polls
+        → (body_in of_layer q m).delay < polls → RepliesBefore listing_rules q m polls
     before q m polls more rest n x means =
         let delay = (list_once (payload_settings of_layer q.layers) q.head.headers m rest n x means).0 in
-        comes_before listing.rules 0 (λ v k y answer. answer.0) polls n x
+        comes_before listing_rules 0 (λ v k y answer. answer.0) polls n x
         (omega (arith, delay, more))
 
     pub listed : (x : ExchangeView S L D C) → IsTold feed x
@@ -198,9 +211,10 @@ module _ (converts : Fault → Fault → Type 0)
         → ArgumentsOnce listing x (body_in of_layer (listing.request x) m).delay (with_rest (body_in of_layer (listing.request x) m).result)
     arguments_told x m told =
         let q = listing.request x in
-        rw told (λ rest k z means.
-        let h = list_once (payload_settings of_layer q.layers) q.head.headers m rest k z means in
-        (h.0, value_of (body_in of_layer q m).result z h.1))
+        rw told (come_once (body_in of_layer q m).delay (with_rest (body_in of_layer q m).result)
+        (λ k z. Means listing_rules q m k z) (λ k z means.
+        let h = list_once (payload_settings of_layer q.layers) q.head.headers m means.0 k z means.1 in
+        (h.0, value_of (body_in of_layer q m).result z h.1)))
 
     pub each_argued : (xs : List (ExchangeView S L D C)) → All (λ x. IsTold feed x) xs
         → All (λ x. ArgumentsOnce listing x (body_and_rest feed of_layer pool x).0 (body_and_rest feed of_layer pool x).1) xs

@@ -15,10 +15,12 @@ use Rattle.web_extract.specs.CollectedResults.{collected2}
 use Rattle.web_extract.specs.HeadArguments.{AllowsNow, IsRequest}
 use Rattle.web_extract.specs.ListMeanings.{Means2, Member}
 use Rattle.web_extract.specs.PayloadArgument.{IsUnread, MeansPayload}
-use Rattle.web_worker.specs.ExchangeRules.{Replies, RepliesBefore}
 use Rattle.web_worker.specs.Exchanges.{ExchangeView, request_of}
 use Rattle.web_worker.specs.OutcomeFunctions.{AnswersOnce}
-use Rattle.web_worker.specs.Setting.{Setting, setting_of}
+use Rattle.web_worker.specs.declared.handler_service.Work.{Work}
+use Rattle.web_worker.specs.ExchangeRules.{Rules, Replies, RepliesBefore}
+use Rattle.web_worker.specs.HandlerServices.{handler_setting, rules_of}
+use Rattle.web_worker.specs.Setting.{Setting}
 use Rattle.example_handlers.specs.Examples.{IsTold, marks_or_none}
 use Rattle.example_handlers.specs.Relays.{relayed_reply}
 use Rattle.example_handlers.proofs.ToldBodiesLemmas.{comes_before, is_told, once_told}
@@ -37,11 +39,18 @@ module _ {S L D C U W : Type 0} (feed : S → Feed)
       Means2 (Member (λ e f. f ≡ e) (AllowsNow (IsRequest q)))
       (Member (λ e f. f ≡ e) (λ m rest n x. MeansPayload feed m rest n x)) m rest n x
 
-  abbrev pub relay : Setting S L D C (Record L D C × Payload S) Fault (Reply (BoxBody S)) U W
-  relay = setting_of Arguments (λ e f. f ≡ e)
+  abbrev pub relay_rules : Rules L D C (Record L D C × Payload S) Fault (Reply (BoxBody S))
+  relay_rules = rules_of Arguments (λ e f. f ≡ e)
       (λ v n y. (n ≡ 0) × (plain_reply (λ b. box_plain feed b) y
       ≡ relayed_reply v.0.request.head.headers (payload_feed feed v.1).marks))
-      (λ y q r. r ≡ plain_reply (λ b. box_plain feed b) y) feed arguments handling pool
+      (λ y q r. r ≡ plain_reply (λ b. box_plain feed b) y)
+
+  abbrev pub relay : Setting S L D C (Record L D C × Payload S) (Work U W)
+  relay = handler_setting Arguments (λ e f. f ≡ e)
+      (λ v n y. (n ≡ 0) × (plain_reply (λ b. box_plain feed b) y
+      ≡ relayed_reply v.0.request.head.headers (payload_feed feed v.1).marks))
+      (λ y q r. r ≡ plain_reply (λ b. box_plain feed b) y)
+      feed arguments handling pool
 
   -- the request, and a payload with these marks
   abbrev Came : Request L D C → List Mark → Result (Record L D C × Payload S) Fault → Type 0
@@ -69,7 +78,7 @@ module _ {S L D C U W : Type 0} (feed : S → Feed)
       came_as q m body has rest left n x j.n1 j.x1 j.first_gives j.n2 j.x2 j.second_gives j.delay j.result
 
   once : (q : Request L D C) (m : List Mark) (body : Payload S) → (payload_feed feed body).marks ≡ Some m
-      → (k : ℕ) (p : Reply Plain) → Replies relay.rules q m k p
+      → (k : ℕ) (p : Reply Plain) → Replies relay_rules q m k p
       → (k ≡ 0) × (p ≡ relayed_reply q.head.headers (Some m))
   once q m body has k p (rest, n, Ok v, allowed, (j, y, answer, response, sum)) =
       let c = came q m body has rest n (Ok v) allowed in
@@ -83,10 +92,10 @@ module _ {S L D C U W : Type 0} (feed : S → Feed)
   once q m body has k p (rest, n, Err e, allowed, after) = absurd (came q m body has rest n (Err e) allowed).1
 
   before : (q : Request L D C) (m : List Mark) (body : Payload S) → (payload_feed feed body).marks ≡ Some m
-      → (polls : ℕ) → 0 < polls → RepliesBefore relay.rules q m polls
+      → (polls : ℕ) → 0 < polls → RepliesBefore relay_rules q m polls
   before q m body has polls more rest n x allowed =
       let at = (came q m body has rest n x allowed).0 in
-      comes_before relay.rules 0 (λ v k y answer. answer.0) polls n x (omega (arith, at, more))
+      comes_before relay_rules 0 (λ v k y answer. answer.0) polls n x (omega (arith, at, more))
 
   pub relayed : (x : ExchangeView S L D C) → IsTold feed x
       → AnswersOnce relay x 0 (relayed_reply x.parts.head.headers (payload_feed feed x.body).marks)

@@ -11,10 +11,12 @@ use Rattle.web_reply.specs.Replies.{Fault, Reply}
 use Rattle.web_extract.specs.ListMeanings.{Meaning}
 use Rattle.web_extract.specs.ListResults.{DelayedResult}
 use Rattle.web_extract.specs.SeenResults.{SeenAs}
-use Rattle.web_worker.specs.ExchangeRules.{Replies, RepliesBefore}
 use Rattle.web_worker.specs.Exchanges.{ExchangeView, request_of}
 use Rattle.web_worker.specs.OutcomeFunctions.{AnswersOnce}
-use Rattle.web_worker.specs.Setting.{Setting, setting_of}
+use Rattle.web_worker.specs.declared.handler_service.Work.{Work}
+use Rattle.web_worker.specs.ExchangeRules.{Rules, Replies, RepliesBefore}
+use Rattle.web_worker.specs.HandlerServices.{handler_setting, rules_of}
+use Rattle.web_worker.specs.Setting.{Setting}
 use Rattle.example_handlers.specs.BookingReplies.{reply_or_error}
 use Rattle.example_handlers.specs.Examples.{IsTold, marks_or_none}
 use Rattle.example_handlers.proofs.ToldBodiesLemmas.{comes_before, is_told, once_told}
@@ -29,10 +31,14 @@ module _ {S L D C V V' Y U W : Type 0} (view : V → V') (means : Request L D C 
     (seen : (q : Request L D C) (m : List Mark) → SeenAs view (means q) m (rest q m) (result q m))
     (feed : S → Feed) (arguments : U → ℕ → Result V Fault → Type 0)
     (handling : W → ℕ → Y → Type 0) (pool : Pool L) where
-  abbrev pub handled : Setting S L D C V Fault Y U W
-  handled = setting_of means (λ e f. f ≡ e) answers responds feed arguments handling pool
+  abbrev pub handled_rules : Rules L D C V Fault Y
+  handled_rules = rules_of means (λ e f. f ≡ e) answers responds
 
-  once : (q : Request L D C) (m : List Mark) (k : ℕ) (p : Reply Plain) → Replies handled.rules q m k p
+  abbrev pub handled : Setting S L D C V (Work U W)
+  handled = handler_setting means (λ e f. f ≡ e) answers responds
+      feed arguments handling pool
+
+  once : (q : Request L D C) (m : List Mark) (k : ℕ) (p : Reply Plain) → Replies handled_rules q m k p
       → (k ≡ (result q m).delay) × (p ≡ reply_or_error reply (result q m).result)
   once q m k p (left, n, Ok v, allowed, (j, y, answer, response, sum)) =
       let is = seen q m left n (Ok v) allowed in
@@ -44,10 +50,10 @@ module _ {S L D C V V' Y U W : Type 0} (view : V → V') (means : Request L D C 
       (after ∙ is.1, rw (← is.2) (rw turns at response))
 
   before : (q : Request L D C) (m : List Mark) (polls : ℕ) → (result q m).delay < polls
-      → RepliesBefore handled.rules q m polls
+      → RepliesBefore handled_rules q m polls
   before q m polls more left n x allowed =
       let delay = (seen q m left n x allowed).1 in
-      comes_before handled.rules 0 now polls n x (omega (arith, delay, more))
+      comes_before handled_rules 0 now polls n x (omega (arith, delay, more))
 
   -- the delay and the reply are those of the one result that the arguments are seen as
   pub seen_once : (x : ExchangeView S L D C) → IsTold feed x

@@ -32,12 +32,12 @@ comes_before R later only polls n (Ok v) more = (
 )
 comes_before R later only polls n (Err e) more = omega (arith, more)
 
-module _ {S L D C V E Y U W : Type 0} (s : Setting S L D C V E Y U W) where
+module _ {S L D C V K : Type 0} (s : Setting S L D C V K) where
   -- what is known of all replies to the marks is known of the exchange
   pub once_told : (x : ExchangeView S L D C) (d : ℕ) (r : Reply Plain) (m : List Mark)
       → (payload_feed s.feed x.body).marks ≡ Some m
-      → ((k : ℕ) (p : Reply Plain) → Replies s.rules (s.request x) m k p → (k ≡ d) × (p ≡ r))
-      → ((n : ℕ) → d < n → RepliesBefore s.rules (s.request x) m n)
+      → ((k : ℕ) (p : Reply Plain) → (s.promise (s.request x) m).gives k p → (k ≡ d) × (p ≡ r))
+      → ((n : ℕ) → d < n → (s.promise (s.request x) m).before n)
       → AnswersOnce s x d r
   once_told x d r m told once comes = record {
     once = λ k p gives. once k p (rw told at gives);

@@ -3,20 +3,16 @@ ghost use Rattle.std.specs.Prelude.{◌≡◌, count_by, is_some};
 ghost use Rattle.web_worker.specs.Flights.{answer_of};
 
 use std::alloc::Global;
-use web_extract::FromRequest;
-use web_reply::Responder;
 use web_request::App;
-use web_worker::{Flight, Handler, Worker, poll_one};
+use web_worker::{Flight, Service, Worker, poll_one};
 
 /// Polls each flight once, in turn, as long as the worker can count a further record.
-fn poll_round<A: App, Args: FromRequest<A>, H: Handler<Args>>(
+fn poll_round<A: App, Args, H: Service<A, Args>>(
     alloc: Global,
     worker: &mut Worker<A>,
     handler: &mut H,
     flights: &mut [Flight<A, Args, H>],
 )
-where
-    H::Output: Responder<A>,
     requires { H.ready handler.old }
     ensures { H.ready handler.new }
 {
@@ -28,16 +24,14 @@ where
 }
 
 /// Whether a flight shows an outcome.
-fn is_answered<A: App, Args: FromRequest<A>, H: Handler<Args>>(flight: &Flight<A, Args, H>) -> bool
+fn is_answered<A: App, Args, H: Service<A, Args>>(flight: &Flight<A, Args, H>) -> bool
     ensures { result ≡ is_some (answer_of flight.now) }
 {
     flight.outcome().is_some()
 }
 
 /// How many of the flights are answered.
-fn answered_count<A: App, Args: FromRequest<A>, H: Handler<Args>>(
-    flights: &[Flight<A, Args, H>],
-) -> usize
+fn answered_count<A: App, Args, H: Service<A, Args>>(flights: &[Flight<A, Args, H>]) -> usize
     ensures { result ≡ count_by (λ f. is_some (answer_of f)) flights.now }
 {
     flights.iter().filter(|flight| is_answered(flight)).count()
@@ -48,15 +42,13 @@ fn answered_count<A: App, Args: FromRequest<A>, H: Handler<Args>>(
 ///
 /// A round has one poll of each flight. No flight is polled once the worker cannot count a further
 /// record.
-pub fn poll_rounds<A: App, Args: FromRequest<A>, H: Handler<Args>>(
+pub fn poll_rounds<A: App, Args, H: Service<A, Args>>(
     alloc: Global,
     worker: &mut Worker<A>,
     handler: &mut H,
     flights: &mut [Flight<A, Args, H>],
     rounds: usize,
 ) -> usize
-where
-    H::Output: Responder<A>,
     requires { H.ready handler.old }
     ensures ready { H.ready handler.new }
     ensures count { result ≡ count_by (λ f. is_some (answer_of f)) flights.new }

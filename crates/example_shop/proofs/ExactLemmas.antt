@@ -11,10 +11,12 @@ use Rattle.web_reply.specs.Replies.{Fault, Reply}
 use Rattle.web_extract.specs.ListMeanings.{Meaning}
 use Rattle.web_extract.specs.ListResults.{DelayedResult, Exactly}
 use Rattle.web_extract.specs.ReadyFuture.{GivesHeld}
-use Rattle.web_worker.specs.ExchangeRules.{Replies, RepliesBefore}
 use Rattle.web_worker.specs.Exchanges.{ExchangeView, request_of}
 use Rattle.web_worker.specs.OutcomeFunctions.{AnswersOnce}
-use Rattle.web_worker.specs.Setting.{Setting, setting_of}
+use Rattle.web_worker.specs.declared.handler_service.Work.{Work}
+use Rattle.web_worker.specs.ExchangeRules.{Rules, Replies, RepliesBefore}
+use Rattle.web_worker.specs.HandlerServices.{handler_setting, rules_of}
+use Rattle.web_worker.specs.Setting.{Setting}
 use Rattle.example_shop.specs.ItemReplies.{IsTold, marks_or_none, reply_or_error}
 use Rattle.example_shop.proofs.ToldBodiesLemmas.{comes_before, is_told, once_told}
 
@@ -33,10 +35,14 @@ module _ {S L D C V U W : Type 0} (means : Request L D C → Meaning V)
     (exactly : (q : Request L D C) (m : List Mark) → Exactly (means q) m (rest q m) (result q m))
     (feed : S → Feed) (arguments : U → ℕ → Result V Fault → Type 0)
     (handling : W → ℕ → V → Type 0) (pool : Pool L) where
-  abbrev pub exact : Setting S L D C V Fault V U W
-  exact = setting_of means (λ e f. f ≡ e) answers responds feed arguments handling pool
+  abbrev pub exact_rules : Rules L D C V Fault V
+  exact_rules = rules_of means (λ e f. f ≡ e) answers responds
 
-  once : (q : Request L D C) (m : List Mark) (k : ℕ) (p : Reply Plain) → Replies exact.rules q m k p
+  abbrev pub exact : Setting S L D C V (Work U W)
+  exact = handler_setting means (λ e f. f ≡ e) answers responds
+      feed arguments handling pool
+
+  once : (q : Request L D C) (m : List Mark) (k : ℕ) (p : Reply Plain) → Replies exact_rules q m k p
       → (k ≡ (result q m).delay) × (p ≡ reply_or_error reply (result q m).result)
   once q m k p (left, n, Ok v, allowed, (j, y, answer, response, sum)) =
       let is = (exactly q m left n (Ok v)).0 allowed in
@@ -49,10 +55,10 @@ module _ {S L D C V U W : Type 0} (means : Request L D C → Meaning V)
       (after ∙ is.1, rw (← is.2) (rw turns at response))
 
   before : (q : Request L D C) (m : List Mark) (polls : ℕ) → (result q m).delay < polls
-      → RepliesBefore exact.rules q m polls
+      → RepliesBefore exact_rules q m polls
   before q m polls more left n x allowed =
       let delay = ((exactly q m left n x).0 allowed).1 in
-      comes_before exact.rules 0 (λ v k y answer. (only v k y answer).0) polls n x
+      comes_before exact_rules 0 (λ v k y answer. (only v k y answer).0) polls n x
       (omega (arith, delay, more))
 
   -- the delay and the reply are those of the one result of the argument

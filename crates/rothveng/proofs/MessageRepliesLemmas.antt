@@ -7,6 +7,7 @@ use Rattle.web_request.specs.Head.{head_path}
 use Rattle.web_reply.specs.Replies.{Fault, Reply}
 use Rattle.web_reply.specs.ResponseBodies.{Plain}
 use Rattle.web_worker.specs.ExchangeRules.{After, ComesBefore, Replies, RepliesBefore, Rules}
+use Rattle.web_worker.specs.HandlerServices.{rules_of}
 use Rattle.web_messages.specs.declared.message.Message.{Message}
 use Rattle.web_http1.specs.Answers.{AllReplied, Answer, IsAnswerTo, StatesMarks}
 use Rattle.web_http1.specs.MessageExchanges.{exchange_of}
@@ -19,6 +20,7 @@ use Rattle.demo_app.specs.ServiceFunctions.{ConvertsTo, reply_from}
 use Rattle.demo_arguments.specs.Choices.{choice_of}
 use Rattle.demo_content.specs.AnswerReplies.{output_reply}
 use Rattle.demo_content.specs.declared.answer.Answer.{Answer as Output}
+use Rattle.demo_picked.specs.PickedArguments.{MeansPicked}
 use Rattle.demo_picked.specs.PickedArguments.{picked_delay, picked_result}
 use Rattle.demo_picked.specs.PickedFunctions.{picked_arguments}
 use Rattle.demo_picked.specs.declared.picked.Picked.{Picked}
@@ -29,7 +31,9 @@ use Rattle.rothveng.specs.DemoAnswers.{demo_setting}
 use Rattle.rothveng.proofs.PickedWholeLemmas.{ComesNow, RepliesNow, choice_now, states_whole}
 
 abbrev rules : Rules DemoLayer DemoLocal DemoConn Picked Fault (Output Feed)
-rules = (demo_setting 0).rules
+rules =
+    rules_of (λ q m rest n x. MeansPicked q m rest n x) (λ e f. f ≡ e)
+    (λ p n y. HandlerAnswers p n y) (λ y q r. r ≡ output_reply y)
 
 -- the reply where the arguments had this result
 abbrev reply : DemoRequest → Result Picked Fault → Reply Plain

@@ -2,8 +2,9 @@
 -- connection, by its own arguments and its own handler.
 use Rattle.std.specs.Prelude.{◌≡◌, ℕ, List}
 use Rattle.web_request.specs.Feed.{Feed}
-use Rattle.web_reply.specs.Replies.{Fault}
-use Rattle.web_worker.specs.Setting.{Setting, setting_of}
+use Rattle.web_worker.specs.declared.handler_service.Work.{Work}
+use Rattle.web_worker.specs.HandlerServices.{handler_setting}
+use Rattle.web_worker.specs.Setting.{Setting}
 use Rattle.web_http1.specs.Answers.{Answers}
 use Rattle.web_http1.specs.declared.ended.Ended.{Ended}
 use Rattle.web_cli.specs.ConnectionAnswers.{connection_limits}
@@ -14,7 +15,6 @@ use Rattle.demo_app.specs.declared.app.DemoConn.{DemoConn}
 use Rattle.demo_app.specs.declared.app.DemoLocal.{DemoLocal}
 use Rattle.demo_app.specs.declared.layer.DemoLayer.{DemoLayer}
 use Rattle.demo_content.specs.AnswerReplies.{output_reply}
-use Rattle.demo_content.specs.declared.answer.Answer.{Answer}
 use Rattle.demo_handler.specs.DemoFunctions.{demo_handler}
 use Rattle.demo_handler.specs.DemoReplies.{HandlerAnswers}
 use Rattle.demo_picked.specs.PickedArguments.{MeansPicked}
@@ -32,9 +32,9 @@ IsDemoSummary script text = text ≡ summary_text picked_arguments demo_handler 
 -- the promises of the program's arguments and handler, on a worker whose pool has this capacity;
 -- what the futures are is no matter
 abbrev pub demo_setting : ℕ
-    → Setting Feed DemoLayer DemoLocal DemoConn Picked Fault (Answer Feed) (Unit {0}) (Unit {0})
+    → Setting Feed DemoLayer DemoLocal DemoConn Picked (Work (Unit {0}) (Unit {0}))
 demo_setting capacity =
-    setting_of (λ q m rest n x. MeansPicked q m rest n x) (λ e f. f ≡ e)
+    handler_setting (λ q m rest n x. MeansPicked q m rest n x) (λ e f. f ≡ e)
     (λ p n y. HandlerAnswers p n y) (λ y q r. r ≡ output_reply y) (λ f. f) (λ u n x. ⊥)
     (λ u n x. ⊥) (demo_pool capacity)
 

@@ -33,8 +33,8 @@ pub use web_request::{
 };
 pub use web_routing as routing;
 pub use web_routing::{
-    Any, Both, HandlerService, Immediate, MethodIs, PathIs, Route, Scope, Service, SetHeader, Wrap,
-    serve_to_end,
+    Any, Both, HandlerService, Immediate, MethodIs, Only, PathIs, Route, RouteTable, Router, Scope,
+    Service, SetHeader, Two, Whole, Wrap, serve_to_end,
 };
 pub use web_status as status;
 pub use web_texts as text;

@@ -7,18 +7,14 @@ ghost use Rattle.web_worker.specs.Exchanges.{ExchangeView, FlightView};
 ghost use Rattle.web_worker.specs.OutcomeFunctions.{AnswersOnce};
 ghost use Rattle.web_answering.specs.FlightReplies.{MayReply};
 
-use web_extract::FromRequest;
-use web_reply::Responder;
 use web_request::App;
-use web_worker::{Handler, Serves};
+use web_worker::{Serves, Service};
 
 /// Where an exchange can have only one reply, the future of that exchange gives that one.
-pub fn one_reply_law<A: App, Args: FromRequest<A>, H: Handler<Args>>()
-where
-    H::Output: Responder<A>,
-    ensures { (handler : H) (worker : Pool A.Layer)
+pub fn one_reply_law<A: App, Args, S: Service<A, Args>>()
+    ensures { (service : S) (worker : Pool A.Layer)
         (x : ExchangeView A.Source A.Layer A.Local A.Conn) (d : ℕ) (r p : Reply Plain)
-        → AnswersOnce (⟦<H as Serves<A, Args>>⟧.setting handler worker) x d r
-        → MayReply (⟦<H as Serves<A, Args>>⟧.setting handler worker)
+        → AnswersOnce (⟦<S as Serves<A, Args>>⟧.setting service worker) x d r
+        → MayReply (⟦<S as Serves<A, Args>>⟧.setting service worker)
         (Some (FlightView.Waiting x)) p → p ≡ r }
 {}

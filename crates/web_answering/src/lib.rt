@@ -1,4 +1,4 @@
-//! One exchange as a future, with a worker and a handler of its own.
+//! One exchange as a future, with a worker and a service of its own.
 #![tactic(auto)]
 
 mod future;

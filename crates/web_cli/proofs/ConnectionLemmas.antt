@@ -46,7 +46,7 @@ has_memory result (inl is) lacks = absurd cc
 has_memory result (inr (inl is)) lacks = let same = is.1 in absurd cc
 has_memory result (inr (inr is)) lacks = absurd cc
 
-module _ {V E Y U W : Type 0} (s : Setting Feed DemoLayer DemoLocal DemoConn V E Y U W) where
+module _ {V K : Type 0} (s : Setting Feed DemoLayer DemoLocal DemoConn V K) where
   answered : (bytes behind given : List ℕ) (end result : Ended) → (result ≡ ended.NoMemory → ⊥)
       → ((result ≡ end) × (behind ≡ [] ++ given))
       ⊎ ((result ≡ ended.NoMemory) × (front : List ℕ) × (back : List ℕ) × (given ≡ front ++ back) × (behind ≡ [] ++ front))
@@ -67,8 +67,8 @@ behind_as : (closes : Bool) (A B C : Type 0) → (B → C) → Behind closes A B
 behind_as true A B C f h = h
 behind_as false A B C f h = f h
 
-module _ {V E Y U W F G : Type 0} (s : Setting Feed DemoLayer DemoLocal DemoConn V E Y U W)
-    (t : Setting Feed DemoLayer DemoLocal DemoConn V E Y F G)
+module _ {V J K : Type 0} (s : Setting Feed DemoLayer DemoLocal DemoConn V J)
+    (t : Setting Feed DemoLayer DemoLocal DemoConn V K)
     (same : (x : Answer) → IsAnswerTo t x → IsAnswerTo s x) where
   served_as : (bytes : List ℕ) (xs : List Answer) (rest : List ℕ) (closed : Bool)
       → Served t connection_limits bytes xs rest closed → Served s connection_limits bytes xs rest closed

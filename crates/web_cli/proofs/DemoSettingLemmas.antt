@@ -1,7 +1,7 @@
 -- The exchanges of a script in the setting of the program's worker.
 use Rattle.std.proofs.Common.{◌≡◌, ℕ, ◌+◌, ◌<◌, List, [], ◌∷◌, arith, refl, ◌∙◌, true}
 use Rattle.std.proofs.Common.{map, sym, subst}
-use Rattle.std.specs.Prelude.{Option, Result, Ok, Err, unwrap_or}
+use Rattle.std.specs.Prelude.{Option, None, Some, Result, Ok, Err, unwrap_or}
 use Rattle.std.specs.List.{All, AllPass}
 use Rattle.std.specs.Result.{result_ok}
 use Rattle.std.proofs.lemmas.List.Elements.{All-cons, All-head, All-nil, All-tail}
@@ -17,7 +17,9 @@ use Rattle.web_worker.specs.Exchanges.{ExchangeView, request_of}
 use Rattle.web_worker.specs.ExchangeRules.{Rules, After, Replies, ComesBefore, RepliesBefore}
 use Rattle.web_worker.specs.OutcomeFunctions.{AnswersOnce}
 use Rattle.web_worker.specs.PlanCalls.{ArgumentsOnce}
-use Rattle.web_worker.specs.Setting.{Setting}
+use Rattle.web_worker.specs.declared.handler_service.Work.{Work}
+use Rattle.web_worker.specs.HandlerServices.{Come, Means, request_promise, work_promise}
+use Rattle.web_worker.specs.Setting.{Setting, setting_of}
 use Rattle.cli_script.specs.ScriptedView.{ScriptedExchangeView}
 use Rattle.demo_app.specs.declared.layer.DemoLayer.{DemoLayer}
 use Rattle.demo_app.specs.declared.app.DemoLocal.{DemoLocal}
@@ -35,14 +37,10 @@ DemoRules V E Y = Rules DemoLayer DemoLocal DemoConn V E Y
 -- the setting of these rules and of the program's worker
 abbrev pub demo_setting : {V E Y U W : Type 0} → DemoRules V E Y
     → (U → ℕ → Result V E → Type 0) → (W → ℕ → Y → Type 0)
-    → Setting Feed DemoLayer DemoLocal DemoConn V E Y U W
-demo_setting rules arguments handling = record {
-  rules = rules;
-  request = request_of (demo_pool 0);
-  feed = λ (f : Feed). f;
-  arguments = arguments;
-  handling = handling;
-}
+    → Setting Feed DemoLayer DemoLocal DemoConn V (Work U W)
+demo_setting rules arguments handling =
+    setting_of (λ q. q) (request_promise rules) (work_promise rules arguments handling)
+    (λ (f : Feed). f) (demo_pool 0)
 
 module _ {V E Y : Type 0} (R : DemoRules V E Y) (converted : (e : E) → (f : Fault) × R.converts e f)
     (a : ArgumentFunctions V) (h : HandlerFunctions V)
@@ -111,6 +109,13 @@ module _ {V E Y : Type 0} (R : DemoRules V E Y) (converted : (e : E) → (f : Fa
     comes = λ n l. rw (body_same e.marks body) (replies_before (demo_request e) e.marks n l);
   }
 
+-- where each result has this delay and this value, so has what is seen of them
+come_once : {V E : Type 0} (d : ℕ) (y : Option V) (gives : ℕ → Result V E → Type 0)
+    → ((k : ℕ) (z : Result V E) → gives k z → (k ≡ d) × (result_ok z ≡ y))
+    → (k : ℕ) (z : Option V) → Come gives k z → (k ≡ d) × (z ≡ y)
+come_once d y gives each k (Some v) a = each k (Ok v) a
+come_once d y gives each k None a = each k (Err a.0) a.1
+
 -- the marks that a body tells
 abbrev known_marks : Payload Feed → List Mark
 known_marks b = unwrap_or (payload_feed (λ (f : Feed). f) b).marks []
@@ -154,9 +159,11 @@ module _ {V E Y U W : Type 0} (R : DemoRules V E Y)
       (arguments_of a e).0 (arguments_of a e).1
   arguments_once e body =
       rw (body_same e.marks body)
-      (λ rest k z means_it.
-      let once = meets (demo_request e) e.marks rest k z means_it in
-      (once.0, same_value z (a.result (demo_request e) e.marks) once.1))
+      (come_once (a.delay (demo_request e) e.marks) (result_ok (a.result (demo_request e) e.marks))
+      (λ k z. Means R (demo_request e) e.marks k z)
+      (λ k z means_it.
+      let once = meets (demo_request e) e.marks means_it.0 k z means_it.1 in
+      (once.0, same_value z (a.result (demo_request e) e.marks) once.1)))
 
   one_once : (e : ScriptedExchangeView) → is_body e.marks ≡ true → HaveOnce (demo_exchange e)
   one_once e body =

@@ -20,7 +20,6 @@ use Rattle.web_worker.specs.PlanOutcomes.{EachFrom, lacks_memory, outcome_of, po
 use Rattle.web_worker.specs.PlanPools.{EachAnswersOnce, IsPoolAfter}
 use Rattle.web_worker.specs.PoolRun.{NotTaken, SerialState, return_held, run_entries}
 use Rattle.web_worker.specs.RecordsMade.{is_waiting, waiting_count}
-use Rattle.web_worker.specs.Setting.{Setting}
 use Rattle.web_worker.proofs.CallsFunctionLemmas.{calls_of_map}
 use Rattle.cli_print.specs.OutcomeText.{print}
 use Rattle.cli_print.specs.SummaryText.{summary}
@@ -131,18 +130,18 @@ pub on_ok : {T E : Type 0} (r : Result T E) (P : Type 0) → P → OnOk r P
 on_ok (Ok x) P p = p
 on_ok (Err e) P p = tt
 
-module _ {V E Y U W X : Type 0} (s : Setting Feed DemoLayer DemoLocal DemoConn V E Y U W)
+module _ {V E Y X : Type 0} (R : DemoRules V E Y)
     (r : Result (Vec ℕ Global) X) (capacity : ℕ) (script : ScriptView) (os : List OutcomeView)
-    (pool : Pool DemoLayer) (served : IsServed s capacity script os pool) where
+    (pool : Pool DemoLayer) (served : IsServed R capacity script os pool) where
   -- the printed outcomes are the text of the replies
   pub printed_replies : (serials : List ℕ) (made : ℕ) → serials ≡ pool.serials → made ≡ pool.made
       → IfOk r (λ text. text.items ≡ print os serials made)
-      → IfOk r (λ text. AreRepliesTo s capacity script text.items)
+      → IfOk r (λ text. AreRepliesTo R capacity script text.items)
   unfolding replies_to
   printed_replies serials made none records is = replies r is
     where
       replies : (t : Result (Vec ℕ Global) X) → IfOk t (λ text. text.items ≡ print os serials made)
-          → IfOk t (λ text. AreRepliesTo s capacity script text.items)
+          → IfOk t (λ text. AreRepliesTo R capacity script text.items)
       replies (Ok text) is = λ a h meets handles.
           let left = served.pool_left a h meets handles in
           rw (
@@ -152,19 +151,19 @@ module _ {V E Y U W X : Type 0} (s : Setting Feed DemoLayer DemoLocal DemoConn V
           ) at is
       replies (Err e) is = tt
 
-module _ {V E Y U W X : Type 0} (s : Setting Feed DemoLayer DemoLocal DemoConn V E Y U W)
+module _ {V E Y X : Type 0} (R : DemoRules V E Y)
     (r : Result (Vec ℕ Global) X) (script : ScriptView) (os : List OutcomeView)
-    (pool : Pool DemoLayer) (served : IsServed s replay_capacity script os pool) where
+    (pool : Pool DemoLayer) (served : IsServed R replay_capacity script os pool) where
   -- the summary of the outcomes is that of the script
   pub summarized_script : (script_len made : ℕ) → made ≡ pool.made
       → IfOk r (λ text. text.items ≡ summary script_len os made)
-      → IfOk r (λ text. IsSummaryOf s script_len script text.items)
+      → IfOk r (λ text. IsSummaryOf R script_len script text.items)
   unfolding summary_of
   summarized_script script_len made records is = summarized r is
     where
       summarized : (t : Result (Vec ℕ Global) X)
           → IfOk t (λ text. text.items ≡ summary script_len os made)
-          → IfOk t (λ text. IsSummaryOf s script_len script text.items)
+          → IfOk t (λ text. IsSummaryOf R script_len script text.items)
       summarized (Ok text) is = λ a h meets handles.
           let left = served.pool_left a h meets handles in
           rw (
@@ -173,19 +172,19 @@ module _ {V E Y U W X : Type 0} (s : Setting Feed DemoLayer DemoLocal DemoConn V
           ) at is
       summarized (Err e) is = tt
 
-module _ {V E Y U W X : Type 0} (s : Setting Feed DemoLayer DemoLocal DemoConn V E Y U W)
+module _ {V E Y X : Type 0} (R : DemoRules V E Y)
     (r : Result (Vec ℕ Global) X) (x y : ScriptView) (same : x ≡ y) where
   -- the same of one script, seen twice
-  pub summary_same : (n m : ℕ) → n ≡ m → IfOk r (λ text. IsSummaryOf s n x text.items)
-      → IfOk r (λ text. IsSummaryOf s m y text.items)
+  pub summary_same : (n m : ℕ) → n ≡ m → IfOk r (λ text. IsSummaryOf R n x text.items)
+      → IfOk r (λ text. IsSummaryOf R m y text.items)
   summary_same n m len h =
-      subst (λ (k : ℕ). IfOk r (λ text. IsSummaryOf s k y text.items)) len
-      (subst (λ (v : ScriptView). IfOk r (λ text. IsSummaryOf s n v text.items)) same h)
+      subst (λ (k : ℕ). IfOk r (λ text. IsSummaryOf R k y text.items)) len
+      (subst (λ (v : ScriptView). IfOk r (λ text. IsSummaryOf R n v text.items)) same h)
 
-  pub calls_same : (old new : Option (List V)) → OnOk r (AppendsCallsTo s old new x)
-      → OnOk r (AppendsCallsTo s old new y)
+  pub calls_same : (old new : Option (List V)) → OnOk r (AppendsCallsTo R old new x)
+      → OnOk r (AppendsCallsTo R old new y)
   calls_same old new h =
-      subst (λ (v : ScriptView). OnOk r (AppendsCallsTo s old new v)) same h
+      subst (λ (v : ScriptView). OnOk r (AppendsCallsTo R old new v)) same h
 
 at_most_one : (b : Bool) → cond b 1 0 ≤ 1
 at_most_one true = omega arith
@@ -195,8 +194,8 @@ pub numbers_same : (plan : List ℕ) → map (λ n. n) plan ≡ plan
 numbers_same [] = refl
 numbers_same (n ∷ plan) = ap (λ ns. n ∷ ns) (numbers_same plan)
 
-module _ {S L D C U W : Type 0} where
-  abbrev waiting_flight : ExchangeView S L D C → FlightView S L D C U W
+module _ {S L D C K : Type 0} where
+  abbrev waiting_flight : ExchangeView S L D C → FlightView S L D C K
   waiting_flight x = Waiting x
 
   mapped_twice : {Z : Type 0} (f : Z → ExchangeView S L D C) (zs : List Z)
@@ -206,12 +205,12 @@ module _ {S L D C U W : Type 0} where
 
   -- flights that wait for what a script describes, as flights that wait for the worker's exchanges
   pub waiting_exchanges : {Z : Type 0} (f : Z → ExchangeView S L D C) (zs : List Z)
-      (fs : List (FlightView S L D C U W)) → fs ≡ map (λ z. Waiting (f z)) zs
+      (fs : List (FlightView S L D C K)) → fs ≡ map (λ z. Waiting (f z)) zs
       → fs ≡ map (λ x. Waiting x) (map f zs)
   waiting_exchanges f zs fs e = e ∙ mapped_twice f zs
 
   -- at most all flights wait
-  pub waiting_at_most : (fs : List (FlightView S L D C U W)) → waiting_count fs ≤ length fs
+  pub waiting_at_most : (fs : List (FlightView S L D C K)) → waiting_count fs ≤ length fs
   waiting_at_most [] = omega arith
   waiting_at_most (f ∷ fs) =
       let more = waiting_at_most fs in
@@ -219,7 +218,7 @@ module _ {S L D C U W : Type 0} where
       omega (arith, more, one)
 
   -- some flight lacks memory where some outcome does
-  pub any_outcome : (fs : List (FlightView S L D C U W))
+  pub any_outcome : (fs : List (FlightView S L D C K))
       → list_any lacks_memory (map (λ f. flight_outcome f) fs)
       ≡ list_any (λ f. lacks_memory (flight_outcome f)) fs
   any_outcome [] = refl

@@ -8,7 +8,7 @@ use Rattle.web_request.specs.Feed.{Feed}
 use Rattle.web_request.specs.declared.source.Mark.{Mark}
 use Rattle.web_reply.specs.ResponseBodies.{Plain}
 use Rattle.web_reply.specs.Replies.{Fault, Reply}
-use Rattle.web_worker.specs.Setting.{setting_of}
+use Rattle.web_worker.specs.HandlerServices.{handler_setting}
 use Rattle.web_messages.specs.declared.limits.Limits.{Limits}
 use Rattle.web_http1.specs.Answers.{Answers}
 use Rattle.web_http1.specs.declared.ended.Ended.{Ended}
@@ -38,7 +38,7 @@ abbrev pub AreAnswers : {V E Y : Type 0}
     → ℕ → List ℕ → List ℕ → Type 0
 AreAnswers means converts answers responds capacity bytes text =
     (given : List ℕ) (end : Ended)
-    → Answers {U = Unit {0}} {W = Unit {0}} (setting_of means converts answers responds
+    → Answers (handler_setting {U = Unit {0}} {W = Unit {0}} means converts answers responds
     (λ (f : Feed). f) (λ u n x. ⊥) (λ u n x. ⊥) (demo_pool capacity))
     connection_limits bytes given end
     → text ≡ given

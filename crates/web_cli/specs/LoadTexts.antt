@@ -3,7 +3,7 @@ use Rattle.std.specs.Prelude.{◌≡◌, ℕ, List, length}
 use Rattle.cli_load.specs.ScriptTexts.{script_text}
 use Rattle.cli_load.specs.declared.load.Load.{Load}
 use Rattle.web_request.specs.Feed.{Feed}
-use Rattle.web_worker.specs.Setting.{Setting}
+use Rattle.web_worker.specs.ExchangeRules.{Rules}
 use Rattle.cli_script.specs.Script.{ScriptView, script_lines, script_view}
 use Rattle.cli_print.specs.SummaryText.{summary}
 use Rattle.demo_app.specs.declared.layer.DemoLayer.{DemoLayer}
@@ -33,14 +33,14 @@ abbrev pub summary_text :
     {V : Type 0} → ArgumentFunctions V → HandlerFunctions V → List ℕ → List ℕ
 summary_text a h bytes = summary_of a h (length bytes) (script_view (script_lines bytes))
 
--- U and W: the futures of the arguments and of the handler
-module _ {V E Y U W : Type 0} (s : Setting Feed DemoLayer DemoLocal DemoConn V E Y U W) where
+-- R: what the extractors, their errors, the handler and its outputs promise
+module _ {V E Y : Type 0} (R : Rules DemoLayer DemoLocal DemoConn V E Y) where
   -- for all functions that the arguments and the handler meet, this is the summary
   abbrev pub IsSummaryOf : ℕ → ScriptView → List ℕ → Type 0
   IsSummaryOf script_len script text =
       (a : ArgumentFunctions V) (h : HandlerFunctions V)
-      → ArgumentsMeet s.rules.means s.rules.converts a
-      → HandlerMeets s.rules.answers s.rules.responds h → text ≡ summary_of a h script_len script
+      → ArgumentsMeet R.means R.converts a
+      → HandlerMeets R.answers R.responds h → text ≡ summary_of a h script_len script
 
   abbrev pub IsSummary : List ℕ → List ℕ → Type 0
   IsSummary bytes text = IsSummaryOf (length bytes) (script_view (script_lines bytes)) text

@@ -12,7 +12,7 @@ use Rattle.web_worker.specs.Outcomes.{OutcomeView}
 use Rattle.web_worker.specs.PlanCalls.{calls_of}
 use Rattle.web_worker.specs.PlanOutcomes.{poll_count, outcome_of}
 use Rattle.web_worker.specs.PlanPools.{pool_after}
-use Rattle.web_worker.specs.Setting.{Setting}
+use Rattle.web_worker.specs.ExchangeRules.{Rules}
 use Rattle.cli_script.specs.ReasonTexts.{reason_text}
 use Rattle.cli_script.specs.Script as script
 use Rattle.cli_script.specs.Script.{ScriptView, script_lines, script_view}
@@ -84,20 +84,20 @@ fault_text fault =
     codes "line " ++ decimal fault.line ++ codes ": " ++ reason_text fault.reason ++ newline
 
 -- P of what the script says, where the flights wait for its exchanges and this is its plan
-abbrev pub FlightsOf : {U W : Type 0} → List (FlightView Feed DemoLayer DemoLocal DemoConn U W)
+abbrev pub FlightsOf : {K : Type 0} → List (FlightView Feed DemoLayer DemoLocal DemoConn K)
     → List ℕ → (ScriptView → Type 0) → Type 0
 FlightsOf flights plan P =
     (es : List ScriptedExchangeView) → flights ≡ map (λ e. Waiting (demo_exchange e)) es
     → AllPass (λ e. is_body e.marks) es → P (record { exchanges = es; plan = plan })
 
--- U and W: the futures of the arguments and of the handler
-module _ {V E Y U W : Type 0} (s : Setting Feed DemoLayer DemoLocal DemoConn V E Y U W) where
+-- R: what the extractors, their errors, the handler and its outputs promise
+module _ {V E Y : Type 0} (R : Rules DemoLayer DemoLocal DemoConn V E Y) where
   -- for all functions that the arguments and the handler meet, this is the text of the replies
   abbrev pub AreRepliesTo : ℕ → ScriptView → List ℕ → Type 0
   AreRepliesTo capacity script text =
       (a : ArgumentFunctions V) (h : HandlerFunctions V)
-      → ArgumentsMeet s.rules.means s.rules.converts a
-      → HandlerMeets s.rules.answers s.rules.responds h
+      → ArgumentsMeet R.means R.converts a
+      → HandlerMeets R.answers R.responds h
       → text ≡ replies_to a h capacity script
 
   abbrev pub AreReplies : ℕ → List ℕ → List ℕ → Type 0
@@ -111,17 +111,17 @@ module _ {V E Y U W : Type 0} (s : Setting Feed DemoLayer DemoLocal DemoConn V E
       (os : List OutcomeView)
       (pool : Pool DemoLayer) : Type 0 where
     pub outcomes : (a : ArgumentFunctions V) (h : HandlerFunctions V)
-        → ArgumentsMeet s.rules.means s.rules.converts a
-        → HandlerMeets s.rules.answers s.rules.responds h → os ≡ script_outcomes a h script
+        → ArgumentsMeet R.means R.converts a
+        → HandlerMeets R.answers R.responds h → os ≡ script_outcomes a h script
     pub pool_left : (a : ArgumentFunctions V) (h : HandlerFunctions V)
-        → ArgumentsMeet s.rules.means s.rules.converts a
-        → HandlerMeets s.rules.answers s.rules.responds h → pool ≡ script_pool a h capacity script
+        → ArgumentsMeet R.means R.converts a
+        → HandlerMeets R.answers R.responds h → pool ≡ script_pool a h capacity script
 
   -- for all functions that the arguments meet, the list of calls, where the handler keeps one, grew
   -- by those for the script
   abbrev pub AppendsCallsTo : Option (List V) → Option (List V) → ScriptView → Type 0
   AppendsCallsTo old new script =
-      (a : ArgumentFunctions V) → ArgumentsMeet s.rules.means s.rules.converts a
+      (a : ArgumentFunctions V) → ArgumentsMeet R.means R.converts a
       → new ≡ option_map (λ calls. calls ++ calls_to a script) old
 
   abbrev pub AppendsScriptCalls : Option (List V) → Option (List V) → List ℕ → Type 0

@@ -13,10 +13,9 @@ use http::Version;
 use std::alloc::Global;
 use std::rc::Rc;
 use web_body::{Mark, Marks, Payload};
-use web_extract::FromRequest;
 use web_request::RequestHead;
 use web_texts::NoMemory;
-use web_worker::{Exchange, Flight, Handler};
+use web_worker::{Exchange, Flight, Service};
 
 /// The data of a connection, if a script names it.
 fn shared_conn(alloc: Global, conn: Option<u64>) -> Result<Option<Rc<DemoConn>>, NoMemory>
@@ -61,11 +60,11 @@ fn body_of(marks: Vec<Mark>) -> Payload<Marks>
 
 /// Collects the exchanges of a script as flights that wait for their first poll.
 #[derive(Drop)]
-pub struct DemoFlights<Args: FromRequest<Demo>, H: Handler<Args>> {
+pub struct DemoFlights<Args, H: Service<Demo, Args>> {
     pub flights: Vec<Flight<Demo, Args, H>>,
 }
 
-impl<Args: FromRequest<Demo>, H: Handler<Args>> DemoFlights<Args, H> {
+impl<Args, H: Service<Demo, Args>> DemoFlights<Args, H> {
     /// Holds no flight yet.
     pub fn new(alloc: Global) -> DemoFlights<Args, H>
         ensures { result.flights.items ≡ [] }
@@ -77,7 +76,7 @@ impl<Args: FromRequest<Demo>, H: Handler<Args>> DemoFlights<Args, H> {
 }
 
 /// `add` needs memory for the layers and the flight.
-impl<Args: FromRequest<Demo>, H: Handler<Args>> ExchangeSink for DemoFlights<Args, H> {
+impl<Args, H: Service<Demo, Args>> ExchangeSink for DemoFlights<Args, H> {
     ghost use Rattle.std.specs.Prelude.{◌≡◌, map};
     ghost use Rattle.web_worker.specs.Exchanges.{FlightView.Waiting};
     ghost use Rattle.web_cli.specs.DemoExchanges.{demo_exchange};

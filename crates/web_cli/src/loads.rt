@@ -1,7 +1,7 @@
 //! The commands `generate` and `replay`.
 ghost use Rattle.std.specs.Prelude.{◌≡◌, ◌<◌, ◌^◌, length, true, IfOk, OnOk, ⊤};
 ghost use Rattle.web_worker.specs.HandlerPromises.{SamePromises};
-ghost use Rattle.web_cli.specs.DemoExchanges.{demo_pool};
+ghost use Rattle.web_worker.specs.HandlerServices.{rules_of};
 ghost use Rattle.web_cli.specs.LoadTexts.{IsSummary, IsSummaryOf, load_script, replay_capacity};
 ghost use Rattle.web_cli.specs.Run.{WritesText};
 ghost use Rattle.web_cli.specs.ScriptAnswers.{AppendsCallsTo, AppendsScriptCalls, FlightsOf};
@@ -21,7 +21,7 @@ use std::alloc::Global;
 use web_extract::FromRequest;
 use web_reply::Responder;
 use web_texts::{Fail, NoMemory};
-use web_worker::{Flight, Handler, Serves};
+use web_worker::{Flight, Handler};
 
 /// How many records the pool keeps while a load is served.
 const REPLAY_CAPACITY: u16 = 128;
@@ -56,10 +56,10 @@ where
     ensures ready { H.ready handler.new }
     ensures same_promises { SamePromises (H.answers handler.old) (H.answers handler.new) }
     ensures text { FlightsOf flights.old plan.now (λ script. IfOk result (λ text. IsSummaryOf
-        (⟦<H as Serves<Demo, Args>>⟧.setting handler.old (demo_pool replay_capacity))
+        (rules_of Args.means Args.Error.converts (H.answers handler.old) H.Output.responds)
         script_len script text.items)) }
     ensures calls { FlightsOf flights.old plan.now (λ script. OnOk result (AppendsCallsTo
-        (⟦<H as Serves<Demo, Args>>⟧.setting handler.old (demo_pool replay_capacity))
+        (rules_of Args.means Args.Error.converts (H.answers handler.old) H.Output.responds)
         (H.calls handler.old) (H.calls handler.new) script)) }
 {
     let worker = serve_script(alloc, REPLAY_CAPACITY, flights, plan, handler)?;
@@ -83,10 +83,10 @@ where
     ensures ready { H.ready handler.new }
     ensures same_promises { SamePromises (H.answers handler.old) (H.answers handler.new) }
     ensures text { IfOk result (λ text. IsSummary
-        (⟦<H as Serves<Demo, Args>>⟧.setting handler.old (demo_pool replay_capacity))
+        (rules_of Args.means Args.Error.converts (H.answers handler.old) H.Output.responds)
         bytes.items text.items) }
     ensures calls { OnOk result (AppendsScriptCalls
-        (⟦<H as Serves<Demo, Args>>⟧.setting handler.old (demo_pool replay_capacity))
+        (rules_of Args.means Args.Error.converts (H.answers handler.old) H.Output.responds)
         (H.calls handler.old) (H.calls handler.new) bytes.items) }
 {
     let script_len = bytes.len() as u64;
@@ -119,10 +119,11 @@ where
     ensures ready { H.ready handler.new }
     ensures same_promises { SamePromises (H.answers handler.old) (H.answers handler.new) }
     ensures replays { WritesText
-        (IsSummary (⟦<H as Serves<Demo, Args>>⟧.setting handler.old (demo_pool replay_capacity))
+        (IsSummary
+        (rules_of Args.means Args.Error.converts (H.answers handler.old) H.Output.responds)
         (load_script load))
         (AppendsScriptCalls
-        (⟦<H as Serves<Demo, Args>>⟧.setting handler.old (demo_pool replay_capacity))
+        (rules_of Args.means Args.Error.converts (H.answers handler.old) H.Output.responds)
         (H.calls handler.old) (H.calls handler.new) (load_script load))
         result (O.state output.old) (O.state output.new) }
 {

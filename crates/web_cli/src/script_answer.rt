@@ -3,8 +3,8 @@ ghost use Rattle.std.specs.Prelude.{◌≡◌, ◌<◌, ◌^◌, length, map, If
 ghost use Rattle.std.specs.List.{list_any};
 ghost use Rattle.web_worker.specs.Flights.{flight_outcome};
 ghost use Rattle.web_worker.specs.HandlerPromises.{SamePromises};
+ghost use Rattle.web_worker.specs.HandlerServices.{rules_of};
 ghost use Rattle.web_worker.specs.PlanOutcomes.{lacks_memory};
-ghost use Rattle.web_cli.specs.DemoExchanges.{demo_pool};
 ghost use Rattle.web_cli.specs.ScriptAnswers.{AppendsCallsTo, AppendsScriptCalls};
 ghost use Rattle.web_cli.specs.ScriptAnswers.{AreReplies, AreRepliesTo, FlightsOf};
 ghost use Rattle.web_cli.specs.ScriptAnswers.{fault_text, IsValid, OnRefused, OnReplies};
@@ -20,7 +20,7 @@ use std::alloc::Global;
 use web_extract::FromRequest;
 use web_reply::Responder;
 use web_texts::{Fail, NoMemory};
-use web_worker::{Flight, Handler, Outcome, Serves, Worker, serve_flights};
+use web_worker::{Flight, Handler, Outcome, Service, Worker, serve_flights};
 
 /// The result of serving a script of at most the limit.
 #[derive(Drop)]
@@ -40,16 +40,14 @@ fn fault_text(alloc: Global, fault: InvalidScript) -> Result<Vec<u8>, NoMemory>
 }
 
 /// Whether an allocation failed while the exchange was served.
-fn lacks_memory<Args: FromRequest<Demo>, H: Handler<Args>>(flight: &Flight<Demo, Args, H>) -> bool
+fn lacks_memory<Args, H: Service<Demo, Args>>(flight: &Flight<Demo, Args, H>) -> bool
     ensures { result ≡ lacks_memory (flight_outcome flight.now) }
 {
     matches!(flight.outcome(), Some(Outcome::NoMemory))
 }
 
 /// Whether an allocation failed while some exchange was served.
-fn any_lacks_memory<Args: FromRequest<Demo>, H: Handler<Args>>(
-    flights: &[Flight<Demo, Args, H>],
-) -> bool
+fn any_lacks_memory<Args, H: Service<Demo, Args>>(flights: &[Flight<Demo, Args, H>]) -> bool
     ensures { result ≡ list_any (λ f. lacks_memory (flight_outcome f)) flights.now }
 {
     flights.iter().any(|flight| lacks_memory(flight))
@@ -75,10 +73,10 @@ where
     ensures same_promises { SamePromises (H.answers handler.old) (H.answers handler.new) }
     ensures count { length flights.new ≡ length flights.old }
     ensures serves { FlightsOf flights.old plan.now (λ script. IfOk result (λ worker. IsServed
-        (⟦<H as Serves<Demo, Args>>⟧.setting handler.old (demo_pool capacity))
+        (rules_of Args.means Args.Error.converts (H.answers handler.old) H.Output.responds)
         capacity script (map (λ f. flight_outcome f) flights.new) worker)) }
     ensures calls { FlightsOf flights.old plan.now (λ script. OnOk result (AppendsCallsTo
-        (⟦<H as Serves<Demo, Args>>⟧.setting handler.old (demo_pool capacity))
+        (rules_of Args.means Args.Error.converts (H.answers handler.old) H.Output.responds)
         (H.calls handler.old) (H.calls handler.new) script)) }
 {
     let mut worker = new_worker(alloc, capacity)?;
@@ -108,10 +106,10 @@ where
     ensures ready { H.ready handler.new }
     ensures same_promises { SamePromises (H.answers handler.old) (H.answers handler.new) }
     ensures text { FlightsOf flights.old plan.now (λ script. IfOk result (λ text. AreRepliesTo
-        (⟦<H as Serves<Demo, Args>>⟧.setting handler.old (demo_pool capacity))
+        (rules_of Args.means Args.Error.converts (H.answers handler.old) H.Output.responds)
         capacity script text.items)) }
     ensures calls { FlightsOf flights.old plan.now (λ script. OnOk result (AppendsCallsTo
-        (⟦<H as Serves<Demo, Args>>⟧.setting handler.old (demo_pool capacity))
+        (rules_of Args.means Args.Error.converts (H.answers handler.old) H.Output.responds)
         (H.calls handler.old) (H.calls handler.new) script)) }
 {
     let worker = serve_script(alloc, capacity, flights, plan, handler)?;
@@ -139,10 +137,10 @@ where
     ensures same_promises { SamePromises (H.answers handler.old) (H.answers handler.new) }
     ensures valid { IfOk result (λ answer. IsValid answer bytes.items) }
     ensures text { IfOk result (λ answer. OnReplies answer (λ text. AreReplies
-        (⟦<H as Serves<Demo, Args>>⟧.setting handler.old (demo_pool capacity))
+        (rules_of Args.means Args.Error.converts (H.answers handler.old) H.Output.responds)
         capacity bytes.items text)) }
     ensures calls { IfOk result (λ answer. OnReplies answer (λ _. AppendsScriptCalls
-        (⟦<H as Serves<Demo, Args>>⟧.setting handler.old (demo_pool capacity))
+        (rules_of Args.means Args.Error.converts (H.answers handler.old) H.Output.responds)
         (H.calls handler.old) (H.calls handler.new) bytes.items)) }
     ensures refused { IfOk result (λ answer. OnRefused answer (handler.new ≡ handler.old)) }
 {

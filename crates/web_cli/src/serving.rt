@@ -2,7 +2,7 @@
 ghost use Rattle.std.specs.Prelude.{◌≡◌, List, ℕ, None, map, string_bytes, ⊤};
 ghost use Rattle.cli_load.specs.declared.load.Load.{Load};
 ghost use Rattle.web_worker.specs.HandlerPromises.{SamePromises};
-ghost use Rattle.web_cli.specs.DemoExchanges.{demo_pool};
+ghost use Rattle.web_worker.specs.HandlerServices.{rules_of};
 ghost use Rattle.web_cli.specs.CommandWords.{IfUncalled, IsConnect, IsGenerate, IsReplay, IsServe};
 ghost use Rattle.web_cli.specs.CommandWords.{command_of};
 ghost use Rattle.web_cli.specs.ConnectionAnswers.{AllAnswered, AreAnswers, ConnectionResult};
@@ -22,7 +22,7 @@ use demo_app::Demo;
 use std::alloc::Global;
 use web_extract::FromRequest;
 use web_reply::Responder;
-use web_worker::{Handler, Serves};
+use web_worker::Handler;
 
 /// Reads a script, serves it with a pool of this capacity, and writes the replies.
 fn read_and_serve<I: Input, O: Output, Args: FromRequest<Demo>, H: Handler<Args>>(
@@ -38,9 +38,11 @@ where
     ensures ready { H.ready handler.new }
     ensures same_promises { SamePromises (H.answers handler.old) (H.answers handler.new) }
     ensures serves { (came : List ℕ) × ServeResult
-        (AreReplies (⟦<H as Serves<Demo, Args>>⟧.setting handler.old (demo_pool capacity)) capacity)
+        (AreReplies
+        (rules_of Args.means Args.Error.converts (H.answers handler.old) H.Output.responds)
+        capacity)
         (AppendsScriptCalls
-        (⟦<H as Serves<Demo, Args>>⟧.setting handler.old (demo_pool capacity))
+        (rules_of Args.means Args.Error.converts (H.answers handler.old) H.Output.responds)
         (H.calls handler.old) (H.calls handler.new))
         (handler.new ≡ handler.old) result came
         (I.state input.old) (I.state input.new) (O.state output.old) (O.state output.new) }
@@ -73,16 +75,20 @@ where
     ensures ready { H.ready handler.new }
     ensures same_promises { SamePromises (H.answers handler.old) (H.answers handler.new) }
     ensures serves { (came : List ℕ) × ServeResult
-        (AreReplies (⟦<H as Serves<Demo, Args>>⟧.setting handler.old (demo_pool capacity)) capacity)
+        (AreReplies
+        (rules_of Args.means Args.Error.converts (H.answers handler.old) H.Output.responds)
+        capacity)
         (AppendsScriptCalls
-        (⟦<H as Serves<Demo, Args>>⟧.setting handler.old (demo_pool capacity))
+        (rules_of Args.means Args.Error.converts (H.answers handler.old) H.Output.responds)
         (H.calls handler.old) (H.calls handler.new))
         (handler.new ≡ handler.old) result came
         (I.state input.old) (I.state input.new) (O.state output.old) (O.state output.new) }
     ensures headline { Headline
-        (AreReplies (⟦<H as Serves<Demo, Args>>⟧.setting handler.old (demo_pool capacity)) capacity)
+        (AreReplies
+        (rules_of Args.means Args.Error.converts (H.answers handler.old) H.Output.responds)
+        capacity)
         (AppendsScriptCalls
-        (⟦<H as Serves<Demo, Args>>⟧.setting handler.old (demo_pool capacity))
+        (rules_of Args.means Args.Error.converts (H.answers handler.old) H.Output.responds)
         (H.calls handler.old) (H.calls handler.new)) result
         (I.state input.old) (I.state input.new) (O.state output.old) (O.state output.new) }
 {
@@ -131,26 +137,31 @@ where
         (handler.new ≡ handler.old) }
     ensures serves { (capacity : ℕ) → IsServe (map string_bytes words.now) capacity
         → (came : List ℕ) × ServeResult
-        (AreReplies (⟦<H as Serves<Demo, Args>>⟧.setting handler.old (demo_pool capacity)) capacity)
+        (AreReplies
+        (rules_of Args.means Args.Error.converts (H.answers handler.old) H.Output.responds)
+        capacity)
         (AppendsScriptCalls
-        (⟦<H as Serves<Demo, Args>>⟧.setting handler.old (demo_pool capacity))
+        (rules_of Args.means Args.Error.converts (H.answers handler.old) H.Output.responds)
         (H.calls handler.old) (H.calls handler.new))
         (handler.new ≡ handler.old) result came
         (I.state input.old) (I.state input.new) (O.state output.old) (O.state output.new) }
     ensures headline { (capacity : ℕ) → IsServe (map string_bytes words.now) capacity → Headline
-        (AreReplies (⟦<H as Serves<Demo, Args>>⟧.setting handler.old (demo_pool capacity)) capacity)
+        (AreReplies
+        (rules_of Args.means Args.Error.converts (H.answers handler.old) H.Output.responds)
+        capacity)
         (AppendsScriptCalls
-        (⟦<H as Serves<Demo, Args>>⟧.setting handler.old (demo_pool capacity))
+        (rules_of Args.means Args.Error.converts (H.answers handler.old) H.Output.responds)
         (H.calls handler.old) (H.calls handler.new)) result
         (I.state input.old) (I.state input.new) (O.state output.old) (O.state output.new) }
     ensures generates { (load : Load) → IsGenerate (map string_bytes words.now) load → WritesAlone
         (λ text. text ≡ load_script load) ⊤ result
         (I.state input.old) (I.state input.new) (O.state output.old) (O.state output.new) }
     ensures replays { (load : Load) → IsReplay (map string_bytes words.now) load → WritesAlone
-        (IsSummary (⟦<H as Serves<Demo, Args>>⟧.setting handler.old (demo_pool replay_capacity))
+        (IsSummary
+        (rules_of Args.means Args.Error.converts (H.answers handler.old) H.Output.responds)
         (load_script load))
         (AppendsScriptCalls
-        (⟦<H as Serves<Demo, Args>>⟧.setting handler.old (demo_pool replay_capacity))
+        (rules_of Args.means Args.Error.converts (H.answers handler.old) H.Output.responds)
         (H.calls handler.old) (H.calls handler.new) (load_script load)) result
         (I.state input.old) (I.state input.new) (O.state output.old) (O.state output.new) }
     ensures connects { (capacity : ℕ) → IsConnect (map string_bytes words.now) capacity

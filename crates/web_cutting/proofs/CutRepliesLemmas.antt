@@ -10,7 +10,7 @@ use Rattle.web_body.specs.Cuttings.{SameBody}
 use Rattle.web_reply.specs.ResponseBodies.{Plain}
 use Rattle.web_reply.specs.Replies.{Fault, Reply}
 use Rattle.web_worker.specs.ExchangeRules.{After, Replies, Rules}
-use Rattle.web_worker.specs.Setting.{setting_of}
+use Rattle.web_worker.specs.HandlerServices.{handler_setting}
 use Rattle.web_cutting.specs.CutFree.{CutFree, CutFreeWithin}
 use Rattle.web_cutting.specs.CutReplies.{CutsReplies, CutsRepliesWithin}
 
@@ -39,13 +39,13 @@ module _ {S L D C V E Y U W : Type 0} (means : Request L D C → List Mark → L
   abbrev rules : Rules L D C V E Y
   rules = record { means = means; converts = converts; answers = answers; responds = responds }
 
-  pub cuts_replies : CutsReplies (setting_of means converts answers responds feed arguments handling pool)
+  pub cuts_replies : CutsReplies means (handler_setting means converts answers responds feed arguments handling pool)
   cuts_replies x y other free d r h =
       let of_first = subst (λ (marks : Option (List Mark)). MatchOption marks ⊤ (λ m. Replies rules (new_record pool.root pool.config 0 x.parts).request m d r)) other.first_is h in
       let cut = replies_cut rules (new_record pool.root pool.config 0 x.parts).request free other.first other.second other.body d r of_first in
       (cut.0, rw (other.second_is, ← other.parts) cut.1)
 
-  pub cuts_replies_within : CutsRepliesWithin (setting_of means converts answers responds feed arguments handling pool)
+  pub cuts_replies_within : CutsRepliesWithin means (handler_setting means converts answers responds feed arguments handling pool)
   cuts_replies_within limit x y other small free d r h =
       let of_first = subst (λ (marks : Option (List Mark)). MatchOption marks ⊤ (λ m. Replies rules (new_record pool.root pool.config 0 x.parts).request m d r)) other.first_is h in
       let cut = replies_within rules (new_record pool.root pool.config 0 x.parts).request limit free other.first other.second other.body small d r of_first in

@@ -30,7 +30,7 @@ use Rattle.web_worker.specs.Flights.{ExchangeGives}
 use Rattle.web_worker.specs.Outcomes.{OutcomeView}
 use Rattle.web_worker.specs.Outcomes.{OutcomeView.Replied, OutcomeView.Unfinished, OutcomeView.NoMemory}
 use Rattle.web_worker.specs.PlanOutcomes.{AllowedOutcome}
-use Rattle.web_worker.specs.Setting.{Setting, setting_of}
+use Rattle.web_worker.specs.HandlerServices.{handler_setting, rules_of}
 use Rattle.web_cutting.specs.OverLimit.{IsFineForBytes, IsFineForText, IsTooLarge, RefusesOver}
 
 body_over : (refusal : Option Fault) (limit : ℕ) (headers : Entries FieldValue) (m : List Mark) → refusal ≡ None → refusal_by headers limit ≡ None
@@ -68,19 +68,21 @@ module _ {L D C V Y : Type 0} (R : Rules L D C V Fault Y) (own : (e f : Fault) �
   pub replies_over : (d : ℕ) (r : Reply Plain) → Replies R q m d r → r.head.status ≡ 413
   replies_over d r (rest, n, x, means, after) = after_over n x (over rest n x means) d r after
 
-module _ {S L D C V Y U W : Type 0} (s : Setting S L D C V Fault Y U W) (own : (e f : Fault) → s.rules.converts e f → f ≡ e) (x : ExchangeView S L D C) where
+module _ {S L D C V Y U W : Type 0} (means : Request L D C → ArgumentMeaning V Fault) (converts : Fault → Fault → Type 0) (answers : V → ℕ → Y → Type 0)
+    (responds : Y → Request L D C → Reply Plain → Type 0) (feed : S → Feed) (arguments : U → ℕ → Result V Fault → Type 0) (handling : W → ℕ → Y → Type 0) (pool : Pool L)
+    (own : (e f : Fault) → converts e f → f ≡ e) (x : ExchangeView S L D C) where
   reply_over : (marks : Option (List Mark)) (m : List Mark) → marks ≡ Some m
-      → ((rest : List Mark) (n : ℕ) (v : Result V Fault) → s.rules.means (s.request x) m rest n v → OverAlone v)
-      → (d : ℕ) (r : Reply Plain) → MatchOption marks ⊤ (λ m. Replies s.rules (s.request x) m d r) → r.head.status ≡ 413
+      → ((rest : List Mark) (n : ℕ) (v : Result V Fault) → means (request_of pool x) m rest n v → OverAlone v)
+      → (d : ℕ) (r : Reply Plain) → MatchOption marks ⊤ (λ m. Replies (rules_of means converts answers responds) (request_of pool x) m d r) → r.head.status ≡ 413
   reply_over None m is over d r h = absurd (cc is)
   reply_over (Some k) m is over d r h =
       let e : k ≡ m = cc is in
-      replies_over s.rules own (s.request x) m over d r (subst (λ (l : List Mark). Replies s.rules (s.request x) l d r) e h)
+      replies_over (rules_of means converts answers responds) own (request_of pool x) m over d r (subst (λ (l : List Mark). Replies (rules_of means converts answers responds) (request_of pool x) l d r) e h)
 
-  pub outcome_over : (m : List Mark) → (payload_feed s.feed x.body).marks ≡ Some m
-      → ((rest : List Mark) (n : ℕ) (v : Result V Fault) → s.rules.means (s.request x) m rest n v → OverAlone v)
-      → (polls : ℕ) (o : OutcomeView) → AllowedOutcome s polls x o → IsTooLarge o
-  outcome_over m is over polls (Replied r) (d, less, gives) = reply_over (payload_feed s.feed x.body).marks m is over d r gives
+  pub outcome_over : (m : List Mark) → (payload_feed feed x.body).marks ≡ Some m
+      → ((rest : List Mark) (n : ℕ) (v : Result V Fault) → means (request_of pool x) m rest n v → OverAlone v)
+      → (polls : ℕ) (o : OutcomeView) → AllowedOutcome (handler_setting means converts answers responds feed arguments handling pool) polls x o → IsTooLarge o
+  outcome_over m is over polls (Replied r) (d, less, gives) = reply_over (payload_feed feed x.body).marks m is over d r gives
   outcome_over m is over polls Unfinished allowed = tt
   outcome_over m is over polls NoMemory allowed = tt
 
@@ -110,8 +112,7 @@ module _ {S L D C V Y U W : Type 0} (means : Request L D C → ArgumentMeaning V
     (settings : Request L D C → PayloadSettings) (fine : PayloadSettings → Request L D C → Type 0)
     (over : (q : Request L D C) (m : List Mark) → fine (settings q) q → (settings q).limit < length (piece_bytes m)
     → (rest : List Mark) (n : ℕ) (x : Result V Fault) → means q m rest n x → OverAlone x) where
-  pub refuses_over : RefusesOver (setting_of means converts answers responds feed arguments handling pool)
+  pub refuses_over : RefusesOver (handler_setting means converts answers responds feed arguments handling pool)
       (λ x. settings (request_of pool x)) (λ s x. fine s (request_of pool x))
   refuses_over x m is fine_for above polls o allowed =
-      outcome_over (setting_of means converts answers responds feed arguments handling pool)
-      own x m is (over (request_of pool x) m fine_for above) polls o allowed
+      outcome_over means converts answers responds feed arguments handling pool own x m is (over (request_of pool x) m fine_for above) polls o allowed

@@ -3,6 +3,7 @@ use Rattle.std.specs.Prelude.{◌≡◌, ◌≤◌, ℕ, List, Some, length}
 use Rattle.web_request.specs.declared.source.Mark.{Mark}
 use Rattle.web_request.specs.Body.{piece_bytes}
 use Rattle.web_request.specs.Feed.{Feed}
+use Rattle.web_request.specs.Request.{Request}
 use Rattle.web_body.specs.Cuttings.{SameBody}
 use Rattle.web_body.specs.Payload.{payload_feed}
 use Rattle.web_reply.specs.ResponseBodies.{Plain}
@@ -22,16 +23,19 @@ pub record DifferInCutting {S L D C : Type 0} (feed : S → Feed) (x y : Exchang
   pub second_is : (payload_feed feed y.body).marks ≡ Some second
   pub body : SameBody first second
 
--- where the arguments do not depend on the cutting, the other exchange may have the same replies
-abbrev pub CutsReplies : {S L D C V E Y U W : Type 0} → Setting S L D C V E Y U W → Type 0
-CutsReplies {S} {L} {D} {C} s =
+-- where the extractors, which may come as `means` says, do not depend on the cutting, the other
+-- exchange may have the same replies
+abbrev pub CutsReplies : {S L D C V K T : Type 0}
+    → (Request L D C → List Mark → List Mark → ℕ → T → Type 0) → Setting S L D C V K → Type 0
+CutsReplies {S} {L} {D} {C} means s =
     (x y : ExchangeView S L D C) → DifferInCutting s.feed x y
-    → CutFree (s.rules.means (s.request x))
+    → CutFree (means (s.request x))
     → (d : ℕ) (r : Reply Plain) → ExchangeGives s x d r → (e : ℕ) × ExchangeGives s y e r
 
 -- the same, where they do not depend on that of a body within a limit, and the body is within it
-abbrev pub CutsRepliesWithin : {S L D C V E Y U W : Type 0} → Setting S L D C V E Y U W → Type 0
-CutsRepliesWithin {S} {L} {D} {C} s =
+abbrev pub CutsRepliesWithin : {S L D C V K T : Type 0}
+    → (Request L D C → List Mark → List Mark → ℕ → T → Type 0) → Setting S L D C V K → Type 0
+CutsRepliesWithin {S} {L} {D} {C} means s =
     (limit : ℕ) (x y : ExchangeView S L D C) → (differ : DifferInCutting s.feed x y)
-    → length (piece_bytes differ.first) ≤ limit → CutFreeWithin limit (s.rules.means (s.request x))
+    → length (piece_bytes differ.first) ≤ limit → CutFreeWithin limit (means (s.request x))
     → (d : ℕ) (r : Reply Plain) → ExchangeGives s x d r → (e : ℕ) × ExchangeGives s y e r

@@ -33,7 +33,7 @@ IsTooLarge NoMemory = ⊤
 
 -- An exchange whose head refuses nothing, and whose body has more bytes than the limit: whatever
 -- the handler promises, each outcome that its polls allow is 413, or the two that give no reply.
-abbrev pub RefusesOver : {S L D C V E Y U W : Type 0} → Setting S L D C V E Y U W
+abbrev pub RefusesOver : {S L D C V K : Type 0} → Setting S L D C V K
     → (ExchangeView S L D C → PayloadSettings)
     → (PayloadSettings → ExchangeView S L D C → Type 0) → Type 0
 RefusesOver {S} {L} {D} {C} s settings fine =

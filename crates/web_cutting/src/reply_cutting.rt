@@ -16,5 +16,5 @@ pub fn reply_cutting_law<P: App, A: FromRequest<P>, H: Handler<A>>()
 where
     H::Output: Responder<P>,
     ensures { (pool : Pool P.Layer) (handler : H)
-        → CutsReplies (⟦<H as Serves<P, A>>⟧.setting handler pool) }
+        → CutsReplies A.means (⟦<H as Serves<P, A>>⟧.setting handler pool) }
 {}

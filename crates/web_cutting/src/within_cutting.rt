@@ -77,5 +77,5 @@ pub fn reply_within_law<P: App, A: FromRequest<P>, H: Handler<A>>()
 where
     H::Output: Responder<P>,
     ensures { (pool : Pool P.Layer) (handler : H)
-        → CutsRepliesWithin (⟦<H as Serves<P, A>>⟧.setting handler pool) }
+        → CutsRepliesWithin A.means (⟦<H as Serves<P, A>>⟧.setting handler pool) }
 {}

@@ -62,7 +62,7 @@ module _ {S : Type 0} (feed : S → Feed) where
   none_left : (f : Feed) (st : BodyStage) (rest : List ℕ) → st ≡ stage.Sent → IsToCome f st rest → rest ≡ []
   none_left f st rest is come = subst (λ (x : BodyStage). IsToCome f x rest) is come
 
-module _ {S L D C V E Y U W : Type 0} (s : Setting S L D C V E Y U W) where
+module _ {S L D C V K : Type 0} (s : Setting S L D C V K) where
   sent_steps : (old : ConnectionView) (due : DueBody S) (before behind : List ℕ) (new : ConnectionView) (given : List ℕ)
       → ((text : List ℕ) → IsToCome (body_feed s.feed due) due.stage text → StepsTo s old due.connection before (behind ++ text))
       → SendsBody s old due before behind new given → (new ≡ due.connection) × StepsFrom s old new before (before ++ given)

@@ -156,7 +156,7 @@ module _ (settings : ReplySettings) (off : AddsNothing settings) (m : Message) (
 
 -- ---- the steps of a connection
 
-module _ {S L D C V E Y U W : Type 0} (s : Setting S L D C V E Y U W) where
+module _ {S L D C V K : Type 0} (s : Setting S L D C V K) where
   module _ (settings : ReplySettings) (off : AddsNothing settings) (all : AllHaveTheirLength s) where
     module _ (m : Message) (before behind : List ℕ) (closes : Bool) where
       whole_written : IsBegun s settings m before behind closes None → WritesReply s m before behind closes
@@ -337,7 +337,7 @@ begins_reply feed asked settings r before behind head body absent closes framed 
           (subst (λ (b : Bool). IsDueOf feed b asked.is_first body due) gone (d asked.is_first framed_is));
     }
 
-module _ {S L D C V E Y U W : Type 0} (s : Setting S L D C V E Y U W) (settings : ReplySettings) where
+module _ {S L D C V K : Type 0} (s : Setting S L D C V K) (settings : ReplySettings) where
   pub begun_or : (m : Message) (before behind : List ℕ) (asked : Asked) (r : Reply Plain) (result : Result (BegunReply S) NoMemory) → asked ≡ asked_of m
       → AllowsReply s (exchange_of m) r → ((x : Answer) → SameMessage m x.message → IsAnswerTo s x → r ≡ x.reply)
       → IfOk result (λ b. BeginsReply s.feed asked settings r before behind b.closes b.due) → OnErr result (behind ≡ before)

@@ -17,7 +17,7 @@ use Rattle.web_http1.proofs.GoesLemmas as given_of
 use Rattle.web_http1.proofs.GoesLemmas.{none_written}
 use Rattle.web_http1.proofs.PieceLemmas.{ended_goes}
 
-module _ {S L D C V E Y U W : Type 0} (s : Setting S L D C V E Y U W) where
+module _ {S L D C V K : Type 0} (s : Setting S L D C V K) where
   -- a piece was taken
   piece_taken : (c : ConnectionView) (piece more : List ℕ) (xs : List Answer) (given rest : List ℕ) (closed : Bool) (o : Option Ended)
       → GoesOn s c o (piece ++ more) xs given rest closed → GoesOn s (with_piece c piece) o more xs given rest closed

@@ -4,10 +4,12 @@ use Rattle.std.specs.Prelude.{MatchOption, if◌then◌else◌, ⊤}
 use Rattle.std.proofs.lemmas.List.{drop-append-le, drop-drop}
 use Rattle.web_reply.specs.ResponseBodies.{Plain}
 use Rattle.web_reply.specs.Replies.{Reply}
+use Rattle.web_request.specs.Request.{Request}
+use Rattle.web_request.specs.declared.source.Mark.{Mark}
+use Rattle.web_request.specs.Feed.{Feed}
+use Rattle.web_worker.specs.ServicePromises.{Promise, SameService}
 use Rattle.web_worker.specs.Exchanges.{ExchangeView}
-use Rattle.web_worker.specs.HandlerPromises.{SamePromises}
-use Rattle.web_worker.specs.Setting.{Setting}
-use Rattle.web_worker.proofs.SamePromiseLemmas.{setting_with}
+use Rattle.web_worker.specs.Setting.{Setting, setting_with}
 use Rattle.web_messages.specs.HeadFaults.{head_fault}
 use Rattle.web_messages.specs.NextMessage.{IsNext}
 use Rattle.web_messages.specs.Progress.{IsSettled, IsShort, Skips, next_at_end}
@@ -34,7 +36,7 @@ use Rattle.web_http1.specs.Connections.{AllOpen, ConnectionView, FinishesWith, G
 use Rattle.web_http1.specs.ConnectionSteps.{IsReplied, IsServed, IsTurned, RefusedWith, TakesPiece, WaitsBehind, turned_left, with_piece}
 use Rattle.web_http1.specs.MessageExchanges.{exchange_of}
 use Rattle.web_http1.specs.ReplyBytes.{Sent, sent_bytes, sent_reply}
-use Rattle.web_http1.proofs.SettingLemmas.{same_back, served_as}
+use Rattle.web_http1.proofs.SettingLemmas.{served_as, service_back}
 
 behind_true : (c : Bool) (A B : Type 0) → c ≡ true → Behind c A B → A
 behind_true true A B e x = x
@@ -78,7 +80,7 @@ IsKnown (turned.Ended e) = ⊤
 pub left_behind : (limits : Limits) (left : List ℕ) (m : Message) → IsSettled limits left (next.Message m) → IsNext limits left (next.Message m)
 left_behind limits left m is = subst (λ (t : List ℕ). IsNext limits t (next.Message m)) (append-nil left) (is [])
 
-module _ {S L D C V E Y U W : Type 0} (s : Setting S L D C V E Y U W) where
+module _ {S L D C V K : Type 0} (s : Setting S L D C V K) where
   -- what is served begins with a settled message
   pub record Begins (limits : Limits) (left : List ℕ) (m : Message) (more : List ℕ) (xs : List Answer) (rest : List ℕ) (closed : Bool) : Type 0 where
     pub first : Answer
@@ -399,7 +401,7 @@ some_rest limits [] next.Closed stands is = absurd stands
 some_rest limits (b ∷ rest) x stands is = omega arith
 
 -- one more step, over the bytes of a buffer
-pub rest_steps : {S L D C V E Y U W : Type 0} (s : Setting S L D C V E Y U W) (limits : Limits) (buffer old : List ℕ) (place used : ℕ) (rest : List ℕ) (end : Option Ended)
+pub rest_steps : {S L D C V K : Type 0} (s : Setting S L D C V K) (limits : Limits) (buffer old : List ℕ) (place used : ℕ) (rest : List ℕ) (end : Option Ended)
     (a b c : List ℕ) → rest ≡ drop place buffer → StepsTo s (open_at limits old) (open_at limits (drop place buffer)) a b
     → StepsTo s (open_at limits rest) (record { limits = limits; left = drop used rest; ended = end }) b c
     → StepsTo s (open_at limits old) (record { limits = limits; left = drop (place + used) buffer; ended = end }) a c
@@ -409,7 +411,7 @@ rest_steps s limits buffer old place used rest end a b c e h k =
     then_steps s (open_at limits old) (open_at limits (drop place buffer)) (record { limits = limits; left = drop (place + used) buffer; ended = end }) a b c refl refl h joined
 
 -- the last step, over the bytes of a buffer
-pub end_steps : {S L D C V E Y U W : Type 0} (s : Setting S L D C V E Y U W) (limits : Limits) (buffer old : List ℕ) (place : ℕ) (rest : List ℕ) (end : Ended)
+pub end_steps : {S L D C V K : Type 0} (s : Setting S L D C V K) (limits : Limits) (buffer old : List ℕ) (place : ℕ) (rest : List ℕ) (end : Ended)
     (a b c : List ℕ) → rest ≡ drop place buffer → StepsTo s (open_at limits old) (open_at limits (drop place buffer)) a b
     → StepsTo s (open_at limits rest) (ended_at limits rest end) b c → StepsTo s (open_at limits old) (ended_at limits (drop place buffer) end) a c
 end_steps s limits buffer old place rest end a b c e h k =
@@ -417,7 +419,7 @@ end_steps s limits buffer old place rest end a b c e h k =
     then_steps s (open_at limits old) (open_at limits (drop place buffer)) (ended_at limits (drop place buffer) end) a b c refl refl h there
 
 -- a piece that was taken and answered
-module _ {S L D C V E Y U W : Type 0} (s : Setting S L D C V E Y U W) where
+module _ {S L D C V K : Type 0} (s : Setting S L D C V K) where
   ended_only : (c d : ConnectionView) (e : Ended) (more : List ℕ) (xs : List Answer) (given rest : List ℕ) (closed : Bool) → c.limits ≡ d.limits
       → GoesOn s c (Some e) more xs given rest closed → GoesOn s d (Some e) more xs given rest closed
   ended_only c d ended.Closed more xs given rest closed same g = g
@@ -459,20 +461,22 @@ module _ {S L D C V E Y U W : Type 0} (s : Setting S L D C V E Y U W) where
       )
 
 -- a step, where the handler promises the same
-module _ {S L D C V E Y U W : Type 0} (s : Setting S L D C V E Y U W) (a b : V → ℕ → Y → Type 0) (h : SamePromises a b) where
-  goes_as : (c : ConnectionView) (e : Option Ended) (more : List ℕ) (xs : List Answer) (given rest : List ℕ) (closed : Bool) → GoesOn (setting_with s b) c e more xs given rest closed
-      → GoesOn (setting_with s a) c e more xs given rest closed
+module _ {S L D C V K : Type 0} (feed : S → Feed) (request : ExchangeView S L D C → Request L D C)
+    (c_a c_b : Request L D C → Request L D C) (p_a p_b : Request L D C → List Mark → Promise V) (l_a l_b : K → Request L D C → Promise V)
+    (h : SameService c_a c_b p_a p_b l_a l_b) where
+  goes_as : (c : ConnectionView) (e : Option Ended) (more : List ℕ) (xs : List Answer) (given rest : List ℕ) (closed : Bool) → GoesOn (setting_with c_b p_b l_b feed request) c e more xs given rest closed
+      → GoesOn (setting_with c_a p_a l_a feed request) c e more xs given rest closed
   goes_as c None more xs given rest closed g =
-      (g.0, g.1, g.2, served_as s b a (same_back a b h) c.limits (c.left ++ more) g.0 g.1 closed g.3, g.4)
+      (g.0, g.1, g.2, served_as feed request c_b c_a p_b p_a l_b l_a (service_back h) c.limits (c.left ++ more) g.0 g.1 closed g.3, g.4)
   goes_as c (Some ended.Closed) more xs given rest closed g = g
   goes_as c (Some (ended.Refused w)) more xs given rest closed g = g
   goes_as c (Some ended.SourceFault) more xs given rest closed g = g
   goes_as c (Some ended.NoMemory) more xs given rest closed g = g
 
-  pub steps_as : (old new : ConnectionView) (before behind : List ℕ) → StepsTo (setting_with s b) old new before behind → StepsTo (setting_with s a) old new before behind
+  pub steps_as : (old new : ConnectionView) (before behind : List ℕ) → StepsTo (setting_with c_b p_b l_b feed request) old new before behind → StepsTo (setting_with c_a p_a l_a feed request) old new before behind
   steps_as old new before behind t = (
     t.0,
     t.1,
     λ more xs rest closed v.
-        goes_as new new.ended more xs t.0 rest closed (t.2 more xs rest closed (served_as s a b h old.limits (old.left ++ more) xs rest closed v)),
+        goes_as new new.ended more xs t.0 rest closed (t.2 more xs rest closed (served_as feed request c_a c_b p_a p_b l_a l_b h old.limits (old.left ++ more) xs rest closed v)),
   )

@@ -21,7 +21,7 @@ use Rattle.web_http1.proofs.ServingLemmas.{SoFar, ended_all, finished, lacks_mem
 pub none_written : (before first : List ℕ) → before ++ first ≡ before → first ≡ []
 none_written before first is = append_cancel_left before first [] (is ∙ sym (append-nil before))
 
-module _ {S L D C V E Y U W : Type 0} (s : Setting S L D C V E Y U W) where
+module _ {S L D C V K : Type 0} (s : Setting S L D C V K) where
   module _ (limits : Limits) (bytes : List ℕ) (new : ConnectionView) (given : List ℕ) (same : new.limits ≡ limits)
       (goes : (more : List ℕ) (xs : List Answer) (rest : List ℕ) (closed : Bool) → Served s limits (bytes ++ more) xs rest closed → GoesOn s new new.ended more xs given rest closed) where
     -- as over a source of one piece of these bytes, of which those are left

@@ -16,7 +16,7 @@ use Rattle.web_http1.proofs.BufferLemmas.{made_open, steps_from}
 use Rattle.web_http1.proofs.OneLemmas.{ends_one}
 use Rattle.web_http1.proofs.WaitLemmas.{wait_goes}
 
-module _ {S L D C V E Y U W : Type 0} (s : Setting S L D C V E Y U W) (limits : Limits) (buffer : List ℕ) (start : ℕ) (o : Option Ended) (rest before behind : List ℕ)
+module _ {S L D C V K : Type 0} (s : Setting S L D C V K) (limits : Limits) (buffer : List ℕ) (start : ℕ) (o : Option Ended) (rest before behind : List ℕ)
     (rest_is : rest ≡ drop start buffer) (unended : o ≡ None) where
   abbrev Old : ConnectionView
   Old = record { limits = limits; left = drop start buffer; ended = o }

@@ -40,7 +40,7 @@ keeps_few limits bytes (progress.Chunked head place body) is few short lines =
       few = λ small. let at' = lines (omega (arith, sum, small)) in omega (arith, short, at', sum);
     }))
 
-module _ {S L D C V E Y U W : Type 0} (s : Setting S L D C V E Y U W) where
+module _ {S L D C V K : Type 0} (s : Setting S L D C V K) where
   pub served_one : (limits : Limits) (rest : List ℕ) (m : Message) (before behind : List ℕ) (t : Turned) → IsSettled limits rest (next.Message m)
       → IsServed s m before behind t → TurnsOne s limits rest before behind t
   served_one limits rest m before behind (turned.Goes used) is h = record { message = m; settled = is; used = h.0; replied = h.1 }

@@ -17,7 +17,7 @@ use Rattle.web_http1.proofs.GoesLemmas as given_of
 use Rattle.web_http1.proofs.GoesLemmas.{none_written}
 use Rattle.web_http1.proofs.ServingLemmas.{waits_empty}
 
-module _ {S L D C V E Y U W : Type 0} (s : Setting S L D C V E Y U W) where
+module _ {S L D C V K : Type 0} (s : Setting S L D C V K) where
   -- a connection that ended goes on as it did, whatever is left of it
   pub ended_goes : (c : ConnectionView) (piece : List ℕ) (e : Ended) (more : List ℕ) (xs : List Answer) (given rest : List ℕ) (closed : Bool)
       → GoesOn s c (Some e) (piece ++ more) xs given rest closed → GoesOn s (with_piece c piece) (Some e) more xs given rest closed

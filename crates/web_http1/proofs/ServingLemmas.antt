@@ -40,7 +40,7 @@ none_of : (o n : Option (List Mark)) (left : List Mark) → o ≡ Some left → 
 none_of None n left is t = absurd (cc)
 none_of (Some m) n left is t = cc (is, t.0)
 
-module _ {S L D C V E Y U W : Type 0} (s : Setting S L D C V E Y U W) (limits : Limits) where
+module _ {S L D C V K : Type 0} (s : Setting S L D C V K) (limits : Limits) where
   -- so far these bytes were written: what is left of the connection and the bytes of the marks that are left give the other answers
   pub record SoFar (marks : List Mark) (feed : Feed) (c : ConnectionView) (before behind : List ℕ) : Type 0 where
     pub left : List Mark

@@ -64,7 +64,7 @@ alike_now limits a b alike =
 
 -- ---- the answers of such bytes
 
-module _ {S L D C V E Y U W : Type 0} (s : Setting S L D C V E Y U W) where
+module _ {S L D C V K : Type 0} (s : Setting S L D C V K) where
   served_alike : (limits : Limits) (a b : List ℕ) (xs : List Answer) (rest : List ℕ) (closed : Bool) → ReadsAlike limits a b → Served s limits a xs rest closed
       → (ys : List Answer) × (end : List ℕ) × SameAhead limits end rest × Served s limits b ys end closed × (replies xs ≡ replies ys)
   served_alike limits a b [] rest closed alike v = (
@@ -114,7 +114,7 @@ wait_limits middle new answered.Replied w = absurd w
 wait_limits middle new answered.Waits w = w.1
 wait_limits middle new (answered.Ended end) w = ap (λ (v : ConnectionView). v.limits) w.1
 
-module _ {S L D C V E Y U W : Type 0} (s : Setting S L D C V E Y U W) where
+module _ {S L D C V K : Type 0} (s : Setting S L D C V K) where
   pub wait_goes : (old middle new : ConnectionView) (before behind : List ℕ) (r : Answered) → middle.ended ≡ None → StepsTo s old middle before behind
       → WaitsAfter middle new r → StepsTo s old new before behind
   wait_goes old middle new before behind r unended steps w =

@@ -107,7 +107,7 @@ BeginsNone (turned.Ended (ended.Refused w)) = ⊤
 BeginsNone (turned.Ended ended.SourceFault) = ⊥
 BeginsNone (turned.Ended ended.NoMemory) = ⊤
 
-module _ {S L D C V E Y U W : Type 0} (s : Setting S L D C V E Y U W) where
+module _ {S L D C V K : Type 0} (s : Setting S L D C V K) where
   -- each message has a reply with a body of its length
   abbrev pub AllHaveTheirLength : Type 0
   AllHaveTheirLength = (x : Answer) → IsAnswerTo s x → HasItsLength x.reply.body
@@ -217,7 +217,7 @@ abbrev pub BegunWaits : {S : Type 0} → Begun S → Type 0
 BegunWaits (begun.Answered new a) = WaitsWhere a new
 BegunWaits (begun.Due due) = ⊤
 
-module _ {S L D C V E Y U W : Type 0} (s : Setting S L D C V E Y U W) where
+module _ {S L D C V K : Type 0} (s : Setting S L D C V K) where
   -- What was written is the answer of the next message, with what is to come of its body.
   abbrev pub BegunSteps : ConnectionView → List ℕ → List ℕ → Begun S → Type 0
   BegunSteps old before behind (begun.Answered new a) = StepsFrom s old new before behind

@@ -41,7 +41,7 @@ module _ {S : Type 0} (feed : S → Feed) where
       × WritesStep old mid before (before ++ first) result
       × Writes mid results new others × (given ≡ first ++ others)
 
-module _ {S L D C V E Y U W : Type 0} (s : Setting S L D C V E Y U W) where
+module _ {S L D C V K : Type 0} (s : Setting S L D C V K) where
   -- the head of a reply was written, and then its body to its end; `new` is the connection then
   pub record SendsBody (old : ConnectionView) (due : DueBody S) (before behind : List ℕ)
       (new : ConnectionView) (given : List ℕ) : Type 0 where

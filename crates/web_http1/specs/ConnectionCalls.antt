@@ -14,7 +14,7 @@ fed [] = []
 fed (Some piece ∷ calls) = piece ++ fed calls
 fed (None ∷ calls) = fed calls
 
-module _ {S L D C V E Y U W : Type 0} (s : Setting S L D C V E Y U W) where
+module _ {S L D C V K : Type 0} (s : Setting S L D C V K) where
   -- These calls led from `old` to `new`. `given` was written in all, whatever stood before it at
   -- each of them: the bytes that were written may have been sent and dropped between two calls.
   abbrev pub Called : ConnectionView → List Call → ConnectionView → List ℕ → Type 0

@@ -34,7 +34,7 @@ turned_left (turned.Goes used) n = n - used
 turned_left (turned.Waits skipped p) n = n - skipped
 turned_left (turned.Ended e) n = 0
 
-module _ {S L D C V E Y U W : Type 0} (s : Setting S L D C V E Y U W) where
+module _ {S L D C V K : Type 0} (s : Setting S L D C V K) where
   -- The reply to the message was written, and says whether the connection closes; or an allocation
   -- failed, and nothing was written.
   abbrev pub IsReplied : Message → List ℕ → List ℕ → Result Bool NoMemory → Type 0
@@ -63,7 +63,7 @@ WaitsBehind limits rest (turned.Waits skipped p) =
     × IsShort limits (drop skipped rest) p
 WaitsBehind limits rest (turned.Ended end) = ⊥
 
-module _ {S L D C V E Y U W : Type 0} (s : Setting S L D C V E Y U W) where
+module _ {S L D C V K : Type 0} (s : Setting S L D C V K) where
   -- the message was answered: the connection goes on after it, or is closed by its reply
   abbrev pub IsServed : Message → List ℕ → List ℕ → Turned → Type 0
   IsServed m before behind (turned.Goes used) =
@@ -97,7 +97,7 @@ module _ {S L D C V E Y U W : Type 0} (s : Setting S L D C V E Y U W) where
 abbrev pub with_piece : ConnectionView → List ℕ → ConnectionView
 with_piece c piece = record { limits = c.limits; left = c.left ++ piece; ended = c.ended }
 
-module _ {S L D C V E Y U W : Type 0} (s : Setting S L D C V E Y U W) where
+module _ {S L D C V K : Type 0} (s : Setting S L D C V K) where
   -- a piece was taken, and what is whole was answered: the connection waits for more, or ended so
   abbrev pub TakesPiece : ConnectionView → ConnectionView → List ℕ → List ℕ → List ℕ → Option Ended
       → Type 0

@@ -17,7 +17,7 @@ use Rattle.web_http1.specs.Connections.{ConnectionView, WaitsForMore}
 use Rattle.web_http1.specs.ConnectionSteps.{IsReplied}
 use Rattle.web_http1.specs.Keeping.{KeepsFew}
 
-module _ {S L D C V E Y U W : Type 0} (s : Setting S L D C V E Y U W) where
+module _ {S L D C V K : Type 0} (s : Setting S L D C V K) where
   -- The next message, which these bytes settle, was answered by one reply, which closes or does
   -- not; n bytes were read for it.
   pub record OneReply (limits : Limits) (bytes before behind : List ℕ) (closes : Bool) (n : ℕ)

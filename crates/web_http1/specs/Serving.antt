@@ -7,7 +7,7 @@ use Rattle.web_http1.specs.declared.ended.Ended.{Ended}
 use Rattle.web_http1.specs.declared.ended.Ended.TheVariants as ended
 use Rattle.web_http1.specs.Answers.{Answers, AnswersAtFault}
 
-module _ {S L D C V E Y U W : Type 0} (s : Setting S L D C V E Y U W) (limits : Limits) where
+module _ {S L D C V K : Type 0} (s : Setting S L D C V K) (limits : Limits) where
   -- The answers of the bytes, which are all that come, were written, and the connection ended as
   -- they say; or an allocation failed, and a prefix of them was written.
   abbrev pub AnswersAll : List ℕ → Ended → List ℕ → List ℕ → Type 0

@@ -1,7 +1,6 @@
 //! The replies to the messages of bytes that came.
 ghost use Rattle.std.specs.Prelude.{◌≡◌, ◌+◌, ◌-◌, ◌<◌, ◌≤◌, ◌^◌, drop, length};
 ghost use Rattle.std.specs.Prelude.{List, ℕ};
-ghost use Rattle.web_worker.specs.HandlerPromises.{SamePromises};
 ghost use Rattle.web_worker.specs.PlanPools.{with_records};
 ghost use Rattle.web_messages.specs.NextMessage.{IsNext, message_of};
 ghost use Rattle.web_messages.specs.Progress.{IsProgress, IsShort, next_at_end};
@@ -18,14 +17,12 @@ use crate::polled::reply_to;
 use crate::reply::{refusal, sent_reply, write_reply};
 use bytes::Bytes;
 use std::alloc::Global;
-use web_extract::FromRequest;
 use web_messages::{
     Head, HeadRoom, Limits, MessageRead, Next, Progress, Wrong, read_last, read_on,
 };
-use web_reply::Responder;
 use web_request::App;
 use web_texts::NoMemory;
-use web_worker::{Flight, Handler, Serves, Worker};
+use web_worker::{Flight, Serves, Service, Worker};
 
 /// What is kept from one message to the next.
 #[derive(Drop)]
@@ -66,7 +63,7 @@ pub(crate) struct AnsweredRest {
 
 /// Writes the reply to a message of this head and this body, and returns whether it closes the
 /// connection.
-fn answer_message<A: App, Args: FromRequest<A>, H: Handler<Args>>(
+fn answer_message<A: App, Args, H: Service<A, Args>>(
     alloc: Global,
     worker: &mut Worker<A>,
     handler: &mut H,
@@ -76,12 +73,10 @@ fn answer_message<A: App, Args: FromRequest<A>, H: Handler<Args>>(
     body: Bytes,
     out: &mut Vec<u8>,
 ) -> Result<bool, NoMemory>
-where
-    H::Output: Responder<A>,
     requires ready { H.ready handler.old }
     requires room { worker.old.made + 1 < 2 ^ 64 }
     ensures ready { H.ready handler.new }
-    ensures same_promises { SamePromises (H.answers handler.old) (H.answers handler.new) }
+    ensures same_promises { H.same_promises handler.old handler.new }
     ensures made { worker.new.made ≤ worker.old.made + 1 }
     ensures kept { worker.new ≡ with_records worker.new.serials worker.new.made worker.old }
     ensures reply { (used : ℕ)
@@ -115,7 +110,7 @@ pub(crate) fn refuse(alloc: Global, rooms: &mut Rooms, wrong: Wrong, out: &mut V
 }
 
 /// Writes the reply to the next message, which has this head and this body, and so many bytes.
-fn serve_message<A: App, Args: FromRequest<A>, H: Handler<Args>>(
+fn serve_message<A: App, Args, H: Service<A, Args>>(
     alloc: Global,
     worker: &mut Worker<A>,
     handler: &mut H,
@@ -126,12 +121,10 @@ fn serve_message<A: App, Args: FromRequest<A>, H: Handler<Args>>(
     used: usize,
     out: &mut Vec<u8>,
 ) -> Turned
-where
-    H::Output: Responder<A>,
     requires ready { H.ready handler.old }
     requires room { worker.old.made + 1 < 2 ^ 64 }
     ensures ready { H.ready handler.new }
-    ensures same_promises { SamePromises (H.answers handler.old) (H.answers handler.new) }
+    ensures same_promises { H.same_promises handler.old handler.new }
     ensures made { worker.new.made ≤ worker.old.made + 1 }
     ensures kept { worker.new ≡ with_records worker.new.serials worker.new.made worker.old }
     ensures turned { IsServed (⟦<H as Serves<A, Args>>⟧.setting handler.old worker.old)
@@ -157,7 +150,7 @@ pub(crate) fn wait(limits: &Limits, progress: Progress) -> Turned
 }
 
 /// Writes what is next at the front of the bytes, where it is known.
-pub(crate) fn serve_next<A: App, Args: FromRequest<A>, H: Handler<Args>>(
+pub(crate) fn serve_next<A: App, Args, H: Service<A, Args>>(
     alloc: Global,
     worker: &mut Worker<A>,
     handler: &mut H,
@@ -168,13 +161,11 @@ pub(crate) fn serve_next<A: App, Args: FromRequest<A>, H: Handler<Args>>(
     flights: &mut Vec<Flight<A, Args, H>>,
     out: &mut Vec<u8>,
 ) -> Turned
-where
-    H::Output: Responder<A>,
     requires progress { IsProgress limits.now rest.now progress }
     requires ready { H.ready handler.old }
     requires room { worker.old.made + length rest.now < 2 ^ 64 }
     ensures ready { H.ready handler.new }
-    ensures same_promises { SamePromises (H.answers handler.old) (H.answers handler.new) }
+    ensures same_promises { H.same_promises handler.old handler.new }
     ensures made { worker.new.made + turned_left result (length rest.now)
         ≤ worker.old.made + length rest.now }
     ensures kept { worker.new ≡ with_records worker.new.serials worker.new.made worker.old }
@@ -196,7 +187,7 @@ where
 }
 
 /// Writes the reply to each message that is whole, from a place in the buffer on.
-pub(crate) fn answer_rest<A: App, Args: FromRequest<A>, H: Handler<Args>>(
+pub(crate) fn answer_rest<A: App, Args, H: Service<A, Args>>(
     alloc: Global,
     worker: &mut Worker<A>,
     handler: &mut H,
@@ -207,14 +198,12 @@ pub(crate) fn answer_rest<A: App, Args: FromRequest<A>, H: Handler<Args>>(
     rooms: &mut Rooms,
     out: &mut Vec<u8>,
 ) -> AnsweredRest
-where
-    H::Output: Responder<A>,
     requires start { start ≤ length buffer.now }
     requires progress { IsProgress limits.now (drop start buffer.now) progress }
     requires ready { H.ready handler.old }
     requires room { worker.old.made + (length buffer.now - start) < 2 ^ 64 }
     ensures ready { H.ready handler.new }
-    ensures same_promises { SamePromises (H.answers handler.old) (H.answers handler.new) }
+    ensures same_promises { H.same_promises handler.old handler.new }
     ensures place { (start ≤ result.place) × (result.place ≤ length buffer.now) }
     ensures made { worker.new.made + open_left result.left (length buffer.now - result.place)
         ≤ worker.old.made + (length buffer.now - start) }

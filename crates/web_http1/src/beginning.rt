@@ -5,7 +5,6 @@ ghost use Rattle.std.specs.Option.{is_some};
 ghost use Rattle.http_header.specs.HeaderMap.{get};
 ghost use Rattle.web_reply.specs.ResponseBodies.{box_plain};
 ghost use Rattle.web_reply.specs.Replies.{plain_reply};
-ghost use Rattle.web_worker.specs.HandlerPromises.{SamePromises};
 ghost use Rattle.web_worker.specs.PlanPools.{with_records};
 ghost use Rattle.web_messages.specs.NextMessage.{message_of};
 ghost use Rattle.web_messages.specs.Progress.{IsProgress};
@@ -31,12 +30,11 @@ use bytes::Bytes;
 use http::StatusCode;
 use http_header::{DATE, HeaderMap, HeaderValue};
 use std::alloc::Global;
-use web_extract::FromRequest;
 use web_messages::{Head, Limits, MessageRead, Progress, read_on};
-use web_reply::{BoxBody, HttpResponse, Responder, ResponseHead};
+use web_reply::{BoxBody, HttpResponse, ResponseHead};
 use web_request::{App, Source};
 use web_texts::NoMemory;
-use web_worker::{Flight, Handler, Serves, Worker};
+use web_worker::{Flight, Serves, Service, Worker};
 
 /// What a message asks of its reply.
 #[derive(Clone, Copy)]
@@ -240,7 +238,7 @@ fn begin_reply<S: Source>(
 }
 
 /// Begins the reply to a message of this head and this body.
-fn begin_message<A: App, Args: FromRequest<A>, H: Handler<Args>>(
+fn begin_message<A: App, Args, H: Service<A, Args>>(
     alloc: Global,
     worker: &mut Worker<A>,
     handler: &mut H,
@@ -251,12 +249,10 @@ fn begin_message<A: App, Args: FromRequest<A>, H: Handler<Args>>(
     body: Bytes,
     out: &mut Vec<u8>,
 ) -> Result<BegunReply<A::Source>, NoMemory>
-where
-    H::Output: Responder<A>,
     requires ready { H.ready handler.old }
     requires room { worker.old.made + 1 < 2 ^ 64 }
     ensures ready { H.ready handler.new }
-    ensures same_promises { SamePromises (H.answers handler.old) (H.answers handler.new) }
+    ensures same_promises { H.same_promises handler.old handler.new }
     ensures made { worker.new.made ≤ worker.old.made + 1 }
     ensures kept { worker.new ≡ with_records worker.new.serials worker.new.made worker.old }
     ensures begun { (used : ℕ)
@@ -271,7 +267,7 @@ where
 }
 
 /// Begins the reply to the next message, which has this head and this body, and so many bytes.
-fn begin_turn<A: App, Args: FromRequest<A>, H: Handler<Args>>(
+fn begin_turn<A: App, Args, H: Service<A, Args>>(
     alloc: Global,
     worker: &mut Worker<A>,
     handler: &mut H,
@@ -283,12 +279,10 @@ fn begin_turn<A: App, Args: FromRequest<A>, H: Handler<Args>>(
     used: usize,
     out: &mut Vec<u8>,
 ) -> BegunTurn<A::Source>
-where
-    H::Output: Responder<A>,
     requires ready { H.ready handler.old }
     requires room { worker.old.made + 1 < 2 ^ 64 }
     ensures ready { H.ready handler.new }
-    ensures same_promises { SamePromises (H.answers handler.old) (H.answers handler.new) }
+    ensures same_promises { H.same_promises handler.old handler.new }
     ensures made { worker.new.made ≤ worker.old.made + 1 }
     ensures kept { worker.new ≡ with_records worker.new.serials worker.new.made worker.old }
     ensures turned { BeginsMessage (⟦<H as Serves<A, Args>>⟧.setting handler.old worker.old)
@@ -303,7 +297,7 @@ where
 }
 
 /// Begins what is next at the front of the bytes, where it is known.
-pub(crate) fn begin_step<A: App, Args: FromRequest<A>, H: Handler<Args>>(
+pub(crate) fn begin_step<A: App, Args, H: Service<A, Args>>(
     alloc: Global,
     worker: &mut Worker<A>,
     handler: &mut H,
@@ -315,13 +309,11 @@ pub(crate) fn begin_step<A: App, Args: FromRequest<A>, H: Handler<Args>>(
     flights: &mut Vec<Flight<A, Args, H>>,
     out: &mut Vec<u8>,
 ) -> BegunTurn<A::Source>
-where
-    H::Output: Responder<A>,
     requires progress { IsProgress limits.now rest.now progress }
     requires ready { H.ready handler.old }
     requires room { worker.old.made + length rest.now < 2 ^ 64 }
     ensures ready { H.ready handler.new }
-    ensures same_promises { SamePromises (H.answers handler.old) (H.answers handler.new) }
+    ensures same_promises { H.same_promises handler.old handler.new }
     ensures made { worker.new.made + begun_left result (length rest.now)
         ≤ worker.old.made + length rest.now }
     ensures kept { worker.new ≡ with_records worker.new.serials worker.new.made worker.old }

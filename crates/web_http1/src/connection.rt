@@ -1,6 +1,5 @@
 //! A connection whose bytes come in pieces.
 ghost use Rattle.std.specs.Prelude.{◌≡◌, ◌+◌, ◌++◌, ◌<◌, ◌≤◌, ◌^◌, OnErr, OnOk, Some, length};
-ghost use Rattle.web_worker.specs.HandlerPromises.{SamePromises};
 ghost use Rattle.web_worker.specs.PlanPools.{with_records};
 ghost use Rattle.web_http1.specs.BegunReplies.{AddsNothing};
 ghost use Rattle.web_http1.specs.BegunAnswers.{AllHaveTheirLength, BeginsNext, BegunSteps};
@@ -29,12 +28,10 @@ use crate::settings::ReplySettings;
 use std::alloc::Global;
 use std::marker::Model;
 use std::mem;
-use web_extract::FromRequest;
 use web_messages::{HeadRoom, Limits, Progress};
-use web_reply::Responder;
 use web_request::App;
 use web_texts::NoMemory;
-use web_worker::{Handler, Serves, Worker};
+use web_worker::{Serves, Service, Worker};
 
 /// Puts a value in the place of another.
 fn put_in<T: Drop>(place: &mut T, value: T)
@@ -213,19 +210,17 @@ impl Connection {
     /// bytes as it may have. It ends after a reply that closes, and after a refusal. Where an
     /// allocation failed it ends too, with `Ended::NoMemory`. Of empty lines before a head no more
     /// are kept than a head may have.
-    pub fn answer<A: App, Args: FromRequest<A>, H: Handler<Args>>(
+    pub fn answer<A: App, Args, H: Service<A, Args>>(
         &mut self,
         alloc: Global,
         worker: &mut Worker<A>,
         handler: &mut H,
         out: &mut Vec<u8>,
     )
-    where
-        H::Output: Responder<A>,
         requires ready { H.ready handler.old }
         requires room { worker.old.made + bytes_open self.old < 2 ^ 64 }
         ensures ready { H.ready handler.new }
-        ensures same_promises { SamePromises (H.answers handler.old) (H.answers handler.new) }
+        ensures same_promises { H.same_promises handler.old handler.new }
         ensures made { worker.new.made + bytes_open self.new
             ≤ worker.old.made + bytes_open self.old }
         ensures kept { worker.new ≡ with_records worker.new.serials worker.new.made worker.old }
@@ -264,19 +259,17 @@ impl Connection {
     /// Writes the reply to the next message, where it is whole, or the reply of a refusal that no
     /// byte that follows can lift: at most one reply. A loop that sends it and then calls again has
     /// one reply in memory at a time.
-    pub fn answer_next<A: App, Args: FromRequest<A>, H: Handler<Args>>(
+    pub fn answer_next<A: App, Args, H: Service<A, Args>>(
         &mut self,
         alloc: Global,
         worker: &mut Worker<A>,
         handler: &mut H,
         out: &mut Vec<u8>,
     ) -> Answered
-    where
-        H::Output: Responder<A>,
         requires ready { H.ready handler.old }
         requires room { worker.old.made + bytes_open self.old < 2 ^ 64 }
         ensures ready { H.ready handler.new }
-        ensures same_promises { SamePromises (H.answers handler.old) (H.answers handler.new) }
+        ensures same_promises { H.same_promises handler.old handler.new }
         ensures made { worker.new.made + bytes_open self.new
             ≤ worker.old.made + bytes_open self.old }
         ensures kept { worker.new ≡ with_records worker.new.serials worker.new.made worker.old }
@@ -346,7 +339,7 @@ impl Connection {
     /// body that is not in memory is handed back, with the connection, and written piece by piece.
     /// Its length is stated if the response states it. Otherwise it is written in chunks, or to
     /// HTTP/1.0 until the connection ends.
-    pub fn begin_next<A: App, Args: FromRequest<A>, H: Handler<Args>>(
+    pub fn begin_next<A: App, Args, H: Service<A, Args>>(
         self,
         alloc: Global,
         worker: &mut Worker<A>,
@@ -354,12 +347,10 @@ impl Connection {
         settings: &ReplySettings,
         out: &mut Vec<u8>,
     ) -> Begun<A::Source>
-    where
-        H::Output: Responder<A>,
         requires ready { H.ready handler.old }
         requires room { worker.old.made + bytes_open self < 2 ^ 64 }
         ensures ready { H.ready handler.new }
-        ensures same_promises { SamePromises (H.answers handler.old) (H.answers handler.new) }
+        ensures same_promises { H.same_promises handler.old handler.new }
         ensures made { worker.new.made + bytes_open (after_begun result)
             ≤ worker.old.made + bytes_open self }
         ensures kept { worker.new ≡ with_records worker.new.serials worker.new.made worker.old }
@@ -383,7 +374,7 @@ impl Connection {
     }
 
     /// One step over the bytes that are left, which stay.
-    fn begin<A: App, Args: FromRequest<A>, H: Handler<Args>>(
+    fn begin<A: App, Args, H: Service<A, Args>>(
         &mut self,
         alloc: Global,
         worker: &mut Worker<A>,
@@ -391,13 +382,11 @@ impl Connection {
         settings: &ReplySettings,
         out: &mut Vec<u8>,
     ) -> BegunTurn<A::Source>
-    where
-        H::Output: Responder<A>,
         requires ready { H.ready handler.old }
         requires room { worker.old.made + length self.old.left < 2 ^ 64 }
         ensures same { self.new ≡ self.old }
         ensures ready { H.ready handler.new }
-        ensures same_promises { SamePromises (H.answers handler.old) (H.answers handler.new) }
+        ensures same_promises { H.same_promises handler.old handler.new }
         ensures made { worker.new.made + begun_left result (length self.old.left)
             ≤ worker.old.made + length self.old.left }
         ensures kept { worker.new ≡ with_records worker.new.serials worker.new.made worker.old }

@@ -10,10 +10,8 @@ ghost use Rattle.web_http1.specs.Connections.{ConnectionView, WaitsForMore, open
 ghost use Rattle.web_http1.specs.Serving.{AnswersAll};
 ghost use Rattle.web_http1.specs.declared.ended.Ended.{Ended as EndedAs};
 
-use web_extract::FromRequest;
-use web_reply::Responder;
 use web_request::App;
-use web_worker::{Handler, Serves};
+use web_worker::{Serves, Service};
 
 /// A connection took pieces by `Connection::feed`, and after each `Connection::answer` was called.
 /// What was written by then is a prefix of the answers of all bytes that came and may follow. It
@@ -21,9 +19,7 @@ use web_worker::{Handler, Serves};
 /// the answers of all bytes, or a prefix of them where an allocation failed.
 ///
 /// The contract is a law, over the clauses of these calls; there is nothing to call it for.
-pub fn pieces_law<A: App, Args: FromRequest<A>, H: Handler<Args>>()
-where
-    H::Output: Responder<A>,
+pub fn pieces_law<A: App, Args, H: Service<A, Args>>()
     ensures prefix { (handler : H) (pool : Pool A.Layer) (limits : LimitsOf)
         (pieces : List (List ℕ)) (new : ConnectionView) (given : List ℕ)
         → Fed (⟦<H as Serves<A, Args>>⟧.setting handler pool) (open_at limits []) pieces new given
@@ -49,9 +45,7 @@ where
 /// writes it is the answers of all bytes, or a prefix of them where an allocation failed.
 ///
 /// The contract is a law, over the clauses of these calls; there is nothing to call it for.
-pub fn calls_law<A: App, Args: FromRequest<A>, H: Handler<Args>>()
-where
-    H::Output: Responder<A>,
+pub fn calls_law<A: App, Args, H: Service<A, Args>>()
     ensures prefix { (handler : H) (pool : Pool A.Layer) (limits : LimitsOf)
         (calls : List Call) (new : ConnectionView) (given : List ℕ)
         → Called (⟦<H as Serves<A, Args>>⟧.setting handler pool) (open_at limits []) calls new given
@@ -76,9 +70,7 @@ where
 /// has the bytes of one that is collected, where each body has the length that it states.
 ///
 /// The contract is a law, over the clauses of these calls; there is nothing to call it for.
-pub fn begun_calls_law<A: App, Args: FromRequest<A>, H: Handler<Args>>()
-where
-    H::Output: Responder<A>,
+pub fn begun_calls_law<A: App, Args, H: Service<A, Args>>()
     ensures prefix { (handler : H) (pool : Pool A.Layer) (limits : LimitsOf)
         (calls : List Call) (new : ConnectionView) (given : List ℕ)
         → CalledOrBegun (⟦<H as Serves<A, Args>>⟧.setting handler pool) (open_at limits [])

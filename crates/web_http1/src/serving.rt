@@ -3,7 +3,6 @@ ghost use Rattle.std.specs.Prelude.{◌≡◌, ◌+◌, ◌-◌, ◌<◌, ◌≤
 ghost use Rattle.std.specs.Prelude.{length, true};
 ghost use Rattle.web_request.specs.Body.{ends_in_fault, piece_bytes};
 ghost use Rattle.web_request.specs.declared.source.Mark.{Mark as MarkOf};
-ghost use Rattle.web_worker.specs.HandlerPromises.{SamePromises};
 ghost use Rattle.web_worker.specs.PlanPools.{with_records};
 ghost use Rattle.web_http1.specs.Connections.{open_bytes};
 ghost use Rattle.web_http1.specs.ConnectionSteps.{TakesPiece};
@@ -14,14 +13,12 @@ use crate::connection::Connection;
 use crate::ended::Ended;
 use bytes::Bytes;
 use std::alloc::Global;
-use web_extract::FromRequest;
 use web_messages::{HeadRoom, Limits};
-use web_reply::Responder;
 use web_request::{App, Source, Turn};
-use web_worker::{Handler, Serves, Worker};
+use web_worker::{Serves, Service, Worker};
 
 /// Takes a piece, and answers what is whole then. Returns how the connection ended, if it did.
-fn take_piece<A: App, Args: FromRequest<A>, H: Handler<Args>>(
+fn take_piece<A: App, Args, H: Service<A, Args>>(
     alloc: Global,
     worker: &mut Worker<A>,
     handler: &mut H,
@@ -29,13 +26,11 @@ fn take_piece<A: App, Args: FromRequest<A>, H: Handler<Args>>(
     piece: &Bytes,
     out: &mut Vec<u8>,
 ) -> Option<Ended>
-where
-    H::Output: Responder<A>,
     requires unended { connection.old.ended ≡ None }
     requires ready { H.ready handler.old }
     requires room { worker.old.made + (length connection.old.left + length piece.now) < 2 ^ 64 }
     ensures ready { H.ready handler.new }
-    ensures same_promises { SamePromises (H.answers handler.old) (H.answers handler.new) }
+    ensures same_promises { H.same_promises handler.old handler.new }
     ensures made { worker.new.made + open_bytes result (length connection.new.left)
         ≤ worker.old.made + (length connection.old.left + length piece.now) }
     ensures kept { worker.new ≡ with_records worker.new.serials worker.new.made worker.old }
@@ -58,7 +53,7 @@ where
 ///
 /// Its header maps have keys of zero, for senders that do not choose names that collide;
 /// `serve_connection_with` takes keys.
-pub fn serve_connection<A: App, Args: FromRequest<A>, H: Handler<Args>, S: Source>(
+pub fn serve_connection<A: App, Args, H: Service<A, Args>, S: Source>(
     alloc: Global,
     worker: &mut Worker<A>,
     handler: &mut H,
@@ -66,12 +61,10 @@ pub fn serve_connection<A: App, Args: FromRequest<A>, H: Handler<Args>, S: Sourc
     source: &mut S,
     out: &mut Vec<u8>,
 ) -> Ended
-where
-    H::Output: Responder<A>,
     requires ready { H.ready handler.old }
     requires room { worker.old.made ≤ 2 ^ 63 }
     ensures ready { H.ready handler.new }
-    ensures same_promises { SamePromises (H.answers handler.old) (H.answers handler.new) }
+    ensures same_promises { H.same_promises handler.old handler.new }
     ensures whole { (marks : List MarkOf) → (S.feed source.old).marks ≡ Some marks
         → ends_in_fault marks ≡ false
         → AnswersAll (⟦<H as Serves<A, Args>>⟧.setting handler.old worker.old) limits
@@ -93,7 +86,7 @@ where
 }
 
 /// As `serve_connection`, with header maps of the keys that the room has.
-pub fn serve_connection_with<A: App, Args: FromRequest<A>, H: Handler<Args>, S: Source>(
+pub fn serve_connection_with<A: App, Args, H: Service<A, Args>, S: Source>(
     alloc: Global,
     worker: &mut Worker<A>,
     handler: &mut H,
@@ -102,12 +95,10 @@ pub fn serve_connection_with<A: App, Args: FromRequest<A>, H: Handler<Args>, S: 
     source: &mut S,
     out: &mut Vec<u8>,
 ) -> Ended
-where
-    H::Output: Responder<A>,
     requires ready { H.ready handler.old }
     requires room { worker.old.made ≤ 2 ^ 63 }
     ensures ready { H.ready handler.new }
-    ensures same_promises { SamePromises (H.answers handler.old) (H.answers handler.new) }
+    ensures same_promises { H.same_promises handler.old handler.new }
     ensures whole { (marks : List MarkOf) → (S.feed source.old).marks ≡ Some marks
         → ends_in_fault marks ≡ false
         → AnswersAll (⟦<H as Serves<A, Args>>⟧.setting handler.old worker.old) limits

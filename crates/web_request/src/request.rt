@@ -140,6 +140,16 @@ impl<A: App> HttpRequest<A> {
         self.params.as_slice()
     }
 
+    /// Sets the parameters that a router matched in the path, not decoded, in place of those that
+    /// the request has.
+    pub fn set_match_info(&mut self, params: Vec<Pair>)
+        ensures { self.new ≡ record self.old {
+          request = record self.old.request { params = params.items };
+        } }
+    {
+        self.params = params;
+    }
+
     /// The `T` of the last layer that holds one. The root layer is the first.
     pub fn app_data<T>(&self) -> Option<&T>
     where

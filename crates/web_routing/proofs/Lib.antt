@@ -1,5 +1,6 @@
+pub mod RouteTableLemmas
+pub mod RouterLemmas
 pub mod ServiceLemmas
 pub mod ServiceLawLemmas
-pub mod ServiceFlightLemmas
 pub mod ServedLemmas
 pub mod StateLemmas

@@ -13,10 +13,10 @@ use Rattle.web_worker.specs.ExchangeRules.{Rules, After, ComesBefore}
 use Rattle.web_worker.specs.Exchanges.{ExchangeView}
 use Rattle.web_worker.specs.OutcomeFunctions.{AnswersOnce}
 use Rattle.web_worker.specs.Setting.{Setting}
-use Rattle.web_routing.specs.HandlerServices.{AnswersOnly, LeadsTo, RepliesOnly, RespondsOnly}
-use Rattle.web_routing.specs.HandlerServices.{request_promise}
-use Rattle.web_routing.specs.ServicePromises.{Once, Promise}
-use Rattle.web_routing.specs.ServiceRoutes.{changed, chosen_promise}
+use Rattle.web_routing.specs.ReplyFunctions.{AnswersOnly, LeadsTo, RepliesOnly, RespondsOnly}
+use Rattle.web_worker.specs.HandlerServices.{request_promise}
+use Rattle.web_worker.specs.ServicePromises.{Once, Promise}
+use Rattle.web_routing.specs.ServiceRoutes.{changed, chosen_promise, whole_promise}
 
 seen_itself : {T : Type 0} (M : Meaning T) (m rest : List Mark) (v : DelayedResult T)
     → Exactly M m rest v → SeenAs (λ x. x) M m rest v
@@ -110,26 +110,26 @@ module _ {L D C V E Y : Type 0} (R : Rules L D C V E Y) (q : Request L D C) wher
       (at.0, λ s c. responds s (subst (λ (t : Y). R.responds t q s) at.1 c)))
 
 -- what a worker says of an exchange whose marks are stated
-pub bridged : {S L D C V E Y U W : Type 0} (s : Setting S L D C V E Y U W)
+pub bridged : {S L D C V K : Type 0} (s : Setting S L D C V K)
     (x : ExchangeView S L D C) (m : List Mark) (d : ℕ) (r : Reply Plain)
     → (payload_feed s.feed x.body).marks ≡ Some m
-    → Once (request_promise s.rules (s.request x) m) d r → AnswersOnce s x d r
+    → Once (s.promise (s.request x) m) d r → AnswersOnce s x d r
 bridged s x m d r e o = record {
   once = λ k p g. o.once k p (rw e at g);
   comes = λ n h. rw e (o.comes n h);
 }
 
-pub once_chosen : (b : Bool) (first other : Promise) (d : ℕ) (r : Reply Plain) → b ≡ true
+pub once_chosen : {V : Type 0} (b : Bool) (first other : Promise V) (d : ℕ) (r : Reply Plain) → b ≡ true
     → Once first d r → Once (chosen_promise b first other) d r
 once_chosen true first other d r e o = o
 once_chosen false first other d r e o = absurd cc
 
-pub once_other : (b : Bool) (first other : Promise) (d : ℕ) (r : Reply Plain) → b ≡ false
+pub once_other : {V : Type 0} (b : Bool) (first other : Promise V) (d : ℕ) (r : Reply Plain) → b ≡ false
     → Once other d r → Once (chosen_promise b first other) d r
 once_other true first other d r e o = absurd cc
 once_other false first other d r e o = o
 
-pub once_changed : (changes : Reply Plain → Reply Plain → Type 0) (p : Promise) (d : ℕ)
+pub once_changed : {V : Type 0} (changes : Reply Plain → Reply Plain → Type 0) (p : Promise V) (d : ℕ)
     (r t : Reply Plain) → Once p d r → ((u : Reply Plain) → changes r u → u ≡ t)
     → Once (changed changes p) d t
 once_changed changes p d r t o only = record {
@@ -146,3 +146,8 @@ pub member_seen : {T U : Type 0} (view : T → U) (M : Meaning T) (m rest : List
 member_seen view M m rest v seen left n (Ok x) h = seen left n (Ok x) h
 member_seen view M m rest v seen left n (Err x) h =
     seen left n (Err x) (subst (λ (z : Fault). M m left n (Err z)) (sym h.2) h.1)
+
+-- a service of whole requests promises the same replies
+pub once_whole : {V : Type 0} (p : Promise V) (d : ℕ) (r : Reply Plain) → Once p d r
+    → Once (whole_promise p) d r
+once_whole p d r o = record { once = o.once; comes = o.comes }

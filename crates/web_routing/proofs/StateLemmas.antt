@@ -1,11 +1,15 @@
 -- The states of a route and of a service whose replies are changed.
-use Rattle.std.proofs.Common.{inl, inr}
-use Rattle.std.specs.Prelude.{Option, None, Some}
+use Rattle.std.proofs.Common.{◌≡◌, refl, inl, inr}
+use Rattle.std.specs.Prelude.{Option, None, Some, Result, Ok}
+use Rattle.web_texts.specs.declared.memory.NoMemory.{NoMemory as Wanting}
 use Rattle.web_reply.specs.ResponseBodies.{Plain}
-use Rattle.web_reply.specs.Replies.{Reply}
+use Rattle.web_reply.specs.Replies.{Fault, Reply}
+use Rattle.web_reply.specs.Responders.{Refuses}
 use Rattle.web_routing.specs.ServiceRoutes.{ChangedSteps, changed_states}
-use Rattle.web_routing.specs.StateServices.{kept_states}
-use Rattle.web_routing.specs.ServiceStates.{MayStep, SameSteps, States, Steps}
+use Rattle.web_routing.specs.StateServices.{StateSteps, kept_states}
+use Rattle.web_worker.specs.Outcomes.{OutcomeMeets, OutcomeView, OutcomeView.Replied}
+use Rattle.web_worker.specs.Outcomes.{OutcomeView.Unfinished, OutcomeView.NoMemory}
+use Rattle.web_worker.specs.ServiceStates.{MayStep, MovesTo, SameSteps, States, Steps}
 
 module _ {X Q : Type 0} (changes : Q → Reply Plain → Reply Plain → Type 0)
     (a b : X → Q → Option (Reply Plain) → X → Type 0)
@@ -37,3 +41,23 @@ pub state_lost : {H Q : Type 0} (steps : H → Q → Option (Reply Plain) → H 
     → steps a q None b → MayStep (kept_states (λ h. h) steps) q a b
 state_lost steps a b q s =
     inr (s, record { kept = λ x p r y h. h; same = λ x p r y h. h })
+
+module _ {S H V Y Q E : Type 0} (place : S → H) (replies : H → V → Result Y Wanting → H → Type 0)
+    (converts : E → Fault → Type 0) (responds : Y → Q → Reply Plain → Type 0) where
+  abbrev kept : States S Q
+  kept = kept_states place (StateSteps replies converts responds)
+
+  always : (a b : S) → SameSteps (kept.steps a) (kept.steps b)
+  always a b = record { kept = λ x p r y h. h; same = λ x p r y h. h }
+
+  pub state_replied : (a b : S) (q : Q) (v : V) (y : Y) → replies (place a) v (Ok y) (place b)
+      → (o : OutcomeView) → OutcomeMeets (λ r. responds y q r) o → MovesTo kept q o a b
+  state_replied a b q v y h (Replied r) m = (inr (v, y, h, m), always a b)
+  state_replied a b q v y h Unfinished m = absurd m
+  state_replied a b q v y h NoMemory m = inr ((v, Ok y, h), always a b)
+
+  pub state_refused : (a : S) (q : Q) (e : E) (o : OutcomeView)
+      → OutcomeMeets (λ r. Refuses converts e r) o → MovesTo kept q o a a
+  state_refused a q e (Replied r) m = (inl (refl, e, m), always a a)
+  state_refused a q e Unfinished m = absurd m
+  state_refused a q e NoMemory m = inl (refl, always a a)

@@ -1,10 +1,9 @@
-pub mod HandlerServices
 pub mod ImmediateAnswers
+pub mod ReplyFunctions
 pub mod ReplyHeaders
 pub mod RequestPaths
+pub mod RouteTables
+pub mod RoutedPaths
 pub mod ServedExchanges
-pub mod ServiceFlights
-pub mod ServicePromises
 pub mod ServiceRoutes
-pub mod ServiceStates
 pub mod StateServices

@@ -1,10 +1,14 @@
 -- Services with a state, which replies to arguments and is another afterwards.
-use Rattle.std.specs.Prelude.{◌≡◌, ◌⊎◌, ℕ, Option, None, Some, Result, Ok}
+use Rattle.std.specs.Prelude.{◌≡◌, ◌⊎◌, ℕ, Option, None, Some, Result, Ok, Bool, false}
 use Rattle.web_texts.specs.declared.memory.NoMemory.{NoMemory}
 use Rattle.web_reply.specs.ResponseBodies.{Plain}
 use Rattle.web_reply.specs.Replies.{Fault, Reply}
 use Rattle.web_reply.specs.Responders.{Refuses}
-use Rattle.web_routing.specs.ServiceStates.{States}
+use Rattle.web_body.specs.PollSteps.{GivesSome}
+use Rattle.web_request.specs.Request.{Request}
+use Rattle.web_worker.specs.ExchangeRules.{Rules}
+use Rattle.web_worker.specs.HandlerServices.{extracting_promise, comes_never}
+use Rattle.web_worker.specs.ServiceStates.{States}
 
 module _ {H V Y : Type 0} (replies : H → V → Result Y NoMemory → H → Type 0) where
   -- in some state it gives this value, at once
@@ -28,3 +32,11 @@ kept_states {S} {H} place steps = record {
   state = place;
   steps = λ s a q r b. steps a q r b;
 }
+
+-- a call whose future is not finished cannot have come before the first poll
+pub extracting_open : {L D C V E Y U : Type 0} (R : Rules L D C V E Y)
+    (extracts : U → ℕ → Result V E → Type 0) (u : U → Bool)
+    → ((f : U) → u f ≡ false → GivesSome (extracts f)) → (f : U) (q : Request L D C)
+    → u f ≡ false → (extracting_promise R extracts f q).before 0 → ⊥
+extracting_open R extracts u some f q h before =
+    some f h (λ n x gives. comes_never R n x (before n x gives))

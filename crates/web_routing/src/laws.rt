@@ -12,19 +12,18 @@ ghost use Rattle.web_extract.specs.ListResults.{Exactly, greatest};
 ghost use Rattle.web_extract.specs.SeenResults.{SeenAs};
 ghost use Rattle.web_worker.specs.Exchanges.{ExchangeView, request_of};
 ghost use Rattle.web_worker.specs.OutcomeFunctions.{AnswersOnce};
-ghost use Rattle.web_routing.specs.HandlerServices.{AnswersOnly, LeadsTo, RepliesOnly};
-ghost use Rattle.web_routing.specs.HandlerServices.{RespondsOnly};
-ghost use Rattle.web_routing.specs.HandlerServices.{request_promise, rules_of};
-ghost use Rattle.web_routing.specs.ServicePromises.{Once};
+ghost use Rattle.web_worker.specs.HandlerServices.{request_promise, rules_of};
+ghost use Rattle.web_worker.specs.ServicePromises.{Once};
+ghost use Rattle.web_routing.specs.ReplyFunctions.{AnswersOnly, LeadsTo, RepliesOnly};
+ghost use Rattle.web_routing.specs.ReplyFunctions.{RespondsOnly};
 ghost use Rattle.web_routing.specs.ServiceRoutes.{changed, chosen_promise};
 
 use crate::route::Choose;
-use crate::service::Service;
 use crate::wrap::Change;
 use web_extract::{FromRequest, View, list_law};
 use web_reply::{Error, Responder};
 use web_request::App;
-use web_worker::{Handler, Serves};
+use web_worker::{Handler, Serves, Service, Whole};
 
 /// What the service of a handler gives a request whose payload has these marks, where the
 /// arguments, the handler and its value allow one thing: the reply comes after the delays of both.
@@ -72,7 +71,7 @@ where
 {}
 
 /// A route gives what the service that is chosen gives.
-pub fn route_law<A: App, C: Choose<A>, S: Service<A>, T: Service<A>>()
+pub fn route_law<A: App, C: Choose<A>, S: Service<A, Whole>, T: Service<A, Whole>>()
     ensures first { (c : C) (a : S) (b : T) (q : Request A.Layer A.Local A.Conn) (m : List Mark)
         (d : ℕ) (r : Reply Plain) → C.chosen c q ≡ true → Once (S.promise a q m) d r
         → Once (chosen_promise (C.chosen c q) (S.promise a q m) (T.promise b q m)) d r }
@@ -82,7 +81,7 @@ pub fn route_law<A: App, C: Choose<A>, S: Service<A>, T: Service<A>>()
 {}
 
 /// A wrapped service gives the changed reply after the same delay.
-pub fn wrap_law<A: App, S: Service<A>, F: Change<A>>()
+pub fn wrap_law<A: App, S: Service<A, Whole>, F: Change<A>>()
     ensures { (a : S) (f : F) (q : Request A.Layer A.Local A.Conn) (m : List Mark) (d : ℕ)
         (r t : Reply Plain) → Once (S.promise a q m) d r
         → ((u : Reply Plain) → F.changes f (S.completed a q) r u → u ≡ t)

@@ -2,31 +2,33 @@
 //! and what changes their replies.
 #![tactic(auto)]
 
-mod answering;
-mod flight;
 mod handler_service;
 mod immediate;
 mod laws;
 mod path_is;
 mod route;
+mod route_table;
+mod router;
 mod scope;
-mod service;
+mod services;
 mod serving;
 mod set_header;
 mod state_service;
 mod three_routes;
 mod wrap;
 
-pub use flight::{Stage, StageOf, poll_stage};
-pub use handler_service::{HandlerService, Work};
+pub use handler_service::HandlerService;
 pub use immediate::Immediate;
 pub use laws::{exchange_law, route_law, two_arguments_law, wrap_law};
 pub use path_is::{Any, Both, MethodIs, PathBelow, PathIs};
 pub use route::{Choose, OneOf, Route};
+pub use route_table::{Found, RouteError, RouteTable};
+pub use router::{Router, RouterCall};
 pub use scope::Scope;
-pub use service::Service;
+pub use services::{Only, Services, Two};
 pub use serving::serve_to_end;
 pub use set_header::SetHeader;
 pub use state_service::{StateHandler, StateService};
 pub use three_routes::{Site, first_route_law};
+pub use web_worker::{Service, Whole};
 pub use wrap::{Change, Wrap};

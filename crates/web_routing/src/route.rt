@@ -1,10 +1,9 @@
 //! One of two services, chosen by the request. Nested, it is one of many.
-use crate::service::Service;
 use std::alloc::Global;
-use web_body::{Payload, Step};
-use web_reply::{BoxBody, HttpResponse};
+use web_body::Payload;
 use web_request::{App, HttpRequest};
 use web_texts::NoMemory;
+use web_worker::{Outcome, Service, Whole};
 
 /// A value of one of two types.
 #[derive(Drop)]
@@ -52,10 +51,12 @@ impl<C, S, T> Route<C, S, T> {
     }
 }
 
-impl<A: App, C: Choose<A>, S: Service<A>, T: Service<A>> Service<A> for Route<C, S, T> {
+impl<A: App, C: Choose<A>, S: Service<A, Whole>, T: Service<A, Whole>> Service<A, Whole>
+    for Route<C, S, T> {
+    ghost use Rattle.std.specs.Prelude.{◌≡◌, refl};
     ghost use Rattle.web_routing.specs.ServiceRoutes.{both_states, chosen_promise};
     ghost use Rattle.web_routing.specs.ServiceRoutes.{chosen_request, one_finished, one_open};
-    ghost use Rattle.web_routing.specs.ServiceRoutes.{one_promise};
+    ghost use Rattle.web_routing.specs.ServiceRoutes.{one_promise, route_keeps, same_still};
 
     type Call = OneOf<S::Call, T::Call>;
 
@@ -73,8 +74,26 @@ impl<A: App, C: Choose<A>, S: Service<A>, T: Service<A>> Service<A> for Route<C,
 
     ghost states = { both_states (λ s. s.first) (λ s. s.other) S.states T.states };
 
+    ghost same_promises = { λ a b. (b.chooser ≡ a.chooser)
+        × S.same_promises a.first b.first × T.same_promises a.other b.other };
+
     ghost open = { λ s c q. one_open S.is_finished T.is_finished (S.left s.first) (T.left s.other)
         (S.open s.first) (T.open s.other) c q };
+
+    ghost same_itself = { λ a. (refl, S.same_itself a.first, T.same_itself a.other) };
+
+    ghost same_on = { λ a b c f g. (
+      same_still f.0 g.0,
+      S.same_on a.first b.first c.first f.1 g.1,
+      T.same_on a.other b.other c.other f.2 g.2,
+    ) };
+
+    ghost keeps = { λ a b same. route_keeps C.chosen a.chooser b.chooser
+        (S.completed a.first) (S.completed b.first) (S.promise a.first) (S.promise b.first)
+        (S.left a.first) (S.left b.first)
+        (T.completed a.other) (T.completed b.other) (T.promise a.other) (T.promise b.other)
+        (T.left a.other) (T.left b.other) same.0
+        (S.keeps a.first b.first same.1) (T.keeps a.other b.other same.2) };
 
     fn begin(
         &mut self,
@@ -94,10 +113,11 @@ impl<A: App, C: Choose<A>, S: Service<A>, T: Service<A>> Service<A> for Route<C,
         alloc: Global,
         call: &mut OneOf<S::Call, T::Call>,
         request: &HttpRequest<A>,
-    ) -> Step<HttpResponse<BoxBody<A::Source>>> {
+        outcome: &mut Outcome<A>,
+    ) {
         match call {
-            OneOf::First(call) => self.first.poll(alloc, call, request),
-            OneOf::Other(call) => self.other.poll(alloc, call, request),
+            OneOf::First(call) => self.first.poll(alloc, call, request, outcome),
+            OneOf::Other(call) => self.other.poll(alloc, call, request, outcome),
         }
     }
 }

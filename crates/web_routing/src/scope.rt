@@ -1,11 +1,10 @@
 //! Services whose requests have a layer of their own.
-use crate::service::Service;
 use std::alloc::Global;
 use std::rc::Rc;
-use web_body::{Payload, Step};
-use web_reply::{BoxBody, HttpResponse};
+use web_body::Payload;
 use web_request::{App, HttpRequest};
 use web_texts::NoMemory;
+use web_worker::{Outcome, Service, Whole};
 
 /// A service whose requests have one more layer, the nearest: its configurations and data come
 /// before those of the layers that the request has.
@@ -27,8 +26,10 @@ impl<L, S> Scope<L, S> {
     }
 }
 
-impl<A: App, S: Service<A>> Service<A> for Scope<A::Layer, S> {
-    ghost use Rattle.web_routing.specs.ServiceRoutes.{inner_states, with_layer};
+impl<A: App, S: Service<A, Whole>> Service<A, Whole> for Scope<A::Layer, S> {
+    ghost use Rattle.std.specs.Prelude.{◌≡◌, refl};
+    ghost use Rattle.web_routing.specs.ServiceRoutes.{inner_states, same_still, with_keeps};
+    ghost use Rattle.web_routing.specs.ServiceRoutes.{with_layer};
 
     type Call = S::Call;
 
@@ -44,7 +45,21 @@ impl<A: App, S: Service<A>> Service<A> for Scope<A::Layer, S> {
 
     ghost states = { inner_states (λ s. s.inner) S.states };
 
+    ghost same_promises = { λ a b. (b.layer.value ≡ a.layer.value)
+        × S.same_promises a.inner b.inner };
+
     ghost open = { λ s c q h before. S.open s.inner c q h before };
+
+    ghost same_itself = { λ a. (refl, S.same_itself a.inner) };
+
+    ghost same_on = { λ a b c f g. (
+      same_still f.0 g.0,
+      S.same_on a.inner b.inner c.inner f.1 g.1,
+    ) };
+
+    ghost keeps = { λ a b same. with_keeps with_layer a.layer.value b.layer.value
+        (S.completed a.inner) (S.completed b.inner) (S.promise a.inner) (S.promise b.inner)
+        (S.left a.inner) (S.left b.inner) same.0 (S.keeps a.inner b.inner same.1) };
 
     fn begin(
         &mut self,
@@ -61,7 +76,8 @@ impl<A: App, S: Service<A>> Service<A> for Scope<A::Layer, S> {
         alloc: Global,
         call: &mut S::Call,
         request: &HttpRequest<A>,
-    ) -> Step<HttpResponse<BoxBody<A::Source>>> {
-        self.inner.poll(alloc, call, request)
+        outcome: &mut Outcome<A>,
+    ) {
+        self.inner.poll(alloc, call, request, outcome);
     }
 }

@@ -1,13 +1,12 @@
 //! Services that keep a state from one request to the next.
-use crate::answering::{refuse, respond};
-use crate::service::Service;
 use std::alloc::Global;
 use std::marker::PhantomData;
 use web_body::{Payload, Poll, Step};
 use web_extract::FromRequest;
-use web_reply::{BoxBody, HttpResponse, Responder};
+use web_reply::Responder;
 use web_request::{App, HttpRequest};
 use web_texts::NoMemory;
+use web_worker::{Outcome, Service, Whole, error_outcome, response_outcome};
 
 /// A state that replies to arguments, and may be another afterwards. Its value is there at once.
 pub trait StateHandler<Args>: Drop {
@@ -48,30 +47,46 @@ impl<Args, H> StateService<Args, H> {
     }
 }
 
-impl<A: App, Args: FromRequest<A>, H: StateHandler<Args>> Service<A> for StateService<Args, H>
+impl<A: App, Args: FromRequest<A>, H: StateHandler<Args>> Service<A, Whole>
+    for StateService<Args, H>
 where
     H::Output: Responder<A>,
 {
-    ghost use Rattle.web_routing.specs.HandlerServices.{arguments_open, arguments_promise};
-    ghost use Rattle.web_routing.specs.HandlerServices.{request_promise, rules_of};
+    ghost use Rattle.std.specs.Prelude.{⊤};
+    ghost use Rattle.web_worker.specs.HandlerServices.{extracting_promise, request_promise};
+    ghost use Rattle.web_worker.specs.HandlerServices.{rules_of};
+    ghost use Rattle.web_routing.specs.ServiceRoutes.{itself_keeps, whole_promise};
     ghost use Rattle.web_routing.specs.StateServices.{StateAnswers, StateSteps, kept_states};
+    ghost use Rattle.web_routing.specs.StateServices.{extracting_open};
 
     type Call = Args::Future;
 
-    ghost promise = { λ s q m. request_promise (rules_of Args.means Args.Error.converts
-        (StateAnswers H.replies) H.Output.responds) q m };
+    ghost promise = { λ s q m. whole_promise (request_promise (rules_of Args.means
+        Args.Error.converts (StateAnswers H.replies) H.Output.responds) q m) };
 
-    ghost left = { λ s c q. arguments_promise (rules_of Args.means Args.Error.converts
-        (StateAnswers H.replies) H.Output.responds) Args.Future.gives c q };
+    ghost left = { λ s c q. whole_promise (extracting_promise (rules_of Args.means
+        Args.Error.converts (StateAnswers H.replies) H.Output.responds) Args.Future.gives c q) };
 
     ghost is_finished = { λ c. Args.Future.is_finished c };
 
     ghost states = { kept_states (λ s. s.handler)
         (StateSteps H.replies Args.Error.converts H.Output.responds) };
 
-    ghost open = { λ s c q. arguments_open (rules_of Args.means Args.Error.converts
+    ghost same_promises = { λ a b. ⊤ };
+
+    ghost open = { λ s c q. extracting_open (rules_of Args.means Args.Error.converts
         (StateAnswers H.replies) H.Output.responds) Args.Future.gives Args.Future.is_finished
         Args.Future.some c q };
+
+    ghost same_itself = { λ a. tt };
+
+    ghost same_on = { λ a b c first second. tt };
+
+    ghost keeps = { λ a b same. itself_keeps (λ q. q)
+        (λ q m. whole_promise (request_promise (rules_of Args.means Args.Error.converts
+        (StateAnswers H.replies) H.Output.responds) q m))
+        (λ c q. whole_promise (extracting_promise (rules_of Args.means Args.Error.converts
+        (StateAnswers H.replies) H.Output.responds) Args.Future.gives c q)) };
 
     fn begin(
         &mut self,
@@ -87,21 +102,16 @@ where
         alloc: Global,
         call: &mut Args::Future,
         request: &HttpRequest<A>,
-    ) -> Step<HttpResponse<BoxBody<A::Source>>> {
+        outcome: &mut Outcome<A>,
+    ) {
         match call.poll(alloc) {
-            Step::Pending => Step::Pending,
+            Step::Pending => {}
             Step::Ready(Ok(args)) => match self.handler.reply(alloc, args) {
-                Ok(value) => match respond(alloc, value, request) {
-                    Ok(reply) => Step::Ready(reply),
-                    Err(_) => Step::NoMemory,
-                },
-                Err(_) => Step::NoMemory,
+                Ok(value) => *outcome = response_outcome(alloc, value, request),
+                Err(_) => *outcome = Outcome::NoMemory,
             },
-            Step::Ready(Err(error)) => match refuse::<A, Args::Error>(alloc, error) {
-                Ok(reply) => Step::Ready(reply),
-                Err(_) => Step::NoMemory,
-            },
-            Step::NoMemory => Step::NoMemory,
+            Step::Ready(Err(error)) => *outcome = error_outcome(alloc, error),
+            Step::NoMemory => *outcome = Outcome::NoMemory,
         }
     }
 }

@@ -6,20 +6,19 @@ ghost use Rattle.web_request.specs.Head.{head_path};
 ghost use Rattle.web_request.specs.Request.{Request};
 ghost use Rattle.web_reply.specs.ResponseBodies.{Plain};
 ghost use Rattle.web_reply.specs.Replies.{Reply};
-ghost use Rattle.web_routing.specs.HandlerServices.{request_promise, rules_of};
-ghost use Rattle.web_routing.specs.ServicePromises.{Once};
+ghost use Rattle.web_worker.specs.HandlerServices.{request_promise, rules_of};
+ghost use Rattle.web_worker.specs.ServicePromises.{Once};
 ghost use Rattle.web_routing.specs.ReplyHeaders.{with_header};
 
 use crate::handler_service::HandlerService;
 use crate::path_is::PathIs;
 use crate::route::Route;
-use crate::service::Service;
 use crate::set_header::SetHeader;
 use crate::wrap::Wrap;
 use web_extract::FromRequest;
 use web_reply::Responder;
 use web_request::App;
-use web_worker::Handler;
+use web_worker::{Handler, Service, Whole};
 
 /// The site: two paths, and all others.
 pub type Site<X, Y, Z, F, G, H> = Wrap<
@@ -45,7 +44,7 @@ where
         → bytes_eq (head_path q.head) site.now.inner.chooser.0.now ≡ true
         → Once (request_promise (rules_of X.means X.Error.converts
         (F.answers site.now.inner.first.handler) F.Output.responds) q m) d r
-        → Once (⟦<Site<X, Y, Z, F, G, H> as Service<A>>⟧.promise site.now q m) d
+        → Once (⟦<Site<X, Y, Z, F, G, H> as Service<A, Whole>>⟧.promise site.now q m) d
         (with_header site.now.change.name site.now.change.value r) }
 {
     let _site = site;

@@ -1,10 +1,10 @@
 //! A service whose replies are changed.
-use crate::service::Service;
 use std::alloc::Global;
-use web_body::{Payload, Step};
+use web_body::Payload;
 use web_reply::{BoxBody, HttpResponse};
 use web_request::{App, HttpRequest};
 use web_texts::NoMemory;
+use web_worker::{Outcome, Service, Whole};
 
 /// Changes replies, each of them: also those to refused arguments.
 pub trait Change<A: App> {
@@ -49,8 +49,10 @@ impl<S, F> Wrap<S, F> {
     }
 }
 
-impl<A: App, S: Service<A>, F: Change<A>> Service<A> for Wrap<S, F> {
-    ghost use Rattle.web_routing.specs.ServiceRoutes.{changed, changed_states};
+impl<A: App, S: Service<A, Whole>, F: Change<A>> Service<A, Whole> for Wrap<S, F> {
+    ghost use Rattle.std.specs.Prelude.{◌≡◌, refl};
+    ghost use Rattle.web_routing.specs.ServiceRoutes.{changed, changed_keeps, changed_states};
+    ghost use Rattle.web_routing.specs.ServiceRoutes.{same_still};
 
     type Call = S::Call;
 
@@ -67,7 +69,20 @@ impl<A: App, S: Service<A>, F: Change<A>> Service<A> for Wrap<S, F> {
 
     ghost states = { changed_states (λ s. s.inner) (λ s. F.changes s.change) S.states };
 
+    ghost same_promises = { λ a b. (b.change ≡ a.change) × S.same_promises a.inner b.inner };
+
     ghost open = { λ s c q h before. S.open s.inner c q h before };
+
+    ghost same_itself = { λ a. (refl, S.same_itself a.inner) };
+
+    ghost same_on = { λ a b c f g. (
+      same_still f.0 g.0,
+      S.same_on a.inner b.inner c.inner f.1 g.1,
+    ) };
+
+    ghost keeps = { λ a b same. changed_keeps F.changes a.change b.change
+        (S.completed a.inner) (S.completed b.inner) (S.promise a.inner) (S.promise b.inner)
+        (S.left a.inner) (S.left b.inner) same.0 (S.keeps a.inner b.inner same.1) };
 
     fn begin(
         &mut self,
@@ -83,17 +98,13 @@ impl<A: App, S: Service<A>, F: Change<A>> Service<A> for Wrap<S, F> {
         alloc: Global,
         call: &mut S::Call,
         request: &HttpRequest<A>,
-    ) -> Step<HttpResponse<BoxBody<A::Source>>> {
-        match self.inner.poll(alloc, call, request) {
-            Step::Pending => Step::Pending,
-            Step::Ready(reply) => {
-                let mut reply = reply;
-                match self.change.change(alloc, request, &mut reply) {
-                    Ok(()) => Step::Ready(reply),
-                    Err(_) => Step::NoMemory,
-                }
+        outcome: &mut Outcome<A>,
+    ) {
+        self.inner.poll(alloc, call, request, outcome);
+        if let Outcome::Reply(reply) = outcome {
+            if self.change.change(alloc, request, reply).is_err() {
+                *outcome = Outcome::NoMemory;
             }
-            Step::NoMemory => Step::NoMemory,
         }
     }
 }

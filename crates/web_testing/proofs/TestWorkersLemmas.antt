@@ -6,7 +6,7 @@ use Rattle.web_worker.specs.Outcomes.{OutcomeView}
 use Rattle.web_worker.specs.PlanOutcomes.{AllowedOutcomes}
 use Rattle.web_worker.specs.Setting.{Setting}
 
-module _ {S L D C V E Y U W : Type 0} (s : Setting S L D C V E Y U W) (plan : List ℕ) {Z : Type 0}
+module _ {S L D C V K : Type 0} (s : Setting S L D C V K) (plan : List ℕ) {Z : Type 0}
     (view : Z → OutcomeView) (x : ExchangeView S L D C) (xs : List (ExchangeView S L D C)) (is : xs ≡ x ∷ []) where
   allowed_one : (os : List Z) → AllowedOutcomes s plan xs (map view os) → AllowedOutcomes s plan (x ∷ []) (map view os)
   allowed_one os h = subst (λ (z : List (ExchangeView S L D C)). AllowedOutcomes s plan z (map view os)) is h

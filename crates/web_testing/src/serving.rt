@@ -1,6 +1,5 @@
 //! A worker for tests, and one request that it serves.
 ghost use Rattle.std.specs.Prelude.{◌≡◌, [], ◌∷◌, length, IfOk};
-ghost use Rattle.web_worker.specs.HandlerPromises.{SamePromises};
 ghost use Rattle.web_worker.specs.OutcomeFunctions.{DeterministicOutcomes};
 ghost use Rattle.web_worker.specs.Outcomes.{outcome_view};
 ghost use Rattle.web_worker.specs.PlanOutcomes.{AllowedOutcomes};
@@ -8,11 +7,9 @@ ghost use Rattle.web_testing.specs.TestWorkers.{new_test_pool, plan_of_one};
 
 use std::alloc::Global;
 use std::rc::Rc;
-use web_extract::FromRequest;
-use web_reply::Responder;
 use web_request::{App, AppConfig};
 use web_texts::NoMemory;
-use web_worker::{Exchange, Handler, Outcome, Serves, Worker, serve_all};
+use web_worker::{Exchange, Outcome, Serves, Service, Worker, serve_all};
 
 /// How often `serve_request` polls a request, and a body of a reply is polled, at most.
 pub const MOST_POLLS: usize = 64;
@@ -52,20 +49,18 @@ fn list_of<T: Drop>(alloc: Global, item: T) -> Result<Vec<T>, NoMemory>
     }
 }
 
-/// Serves one request by a worker of its own with this root layer, and polls it until it is
-/// answered, `MOST_POLLS` times at most.
-pub fn serve_request<A: App, Args: FromRequest<A>, H: Handler<Args>>(
+/// Serves one request by a handler or another service, and by a worker of its own with this root
+/// layer, and polls it until it is answered, `MOST_POLLS` times at most.
+pub fn serve_request<A: App, Args, H: Service<A, Args>>(
     alloc: Global,
     root: A::Layer,
     exchange: Exchange<A>,
     handler: &mut H,
 ) -> Result<Outcome<A>, NoMemory>
-where
-    H::Output: Responder<A>,
     requires root { A.Layer.ready root }
     requires ready { H.ready handler.old }
     ensures ready { H.ready handler.new }
-    ensures same_promises { SamePromises (H.answers handler.old) (H.answers handler.new) }
+    ensures same_promises { H.same_promises handler.old handler.new }
     ensures outcome { IfOk result (λ o. AllowedOutcomes
         (⟦<H as Serves<A, Args>>⟧.setting handler.old (new_test_pool root))
         plan_of_one (exchange ∷ []) (outcome_view A.Source.feed o ∷ [])) }

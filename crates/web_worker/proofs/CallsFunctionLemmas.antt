@@ -1,9 +1,8 @@
 -- From what the promises allow to the one list of calls.
 use Rattle.std.proofs.Common.{◌≡◌, ◌==◌, ℕ, zero, suc, ◌+◌, Bool, true, false, List, [], ◌∷◌, ◌++◌, map, refl, sym, ◌∙◌, ap, arith, subst, inl, inr}
-use Rattle.std.specs.Prelude.{Option, None, Some, Result, Ok, Err, ⊤, MatchOption, if◌then◌else◌, slice_get, take}
+use Rattle.std.specs.Prelude.{Option, None, Some, ⊤, MatchOption, if◌then◌else◌, slice_get, take}
 use Rattle.std.specs.List.{All, cons_option, enumerate_from, filter_map, list_any}
 use Rattle.std.specs.Option.{option_and_then, option_map}
-use Rattle.std.specs.Result.{result_ok}
 use Rattle.std.proofs.lemmas.Bool.Decides.{nat_tests}
 use Rattle.std.proofs.lemmas.List.Elements.{All-head, All-tail}
 use Rattle.web_texts.proofs.LastCutLemmas.{or_false}
@@ -40,22 +39,22 @@ never false y e = refl
 now : {V : Type 0} (n d : ℕ) (v : V) (y : Option V) → n ≡ d → Some v ≡ y → call_at n d y ≡ Some v
 now n d v y e f = let is : (n == d) ≡ true = grind (arith, nat_tests) in rw (← f, is) refl
 
-value_at : {V E : Type 0} (n d : ℕ) (v : V) (k : ℕ) (z : Result V E) → n ≡ d → k ≡ d → result_ok z ≡ Some v → IsValueAt n k z
-value_at n d v k (Ok x) e f g = f ∙ sym e
-value_at n d v k (Err x) e f g = absurd (cc)
+value_at : {V : Type 0} (n d : ℕ) (v : V) (k : ℕ) (z : Option V) → n ≡ d → k ≡ d → z ≡ Some v → IsValueAt n k z
+value_at n d v k (Some x) e f g = f ∙ sym e
+value_at n d v k None e f g = absurd (cc)
 
-module _ {S L D C V E Y U W : Type 0} (s : Setting S L D C V E Y U W) where
+module _ {S L D C V K : Type 0} (s : Setting S L D C V K) where
   with_value : (o : Option (List Mark)) (x : ExchangeView S L D C) (n d : ℕ) (y : Option V) (v : V)
-      → MatchOption o ⊥ (λ m. (rest : List Mark) (k : ℕ) (z : Result V E) → s.rules.means (s.request x) m rest k z → (k ≡ d) × (result_ok z ≡ y))
-      → MatchOption o ⊤ (λ m. (rest : List Mark) × s.rules.means (s.request x) m rest n (Ok v)) → call_at n d y ≡ Some v
+      → MatchOption o ⊥ (λ m. (k : ℕ) (z : Option V) → (s.promise (s.request x) m).arguments k z → (k ≡ d) × (z ≡ y))
+      → MatchOption o ⊤ (λ m. (s.promise (s.request x) m).arguments n (Some v)) → call_at n d y ≡ Some v
   with_value None x n d y v once g = absurd once
-  with_value (Some m) x n d y v once g = let a = once g.0 n (Ok v) g.1 in now n d v y a.0 a.1
+  with_value (Some m) x n d y v once g = let a = once n (Some v) g in now n d v y a.0 a.1
 
   comes_at : (o : Option (List Mark)) (x : ExchangeView S L D C) (n d : ℕ) (v : V) → n ≡ d
-      → MatchOption o ⊥ (λ m. (rest : List Mark) (k : ℕ) (z : Result V E) → s.rules.means (s.request x) m rest k z → (k ≡ d) × (result_ok z ≡ Some v))
-      → MatchOption o ⊥ (λ m. (rest : List Mark) (k : ℕ) (z : Result V E) → s.rules.means (s.request x) m rest k z → IsValueAt n k z)
+      → MatchOption o ⊥ (λ m. (k : ℕ) (z : Option V) → (s.promise (s.request x) m).arguments k z → (k ≡ d) × (z ≡ Some v))
+      → MatchOption o ⊥ (λ m. (k : ℕ) (z : Option V) → (s.promise (s.request x) m).arguments k z → IsValueAt n k z)
   comes_at None x n d v e once = once
-  comes_at (Some m) x n d v e once = λ rest k z a. let b = once rest k z a in value_at n d v k z e b.0 b.1
+  comes_at (Some m) x n d v e once = λ k z a. let b = once k z a in value_at n d v k z e b.0 b.1
 
   without_value : (x : ExchangeView S L D C) (n d : ℕ) (y : Option V) → ArgumentsOnce s x d y → (ArgumentsComeAt s x n → ⊥) → call_at n d y ≡ None
   without_value x n d None once f = never (n == d) None refl

@@ -24,7 +24,7 @@ module _ (d : ℕ) (r : Reply Plain) where
   never : (n : ℕ) → n ≡ 0 → Unfinished ≡ outcome_of d r n
   never n e = let is : nat_lt d n ≡ false = grind (arith, nat_tests) in rw is refl
 
-module _ {S L D C V E Y U W : Type 0} (s : Setting S L D C V E Y U W) where
+module _ {S L D C V K : Type 0} (s : Setting S L D C V K) where
   -- what is allowed is the one outcome
   pub outcome_is : (x : ExchangeView S L D C) (d : ℕ) (r : Reply Plain) → AnswersOnce s x d r → (n : ℕ) (o : OutcomeView)
       → AllowedOutcome s n x o → IsOutcome d r n o

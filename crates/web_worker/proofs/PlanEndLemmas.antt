@@ -22,36 +22,36 @@ map_same (x ∷ xs) = ap (λ ys. x ∷ ys) (map_same xs)
 pub lent_back : {X : Type 0} (n : ℕ) (xs ys : List X) → n ≡ length xs → take n (xs ++ ys) ≡ xs
 lent_back n xs ys e = ap (λ m. take m (xs ++ ys)) e ∙ take-append_seam xs ys
 
-module _ {S L D C U W : Type 0} where
+module _ {S L D C K : Type 0} where
   -- a flight at the end of a plan
-  abbrev ended : FlightView S L D C U W → FlightView S L D C U W
+  abbrev ended : FlightView S L D C K → FlightView S L D C K
   ended f = Answered (flight_outcome f)
 
-  ended_from : (fs : List (FlightView S L D C U W)) → map (λ (g : FlightView S L D C U W). flight_outcome g) (map (λ f. Answered (flight_outcome f)) fs) ≡ map (λ f. flight_outcome f) fs
+  ended_from : (fs : List (FlightView S L D C K)) → map (λ (g : FlightView S L D C K). flight_outcome g) (map (λ f. Answered (flight_outcome f)) fs) ≡ map (λ f. flight_outcome f) fs
   ended_from [] = refl
   ended_from (f ∷ fs) = ap (λ os. flight_outcome f ∷ os) (ended_from fs)
 
   -- flights at the end have the outcomes that they had
-  pub ended_outcomes : (mid new : List (FlightView S L D C U W)) → new ≡ map (λ f. Answered (flight_outcome f)) mid → map (λ f. flight_outcome f) new ≡ map (λ f. flight_outcome f) mid
-  ended_outcomes mid new e = ap (λ fs. map (λ (f : FlightView S L D C U W). flight_outcome f) fs) e ∙ ended_from mid
+  pub ended_outcomes : (mid new : List (FlightView S L D C K)) → new ≡ map (λ f. Answered (flight_outcome f)) mid → map (λ f. flight_outcome f) new ≡ map (λ f. flight_outcome f) mid
+  ended_outcomes mid new e = ap (λ fs. map (λ (f : FlightView S L D C K). flight_outcome f) fs) e ∙ ended_from mid
 
-  answered_from : (fs : List (FlightView S L D C U W)) → All (λ (g : FlightView S L D C U W). is_open g ≡ false) (map (λ f. Answered (flight_outcome f)) fs)
-  answered_from [] = All-nil (λ (f : FlightView S L D C U W). is_open f ≡ false)
-  answered_from (f ∷ fs) = All-cons (λ (f : FlightView S L D C U W). is_open f ≡ false) (Answered (flight_outcome f)) (map (λ f. Answered (flight_outcome f)) fs) refl (answered_from fs)
+  answered_from : (fs : List (FlightView S L D C K)) → All (λ (g : FlightView S L D C K). is_open g ≡ false) (map (λ f. Answered (flight_outcome f)) fs)
+  answered_from [] = All-nil (λ (f : FlightView S L D C K). is_open f ≡ false)
+  answered_from (f ∷ fs) = All-cons (λ (f : FlightView S L D C K). is_open f ≡ false) (Answered (flight_outcome f)) (map (λ f. Answered (flight_outcome f)) fs) refl (answered_from fs)
 
   -- and all are answered
-  pub ended_answered : (mid new : List (FlightView S L D C U W)) → new ≡ map (λ f. Answered (flight_outcome f)) mid → All (λ f. is_open f ≡ false) new
-  ended_answered mid new e = subst (λ (fs : List (FlightView S L D C U W)). All (λ f. is_open f ≡ false) fs) (sym e) (answered_from mid)
+  pub ended_answered : (mid new : List (FlightView S L D C K)) → new ≡ map (λ f. Answered (flight_outcome f)) mid → All (λ f. is_open f ≡ false) new
+  ended_answered mid new e = subst (λ (fs : List (FlightView S L D C K)). All (λ f. is_open f ≡ false) fs) (sym e) (answered_from mid)
 
   -- one more flight is ended
-  pub ended_next : (old now : List (FlightView S L D C U W)) (i : ℕ) (d new : FlightView S L D C U W) → i < length old → i < length now
+  pub ended_next : (old now : List (FlightView S L D C K)) (i : ℕ) (d new : FlightView S L D C K) → i < length old → i < length now
       → take i now ≡ map (λ f. Answered (flight_outcome f)) (take i old) → slice_index_or now i d ≡ slice_index_or old i d → new ≡ Answered (flight_outcome (slice_index_or now i d))
       → take (i + 1) (slice_set now i new) ≡ map (λ f. Answered (flight_outcome f)) (take (i + 1) old)
   ended_next old now i d new there here so_far same is =
       take_more_set now i new here ∙ rw (map_next ended old i d there, so_far, is, same) refl
 
   -- all flights are ended
-  pub all_ended : (old now : List (FlightView S L D C U W)) (i : ℕ) → i ≡ length old → length now ≡ length old → take i now ≡ map (λ f. Answered (flight_outcome f)) (take i old)
+  pub all_ended : (old now : List (FlightView S L D C K)) (i : ℕ) → i ≡ length old → length now ≡ length old → take i now ≡ map (λ f. Answered (flight_outcome f)) (take i old)
       → now ≡ map (λ f. Answered (flight_outcome f)) old
   all_ended old now i last size so_far =
       let whole : i ≡ length now = omega (arith, last, size) in

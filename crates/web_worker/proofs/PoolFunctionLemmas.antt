@@ -1,6 +1,6 @@
 -- From what the promises allow of the pool to the one pool.
-use Rattle.std.proofs.Common.{◌≡◌, ◌==◌, ℕ, suc, ◌+◌, ◌<◌, ◌≤◌, Bool, false, List, [], ◌∷◌, map, length, get_or, refl, sym, ◌∙◌, ap, arith, subst, ◌⊎◌, inl, inr}
-use Rattle.std.specs.Prelude.{Option, None, Some, slice_get}
+use Rattle.std.proofs.Common.{◌≡◌, ◌==◌, ℕ, suc, ◌+◌, ◌<◌, ◌≤◌, List, [], map, length, get_or, sym, ◌∙◌, ap, arith, subst, ◌⊎◌, inl, inr}
+use Rattle.std.specs.Prelude.{None, Some, slice_get}
 use Rattle.std.proofs.lemmas.Bool.{cases_lt}
 use Rattle.std.proofs.lemmas.List.{length-map}
 use Rattle.std.proofs.lemmas.Option.{slice_get_cases}
@@ -17,7 +17,7 @@ use Rattle.web_worker.specs.PoolRun.{SerialState, NotTaken, return_held}
 use Rattle.web_worker.proofs.NumberedPairsLemmas.{each_both, each_left}
 use Rattle.web_worker.proofs.PoolRunLemmas.{run_same, unequal}
 
-module _ {S L D C V E Y U W : Type 0} (s : Setting S L D C V E Y U W) where
+module _ {S L D C V K : Type 0} (s : Setting S L D C V K) where
   -- an exchange that n polls may leave unfinished is not answered before
   not_before : (n d : ℕ) (x : ExchangeView S L D C) (r : Reply Plain) → AnswersOnce s x d r → AllowedOutcome s n x Unfinished → n ≤ d
   not_before n d x r once (inl e) = omega (arith, e)

@@ -1,5 +1,5 @@
 -- The pool over a plan.
-use Rattle.std.proofs.Common.{◌≡◌, ◌==◌, ℕ, ◌+◌, ◌<◌, ◌≢◌, Bool, false, List, [], ◌∷◌, ◌++◌, map, refl, sym, ◌∙◌, ap, arith, subst}
+use Rattle.std.proofs.Common.{◌≡◌, ◌==◌, ℕ, ◌+◌, ◌<◌, ◌≢◌, false, List, [], ◌∷◌, ◌++◌, map, refl, sym, ◌∙◌, ap, arith, subst}
 use Rattle.std.specs.Prelude.{Option, None, Some, MatchOption, slice_get, slice_set}
 use Rattle.std.specs.List.{list_any}
 use Rattle.std.proofs.lemmas.List.{map-set}
@@ -20,19 +20,19 @@ use Rattle.web_worker.proofs.PoolCountLemmas.{is_lost, lost_before, none_lost}
 use Rattle.web_worker.proofs.PoolEndLemmas.{lost_outcomes, waits_map}
 use Rattle.web_worker.proofs.PoolRunLemmas.{IsLost, delay_next, delay_set, run_end, run_same, same_before, set_here, set_other, set_same, state_step, step_fits}
 
-module _ {S L D C V E Y U W : Type 0} (s : Setting S L D C V E Y U W) where
+module _ {S L D C V K : Type 0} (s : Setting S L D C V K) where
   -- the delay of exchange k agrees with what the plan made of its flight
-  abbrev pub Fits : (ℕ → ℕ) → List ℕ → ℕ → ExchangeView S L D C → FlightView S L D C U W → Type 0
+  abbrev pub Fits : (ℕ → ℕ) → List ℕ → ℕ → ExchangeView S L D C → FlightView S L D C K → Type 0
   Fits delay plan k x f = AllowedDelay s (poll_count plan k) x (flight_outcome f) (delay k)
 
   -- a plan, delays that agree with what it made of the flights, and its pool run
-  pub record RunWith (delay : ℕ → ℕ) (plan : List ℕ) (xs : List (ExchangeView S L D C)) (fs : List (FlightView S L D C U W)) (p : Pool L) (ss : List SerialState) (q : Pool L) : Type 0 where
+  pub record RunWith (delay : ℕ → ℕ) (plan : List ℕ) (xs : List (ExchangeView S L D C)) (fs : List (FlightView S L D C K)) (p : Pool L) (ss : List SerialState) (q : Pool L) : Type 0 where
     pub fit : EachFrom (Fits delay plan) 0 xs fs
     pub ran : run_entries delay p ss [] plan ≡ (q, map serial_state fs)
 
   module _ (plan : List ℕ) (k : ℕ) (xs : List (ExchangeView S L D C)) (delay : ℕ → ℕ) (p : Pool L) (ss : List SerialState) (a b : Pool L) where
     -- an entry that names no exchange
-    idle_run : (mid new : List (FlightView S L D C U W)) → slice_get mid k ≡ None → new ≡ mid → b ≡ a
+    idle_run : (mid new : List (FlightView S L D C K)) → slice_get mid k ≡ None → new ≡ mid → b ≡ a
         → RunWith delay plan xs mid p ss a → RunWith delay (plan ++ k ∷ []) xs new p ss b
     idle_run mid new e same pool run =
         rw (same, pool) (record {
@@ -44,7 +44,7 @@ module _ {S L D C V E Y U W : Type 0} (s : Setting S L D C V E Y U W) where
         })
 
     -- one that names the exchange of the flight f; the delay of this exchange is chosen anew
-    module _ (mid : List (FlightView S L D C U W)) (f g : FlightView S L D C U W) (here : slice_get mid k ≡ Some f)
+    module _ (mid : List (FlightView S L D C K)) (f g : FlightView S L D C K) (here : slice_get mid k ≡ Some f)
         (step : FlightStep s f g) (moves : TakesOrReturns f g a b) (kept : IsLost g → ⊥)
         (flights : EachFrom (λ j x f. FlightAfter s (poll_count plan j) x f) 0 xs mid) (run : RunWith delay plan xs mid p ss a) where
       abbrev chosen : ℕ
@@ -61,7 +61,7 @@ module _ {S L D C V E Y U W : Type 0} (s : Setting S L D C V E Y U W) where
           let there = subst (λ (d : ℕ). AllowedDelay s (poll_count (plan ++ k ∷ []) k) x (flight_outcome g) d) (sym (set_here delay k chosen)) counted in
           subst (λ (j : ℕ). Fits next (plan ++ k ∷ []) j x g) (sym q) there
 
-      other_fits : (j : ℕ) (x : ExchangeView S L D C) (h : FlightView S L D C U W) → j ≢ 0 + k → Fits delay plan j x h → Fits next (plan ++ k ∷ []) j x h
+      other_fits : (j : ℕ) (x : ExchangeView S L D C) (h : FlightView S L D C K) → j ≢ 0 + k → Fits delay plan j x h → Fits next (plan ++ k ∷ []) j x h
       other_fits j x h n fits = let ne : j ≢ k = omega arith in rw (polls_other plan k j ne, set_other delay k chosen j ne) fits
 
       all_fit : EachFrom (Fits next (plan ++ k ∷ [])) 0 xs (slice_set mid k g)
@@ -92,19 +92,19 @@ module _ {S L D C V E Y U W : Type 0} (s : Setting S L D C V E Y U W) where
             ∙ (ap (λ (z : Pool L × List SerialState). run_entry_at z.0 z.1 k (poll_count plan k == next k) (slice_get z.1 k)) so_far ∙ last_entry);
       }
 
-    run_at : (mid new : List (FlightView S L D C U W)) (calls_old calls_new : Option (List V)) (o : Option (FlightView S L D C U W)) → slice_get mid k ≡ o
-        → MatchOption o (NoChange s mid new a b calls_old calls_new) (λ f. (g : FlightView S L D C U W) × (new ≡ slice_set mid k g) × FlightPoll s f g a b calls_old calls_new)
-        → EachFrom (λ j x f. FlightAfter s (poll_count plan j) x f) 0 xs mid → ((g : FlightView S L D C U W) → slice_get new k ≡ Some g → IsLost g → ⊥)
+    run_at : (mid new : List (FlightView S L D C K)) (calls_old calls_new : Option (List V)) (o : Option (FlightView S L D C K)) → slice_get mid k ≡ o
+        → MatchOption o (NoChange s mid new a b calls_old calls_new) (λ f. (g : FlightView S L D C K) × (new ≡ slice_set mid k g) × FlightPoll s f g a b calls_old calls_new)
+        → EachFrom (λ j x f. FlightAfter s (poll_count plan j) x f) 0 xs mid → ((g : FlightView S L D C K) → slice_get new k ≡ Some g → IsLost g → ⊥)
         → RunWith delay plan xs mid p ss a → (other : ℕ → ℕ) × RunWith other (plan ++ k ∷ []) xs new p ss b
     run_at mid new calls_old calls_new None e m flights kept run = (delay, idle_run mid new e m.flights m.pool run)
     run_at mid new calls_old calls_new (Some f) e m flights kept run =
-        let there : slice_get new k ≡ Some m.0 = ap (λ (l : List (FlightView S L D C U W)). slice_get l k) m.1 ∙ get_set mid k f m.0 e in
+        let there : slice_get new k ≡ Some m.0 = ap (λ (l : List (FlightView S L D C K)). slice_get l k) m.1 ∙ get_set mid k f m.0 e in
         let other = delay_set delay k (delay_next (poll_count plan k) (delay k) f m.0) in
         let after = polled_run mid f m.0 e m.2.step m.2.moves (kept m.0 there) flights run in
-        (other, subst (λ (fs : List (FlightView S L D C U W)). RunWith other (plan ++ k ∷ []) xs fs p ss b) (sym m.1) after)
+        (other, subst (λ (fs : List (FlightView S L D C K)). RunWith other (plan ++ k ∷ []) xs fs p ss b) (sym m.1) after)
 
   -- the pool run so far, where no allocation failed
-  abbrev pub RunSoFar : List ℕ → List (FlightView S L D C U W) → List (FlightView S L D C U W) → Pool L → Pool L → Type 0
+  abbrev pub RunSoFar : List ℕ → List (FlightView S L D C K) → List (FlightView S L D C K) → Pool L → Pool L → Type 0
   RunSoFar plan old new p q =
       (xs : List (ExchangeView S L D C)) → old ≡ map (λ x. Waiting x) xs → list_any is_lost new ≡ false
       → (delay : ℕ → ℕ) × RunWith delay plan xs new p (map serial_state old) q
@@ -113,16 +113,16 @@ module _ {S L D C V E Y U W : Type 0} (s : Setting S L D C V E Y U W) where
   none_polled i [] = tt
   none_polled i (x ∷ xs) = (omega arith, none_polled (i + 1) xs)
 
-  pub run_start : (fs : List (FlightView S L D C U W)) (p : Pool L) → RunSoFar [] fs fs p p
+  pub run_start : (fs : List (FlightView S L D C K)) (p : Pool L) → RunSoFar [] fs fs p p
   run_start fs p xs e none = (
     λ _. 0,
     record {
-      fit = subst (λ (l : List (FlightView S L D C U W)). EachFrom (Fits (λ _. 0) []) 0 xs l) (sym e) (none_polled 0 xs);
+      fit = subst (λ (l : List (FlightView S L D C K)). EachFrom (Fits (λ _. 0) []) 0 xs l) (sym e) (none_polled 0 xs);
       ran = refl;
     },
   )
 
-  pub run_more : (plan : List ℕ) (k : ℕ) (old mid new : List (FlightView S L D C U W)) (p a b : Pool L) (calls_old calls_new : Option (List V))
+  pub run_more : (plan : List ℕ) (k : ℕ) (old mid new : List (FlightView S L D C K)) (p a b : Pool L) (calls_old calls_new : Option (List V))
       → RunSoFar plan old mid p a → FlightsAfter s plan old mid → a ≡ with_records a.serials a.made p → PollsAt s k mid new (with_records a.serials a.made p) b calls_old calls_new
       → RunSoFar (plan ++ k ∷ []) old new p b
   run_more plan k old mid new p a b calls_old calls_new so_far flights rest polls xs e none =
@@ -132,7 +132,7 @@ module _ {S L D C V E Y U W : Type 0} (s : Setting S L D C V E Y U W) where
       run_at plan k xs run.0 p (map serial_state old) now b mid new calls_old calls_new (slice_get mid k) refl polls (flights xs e)
       (λ g there lost. none_lost new k g none there lost) (record { fit = run.1.fit; ran = ran })
 
-  pub run_ends : (plan : List ℕ) (old now : List (FlightView S L D C U W)) (p a q : Pool L) (os : List OutcomeView) → RunSoFar plan old now p a → q ≡ return_held a (map serial_state now)
+  pub run_ends : (plan : List ℕ) (old now : List (FlightView S L D C K)) (p a q : Pool L) (os : List OutcomeView) → RunSoFar plan old now p a → q ≡ return_held a (map serial_state now)
       → os ≡ map flight_outcome now → (xs : List (ExchangeView S L D C)) → old ≡ map (λ x. Waiting x) xs → AllowedPool s plan xs os p q
   run_ends plan old now p a q os so_far came outcomes xs e none =
       let lost : list_any is_lost now ≡ false = sym (lost_outcomes now) ∙ (ap (λ (l : List OutcomeView). list_any lacks_memory l) (sym outcomes) ∙ none) in

@@ -1,21 +1,22 @@
 -- One poll of a flight is one entry of the pool run, whose delay is the number of polls at which the flight is answered.
-use Rattle.std.proofs.Common.{◌≡◌, ◌==◌, ℕ, suc, ◌+◌, ◌<◌, ◌≤◌, ◌≢◌, Bool, true, false, cond, List, [], ◌∷◌, ◌++◌, length, refl, sym, ◌∙◌, ap, arith, subst, ◌⊎◌, inl, inr, append_assoc, append-nil, eq-eqb, ne_eqb}
-use Rattle.std.specs.Prelude.{Option, None, Some, slice_get, slice_set}
+use Rattle.std.proofs.Common.{◌≡◌, ◌==◌, ℕ, suc, ◌+◌, ◌<◌, ◌≤◌, ◌≢◌, Bool, false, cond, List, [], ◌∷◌, ◌++◌, length, refl, sym, ◌∙◌, ap, arith, subst, ◌⊎◌, inl, inr, append_assoc, append-nil, eq-eqb, ne_eqb}
+use Rattle.std.specs.Prelude.{Option, None, Some, slice_get}
 use Rattle.std.proofs.lemmas.Bool.{cases_eq}
 use Rattle.std.proofs.lemmas.List.{length-set}
 use Rattle.std.proofs.lemmas.Option.{slice_get_within}
 use Rattle.web_request.specs.Pool.{Pool, after_start, next_serial}
 use Rattle.web_worker.specs.Outcomes.{OutcomeView, OutcomeView.Replied, OutcomeView.Unfinished, OutcomeView.NoMemory}
 use Rattle.web_worker.specs.Exchanges.{ExchangeView, FlightView}
-use Rattle.web_worker.specs.Exchanges.{FlightView.Waiting, FlightView.Extracting, FlightView.Handling, FlightView.Answered}
+use Rattle.web_worker.specs.Exchanges.{FlightView.Waiting, FlightView.InFlight, FlightView.Answered}
+use Rattle.web_worker.specs.ServicePromises.{Narrows, Promise, later}
 use Rattle.web_worker.specs.Setting.{Setting}
-use Rattle.web_worker.specs.Flights.{ExchangeGives, FlightStep, PollResult, flight_outcome}
+use Rattle.web_worker.specs.Flights.{ExchangeGives, FlightStep, PollResult, exchange_promise, flight_outcome}
 use Rattle.web_worker.specs.PlanOutcomes.{poll_count}
 use Rattle.web_worker.specs.PlanPools.{AllowedDelay}
 use Rattle.web_worker.specs.PoolSteps.{TakesOrReturns, HeldOrReturned, serial_of}
 use Rattle.web_worker.specs.PoolRun.{SerialState, run_entry, run_entry_at, hold_or_return, run_entries, serial_state}
 use Rattle.web_worker.proofs.NumberedPairsLemmas.{polls_here}
-use Rattle.web_worker.proofs.PlanProgressLemmas.{FlightAfter, GivesLater, waiting_later}
+use Rattle.web_worker.proofs.PlanProgressLemmas.{FlightAfter, none_later}
 
 pub unequal : (n d : ℕ) → suc n ≤ d → (n == d) ≡ false
 unequal n d h = ne_eqb n d (λ e. omega (arith, e, h))
@@ -87,54 +88,49 @@ set_same delay plan k d same j n lt = by (cases_eq j k)
 
 -- ---- one poll
 
-abbrev pub IsLost : {S L D C U W : Type 0} → FlightView S L D C U W → Type 0
+abbrev pub IsLost : {S L D C K : Type 0} → FlightView S L D C K → Type 0
 IsLost g = g ≡ Answered NoMemory
 
-module _ {S L D C U W : Type 0} where
+module _ {S L D C K : Type 0} where
   -- the delay of a flight that the poll after n others left so: it is answered now, or at a later one
-  abbrev pub delay_now : ℕ → FlightView S L D C U W → ℕ
+  abbrev pub delay_now : ℕ → FlightView S L D C K → ℕ
   delay_now n (Waiting x) = suc n
-  delay_now n (Extracting h) = suc n
-  delay_now n (Handling h) = suc n
+  delay_now n (InFlight h) = suc n
   delay_now n (Answered o) = n
 
   -- the delay d of a flight that was answered stays
-  abbrev pub delay_next : ℕ → ℕ → FlightView S L D C U W → FlightView S L D C U W → ℕ
+  abbrev pub delay_next : ℕ → ℕ → FlightView S L D C K → FlightView S L D C K → ℕ
   delay_next n d (Waiting x) g = delay_now n g
-  delay_next n d (Extracting h) g = delay_now n g
-  delay_next n d (Handling h) g = delay_now n g
+  delay_next n d (InFlight h) g = delay_now n g
   delay_next n d (Answered o) g = d
 
-  not_below : (n : ℕ) (g : FlightView S L D C U W) → n ≤ delay_now n g
+  not_below : (n : ℕ) (g : FlightView S L D C K) → n ≤ delay_now n g
   not_below n (Waiting x) = omega arith
-  not_below n (Extracting h) = omega arith
-  not_below n (Handling h) = omega arith
+  not_below n (InFlight h) = omega arith
   not_below n (Answered o) = omega arith
 
-  both_later : (n d m : ℕ) (g : FlightView S L D C U W) → n ≤ d → m < n → (m == d) ≡ (m == delay_now n g)
+  both_later : (n d m : ℕ) (g : FlightView S L D C K) → n ≤ d → m < n → (m == d) ≡ (m == delay_now n g)
   both_later n d m g le lt =
       let now = not_below n g in
       let first : suc m ≤ d = omega (arith, le, lt) in
       let second : suc m ≤ delay_now n g = omega (arith, now, lt) in
       unequal m d first ∙ sym (unequal m (delay_now n g) second)
 
-module _ {S L D C V E Y U W : Type 0} (s : Setting S L D C V E Y U W) where
+module _ {S L D C V K : Type 0} (s : Setting S L D C V K) where
   -- no poll before this one answers otherwise
-  pub same_before : (n d : ℕ) (x : ExchangeView S L D C) (f g : FlightView S L D C U W) → AllowedDelay s n x (flight_outcome f) d
+  pub same_before : (n d : ℕ) (x : ExchangeView S L D C) (f g : FlightView S L D C K) → AllowedDelay s n x (flight_outcome f) d
       → (m : ℕ) → m < n → (m == d) ≡ (m == delay_next n d f g)
   same_before n d x (Waiting y) g fits m lt = both_later n d m g fits lt
-  same_before n d x (Extracting h) g fits m lt = both_later n d m g fits lt
-  same_before n d x (Handling h) g fits m lt = both_later n d m g fits lt
+  same_before n d x (InFlight h) g fits m lt = both_later n d m g fits lt
   same_before n d x (Answered o) g fits m lt = refl
 
-  result_fits : (n : ℕ) (x : ExchangeView S L D C) (f g : FlightView S L D C U W) → GivesLater s n x f → PollResult s f g → (IsLost g → ⊥)
+  result_fits : (n : ℕ) (x : ExchangeView S L D C) (p : Promise V) (g : FlightView S L D C K) → Narrows p (later n (exchange_promise s x)) → PollResult s p g → (IsLost g → ⊥)
       → AllowedDelay s (suc n) x (flight_outcome g) (delay_now n g)
-  result_fits n x f (Waiting y) later result kept = absurd result
-  result_fits n x f (Extracting h) later result kept = omega arith
-  result_fits n x f (Handling h) later result kept = omega arith
-  result_fits n x f (Answered (Replied r)) later result kept = let e : n + 0 ≡ n = omega arith in (omega arith, subst (λ (m : ℕ). ExchangeGives s x m r) e (later.0 0 r result))
-  result_fits n x f (Answered Unfinished) later result kept = absurd result
-  result_fits n x f (Answered NoMemory) later result kept = absurd (kept refl)
+  result_fits n x p (Waiting y) after result kept = absurd result
+  result_fits n x p (InFlight h) after result kept = omega arith
+  result_fits n x p (Answered (Replied r)) after result kept = let e : n + 0 ≡ n = omega arith in (omega arith, subst (λ (m : ℕ). ExchangeGives s x m r) e (after.gives 0 r result))
+  result_fits n x p (Answered Unfinished) after result kept = absurd result
+  result_fits n x p (Answered NoMemory) after result kept = absurd (kept refl)
 
   answered_fits : (n d : ℕ) (x : ExchangeView S L D C) (o : OutcomeView) → FlightAfter s n x (Answered o) → AllowedDelay s n x o d → AllowedDelay s (suc n) x o d
   answered_fits n d x (Replied r) at fits = let lt : d < suc n = omega (arith, fits.0) in (lt, fits.1)
@@ -142,28 +138,25 @@ module _ {S L D C V E Y U W : Type 0} (s : Setting S L D C V E Y U W) where
   answered_fits n d x NoMemory at fits = fits
 
   -- the delay agrees with what the poll made of the flight
-  pub step_fits : (n d : ℕ) (x : ExchangeView S L D C) (f g : FlightView S L D C U W) → FlightStep s f g → (IsLost g → ⊥) → FlightAfter s n x f
+  pub step_fits : (n d : ℕ) (x : ExchangeView S L D C) (f g : FlightView S L D C K) → FlightStep s f g → (IsLost g → ⊥) → FlightAfter s n x f
       → AllowedDelay s n x (flight_outcome f) d → AllowedDelay s (suc n) x (flight_outcome g) (delay_next n d f g)
   step_fits n d x (Waiting y) g step kept at fits =
-      let result = subst (λ (z : ExchangeView S L D C). PollResult s (Waiting z) g) at.0 (step.polled refl) in
-      result_fits n x (Waiting x) g (waiting_later s n x at.1) result kept
-  step_fits n d x (Extracting h) g step kept at fits = result_fits n x (Extracting h) g at.1 (step.polled refl) kept
-  step_fits n d x (Handling h) g step kept at fits = result_fits n x (Handling h) g at.1 (step.polled refl) kept
-  step_fits n d x (Answered o) g step kept at fits = subst (λ (z : FlightView S L D C U W). AllowedDelay s (suc n) x (flight_outcome z) d) (sym (step.answered refl)) (answered_fits n d x o at fits)
+      let result = subst (λ (z : ExchangeView S L D C). PollResult s (exchange_promise s z) g) at.0 (step.polled refl) in
+      result_fits n x (exchange_promise s x) g (none_later (exchange_promise s x) n at.1) result kept
+  step_fits n d x (InFlight h) g step kept at fits = result_fits n x (s.left h.call h.record_of.request) g at.1 (step.polled refl) kept
+  step_fits n d x (Answered o) g step kept at fits = subst (λ (z : FlightView S L D C K). AllowedDelay s (suc n) x (flight_outcome z) d) (sym (step.answered refl)) (answered_fits n d x o at fits)
 
   -- where the flight has taken or holds the record y of the pool p
-  polled : (n y : ℕ) (f g : FlightView S L D C U W) (p q : Pool L) → PollResult s f g → HeldOrReturned (Some y) (serial_of g) p q
+  polled : (n y : ℕ) (f : Promise V) (g : FlightView S L D C K) (p q : Pool L) → PollResult s f g → HeldOrReturned (Some y) (serial_of g) p q
       → hold_or_return p y (n == delay_now n g) ≡ (q, serial_state g)
   polled n y f (Waiting x) p q result back = absurd result
-  polled n y f (Extracting h) p q result back = rw (unequal n (suc n) (omega arith), back.0, back.1) refl
-  polled n y f (Handling h) p q result back = rw (unequal n (suc n) (omega arith), back.0, back.1) refl
+  polled n y f (InFlight h) p q result back = rw (unequal n (suc n) (omega arith), back.0, back.1) refl
   polled n y f (Answered o) p q result back = rw (eq-eqb n n refl, back.0) refl
 
   -- one poll of a flight is one entry of the pool run with that delay, where no allocation failed
-  pub state_step : (n d : ℕ) (f g : FlightView S L D C U W) (p q : Pool L) → FlightStep s f g → TakesOrReturns f g p q → (IsLost g → ⊥)
+  pub state_step : (n d : ℕ) (f g : FlightView S L D C K) (p q : Pool L) → FlightStep s f g → TakesOrReturns f g p q → (IsLost g → ⊥)
       → run_entry p (serial_state f) (n == delay_next n d f g) ≡ (q, serial_state g)
-  state_step n d (Waiting x) g p q step (inl back) kept = polled n (next_serial p) (Waiting x) g (after_start p) q (step.polled refl) back
+  state_step n d (Waiting x) g p q step (inl back) kept = polled n (next_serial p) (exchange_promise s x) g (after_start p) q (step.polled refl) back
   state_step n d (Waiting x) g p q step (inr lost) kept = absurd (kept lost.1)
-  state_step n d (Extracting h) g p q step moves kept = polled n h.record_of.serial (Extracting h) g p q (step.polled refl) moves
-  state_step n d (Handling h) g p q step moves kept = polled n h.record_of.serial (Handling h) g p q (step.polled refl) moves
+  state_step n d (InFlight h) g p q step moves kept = polled n h.record_of.serial (s.left h.call h.record_of.request) g p q (step.polled refl) moves
   state_step n d (Answered o) g p q step moves kept = rw (step.answered refl, moves) refl

@@ -14,8 +14,8 @@ SameOutcome o p = (o ≡ NoMemory) ⊎ ((p ≡ NoMemory) ⊎ (o ≡ p))
 
 -- An exchange that has one delay and one reply in the first setting has the same outcome in two
 -- runs, one in each setting, which poll it equally often, whatever else they serve.
-abbrev pub SameInBothRuns : {S L D C V E Y U W : Type 0}
-    → Setting S L D C V E Y U W → Setting S L D C V E Y U W → Type 0
+abbrev pub SameInBothRuns : {S L D C V K : Type 0}
+    → Setting S L D C V K → Setting S L D C V K → Type 0
 SameInBothRuns {S} {L} {D} {C} first second =
     (x : ExchangeView S L D C) (d : ℕ) (r : Reply Plain) → AnswersOnce first x d r
     → (polls : ℕ) (o p : OutcomeView)

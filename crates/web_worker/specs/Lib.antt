@@ -3,6 +3,7 @@ pub mod Exchanges
 pub mod Flights
 pub mod HandlerCalls
 pub mod HandlerPromises
+pub mod HandlerServices
 pub mod Isolation
 pub mod OutcomeFunctions
 pub mod Outcomes
@@ -13,6 +14,7 @@ pub mod PollOne
 pub mod PoolRun
 pub mod PoolSteps
 pub mod RecordsMade
+pub mod ServicePromises
+pub mod ServiceStates
 pub mod Setting
-pub mod StagePolls
 pub mod Stages

@@ -1,5 +1,5 @@
 -- What became of an exchange, with its reply as a plain value.
-use Rattle.std.specs.Prelude.{List, map, ⊤}
+use Rattle.std.specs.Prelude.{Bool, true, false, List, map, ⊤}
 use Rattle.web_request.specs.Feed.{Feed}
 use Rattle.web_reply.specs.ResponseBodies.{Plain, box_plain}
 use Rattle.web_reply.specs.Replies.{Reply, plain_reply}
@@ -22,6 +22,11 @@ outcome_view feed outcome.NoMemory = OutcomeView.NoMemory
 abbrev pub outcome_views : {A L D C S : Type 0} → (S → Feed) → List (Outcome A L D C S)
     → List OutcomeView
 outcome_views feed os = map (λ o. outcome_view feed o) os
+
+abbrev pub is_unfinished : OutcomeView → Bool
+is_unfinished (OutcomeView.Replied r) = false
+is_unfinished OutcomeView.Unfinished = true
+is_unfinished OutcomeView.NoMemory = false
 
 -- it is a reply with P, or an allocation failed
 abbrev pub OutcomeMeets : (Reply Plain → Type 0) → OutcomeView → Type 0

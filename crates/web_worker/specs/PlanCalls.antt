@@ -1,20 +1,19 @@
 -- The calls of the handler that a whole plan makes.
-use Rattle.std.specs.Prelude.{◌≡◌, ◌==◌, ℕ, List, ◌++◌, Option, None, Some, Result, Ok, Err, ⊤}
+use Rattle.std.specs.Prelude.{◌≡◌, ◌==◌, ℕ, List, ◌++◌, Option, None, Some}
 use Rattle.std.specs.Prelude.{false, if◌then◌else◌, MatchOption, ◌⊎◌, slice_get, take}
 use Rattle.std.specs.List.{All, enumerate_from, filter_map, list_any}
 use Rattle.std.specs.Option.{option_and_then, option_map}
-use Rattle.std.specs.Result.{result_ok}
-use Rattle.web_request.specs.declared.source.Mark.{Mark}
 use Rattle.web_body.specs.Payload.{payload_feed}
 use Rattle.web_worker.specs.Outcomes.{OutcomeView, OutcomeView.NoMemory}
 use Rattle.web_worker.specs.Exchanges.{ExchangeView}
+use Rattle.web_worker.specs.Flights.{ExchangeArguments}
 use Rattle.web_worker.specs.Setting.{Setting}
 use Rattle.web_worker.specs.PlanOutcomes.{poll_count, EachFrom, lacks_memory}
 
 -- a value that comes after exactly n polls
-abbrev pub IsValueAt : {V E : Type 0} → ℕ → ℕ → Result V E → Type 0
-IsValueAt n k (Ok v) = k ≡ n
-IsValueAt n k (Err e) = ⊥
+abbrev pub IsValueAt : {V : Type 0} → ℕ → ℕ → Option V → Type 0
+IsValueAt n k (Some v) = k ≡ n
+IsValueAt n k None = ⊥
 
 -- an allocation failed at a poll of the exchange of this number
 abbrev pub LacksMemory : List OutcomeView → ℕ → Type 0
@@ -44,26 +43,19 @@ module _ {X V : Type 0} (args : X → ℕ × Option V) where
   abbrev pub calls_of : List X → List ℕ → List V
   calls_of xs plan = filter_map (λ entry. entry_call xs plan entry) (enumerate_from 0 plan)
 
-module _ {S L D C V E Y U W : Type 0} (s : Setting S L D C V E Y U W) where
-  -- the arguments of the exchange may come as y after k polls
-  abbrev pub ExchangeArguments : ExchangeView S L D C → ℕ → Result V E → Type 0
-  ExchangeArguments x k y =
-      MatchOption (payload_feed s.feed x.body).marks ⊤
-      (λ m. (rest : List Mark) × s.rules.means (s.request x) m rest k y)
-
+module _ {S L D C V K : Type 0} (s : Setting S L D C V K) where
   -- they do no other than come as a value after exactly n polls
   abbrev pub ArgumentsComeAt : ExchangeView S L D C → ℕ → Type 0
   ArgumentsComeAt x n =
       MatchOption (payload_feed s.feed x.body).marks ⊥
-      (λ m. (rest : List Mark) (k : ℕ) (y : Result V E) → s.rules.means (s.request x) m rest k y
-      → IsValueAt n k y)
+      (λ m. (k : ℕ) (y : Option V) → (s.promise (s.request x) m).arguments k y → IsValueAt n k y)
 
   -- The call of an entry of the plan that names this exchange after n polls of it: one with a
   -- value that may come now, and none only where the arguments need not come now, or where an
   -- allocation failed.
   abbrev pub EntryCall : ℕ → Option (ExchangeView S L D C) → Type 0 → Option V → Type 0
   EntryCall n None lacks call = call ≡ None
-  EntryCall n (Some x) lacks (Some v) = ExchangeArguments x n (Ok v)
+  EntryCall n (Some x) lacks (Some v) = ExchangeArguments s x n (Some v)
   EntryCall n (Some x) lacks None = (ArgumentsComeAt x n → ⊥) ⊎ lacks
 
   -- The values that the handler may be called with, in the order of the entries that call it.
@@ -80,8 +72,8 @@ module _ {S L D C V E Y U W : Type 0} (s : Setting S L D C V E Y U W) where
   abbrev pub ArgumentsOnce : ExchangeView S L D C → ℕ → Option V → Type 0
   ArgumentsOnce x d y =
       MatchOption (payload_feed s.feed x.body).marks ⊥
-      (λ m. (rest : List Mark) (k : ℕ) (z : Result V E) → s.rules.means (s.request x) m rest k z
-      → (k ≡ d) × (result_ok z ≡ y))
+      (λ m. (k : ℕ) (z : Option V) → (s.promise (s.request x) m).arguments k z
+      → (k ≡ d) × (z ≡ y))
 
   -- Where each exchange's arguments come after one number of polls, as one value or refused, and
   -- no outcome lacks memory, the list of calls is a function of the plan.

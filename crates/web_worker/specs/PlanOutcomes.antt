@@ -30,12 +30,12 @@ lacks_memory Unfinished = false
 lacks_memory NoMemory = true
 
 -- P of the exchanges that the flights hold, where all of them wait
-abbrev pub OfWaiting : {S L D C U W : Type 0} → List (FlightView S L D C U W)
+abbrev pub OfWaiting : {S L D C K : Type 0} → List (FlightView S L D C K)
     → (List (ExchangeView S L D C) → Type 0) → Type 0
 OfWaiting {S} {L} {D} {C} flights P =
     (xs : List (ExchangeView S L D C)) → flights ≡ map (λ x. Waiting x) xs → P xs
 
-module _ {S L D C V E Y U W : Type 0} (s : Setting S L D C V E Y U W) where
+module _ {S L D C V K : Type 0} (s : Setting S L D C V K) where
   -- what n polls may make of the exchange
   abbrev pub AllowedOutcome : ℕ → ExchangeView S L D C → OutcomeView → Type 0
   AllowedOutcome n x (Replied r) = (d : ℕ) × (d < n) × ExchangeGives s x d r

@@ -1,5 +1,5 @@
 -- What a whole plan makes of the pool, by the delays of its exchanges.
-use Rattle.std.specs.Prelude.{◌≡◌, ℕ, ◌<◌, ◌≤◌, List, [], Bool, false, Some, map, slice_get}
+use Rattle.std.specs.Prelude.{◌≡◌, ℕ, ◌<◌, ◌≤◌, List, [], false, Some, map, slice_get}
 use Rattle.std.specs.List.{list_any}
 use Rattle.web_request.specs.Pool.{Pool}
 use Rattle.web_reply.specs.ResponseBodies.{Plain}
@@ -12,7 +12,7 @@ use Rattle.web_worker.specs.Setting.{Setting}
 use Rattle.web_worker.specs.Flights.{ExchangeGives}
 use Rattle.web_worker.specs.OutcomeFunctions.{AnswersOnce}
 use Rattle.web_worker.specs.PlanOutcomes.{EachFrom, lacks_memory, poll_count}
-use Rattle.web_worker.specs.PoolRun.{SerialState, NotTaken, return_held, run_entries}
+use Rattle.web_worker.specs.PoolRun.{NotTaken, return_held, run_entries}
 
 -- the pool that keeps these records and made so many
 abbrev pub with_records : {L : Type 0} → List ℕ → ℕ → Pool L → Pool L
@@ -24,7 +24,7 @@ abbrev pub pool_after : {L X : Type 0} → (ℕ → ℕ) → Pool L → List X �
 pool_after delay p xs plan =
     let ran = run_entries delay p (map (λ _. NotTaken) xs) [] plan in return_held ran.0 ran.1
 
-module _ {S L D C V E Y U W : Type 0} (s : Setting S L D C V E Y U W) where
+module _ {S L D C V K : Type 0} (s : Setting S L D C V K) where
   -- each exchange has this one delay, and one reply
   abbrev pub EachAnswersOnce : List (ExchangeView S L D C) → (ℕ → ℕ) → Type 0
   EachAnswersOnce xs delay =

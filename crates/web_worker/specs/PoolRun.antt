@@ -1,9 +1,9 @@
 -- What a plan makes of the pool of records, and which exchange holds the record of which number.
-use Rattle.std.specs.Prelude.{◌≡◌, ◌==◌, ℕ, ◌+◌, ◌≤◌, List, [], ◌∷◌, ◌++◌, Option, None, Some}
+use Rattle.std.specs.Prelude.{◌==◌, ℕ, ◌+◌, ◌≤◌, List, [], ◌∷◌, ◌++◌, Option, None, Some}
 use Rattle.std.specs.Prelude.{Bool, true, false, cond, nat_lt, slice_get, slice_set}
 use Rattle.web_request.specs.Pool.{Pool, after_give_back, after_start, next_serial}
-use Rattle.web_worker.specs.Exchanges.{FlightView.Waiting, FlightView.Extracting}
-use Rattle.web_worker.specs.Exchanges.{FlightView.Handling, FlightView.Answered}
+use Rattle.web_worker.specs.Exchanges.{FlightView.Waiting, FlightView.InFlight}
+use Rattle.web_worker.specs.Exchanges.{FlightView.Answered}
 use Rattle.web_worker.specs.Exchanges.{FlightView}
 use Rattle.web_worker.specs.PlanOutcomes.{poll_count}
 
@@ -50,10 +50,9 @@ return_held p (Taken x ∷ ss) = return_held (after_give_back x p) ss
 return_held p (Returned ∷ ss) = return_held p ss
 
 -- of the record of a flight
-abbrev pub serial_state : {S L D C U W : Type 0} → FlightView S L D C U W → SerialState
+abbrev pub serial_state : {S L D C K : Type 0} → FlightView S L D C K → SerialState
 serial_state (Waiting x) = NotTaken
-serial_state (Extracting h) = Taken h.record_of.serial
-serial_state (Handling h) = Taken h.record_of.serial
+serial_state (InFlight h) = Taken h.record_of.serial
 serial_state (Answered o) = Returned
 
 abbrev pub taken_count : SerialState → ℕ → ℕ

@@ -1,39 +1,27 @@
 //! How far an exchange has come.
 ghost use Rattle.std.specs.Prelude.{◌≡◌, Option, None, Some};
 ghost use Rattle.web_worker.specs.Exchanges.{FlightView, flight_view};
-ghost use Rattle.web_worker.specs.Flights.{flight_outcome};
 ghost use Rattle.web_worker.specs.PoolSteps.{after_release, serial_of};
 
 use crate::exchange::Exchange;
-use crate::handler::Handler;
 use crate::outcome::Outcome;
+use crate::service::Service;
 use crate::setting::Serves;
 use std::marker::Model;
 use std::mem;
-use web_extract::FromRequest;
-use web_reply::Responder;
 use web_request::{App, HttpRequest, HttpRequestPool};
-
-/// The future that an exchange in flight waits for.
-#[derive(Drop)]
-pub enum Work<U, W> {
-    /// The future of its arguments.
-    Extracting(U),
-    /// The future of the handler that was called with them.
-    Handling(W),
-}
 
 /// How far an exchange has come.
 #[derive(Drop)]
-pub enum Stage<X, R, U, W, O> {
+pub enum Stage<X, R, K, O> {
     /// It was not polled yet.
     Waiting(X),
-    /// It has a record, and waits for a future.
-    InFlight(R, Work<U, W>),
+    /// It has a record, and its call is under way.
+    InFlight(R, K),
     Answered(O),
 }
 
-impl<X: Drop, R: Drop, U: Drop, W: Drop, O: Drop> Stage<X, R, U, W, O> {
+impl<X: Drop, R: Drop, K: Drop, O: Drop> Stage<X, R, K, O> {
     ghost use Rattle.std.specs.Prelude.{◌≡◌, None, Some};
     ghost use Rattle.web_worker.specs.Stages.{answer_in, exchange_in, request_in};
 
@@ -68,35 +56,34 @@ impl<X: Drop, R: Drop, U: Drop, W: Drop, O: Drop> Stage<X, R, U, W, O> {
     }
 }
 
-/// The stage of an exchange with these arguments and this handler.
-pub type StageOf<A, Args, H> = Stage<
+/// The stage of an exchange over this service.
+pub type StageOf<A, Args, S> = Stage<
     Exchange<A>,
     HttpRequest<A>,
-    <Args as FromRequest<A>>::Future,
-    <H as Handler<Args>>::Future,
+    <S as Service<A, Args>>::Call,
     Outcome<A>,
 >;
 
-/// An exchange under way, for `poll_one` and `serve_flights`.
+/// An exchange under way over a service, for `poll_one` and `serve_flights`. A handler is the
+/// service of its extractors `Args`.
 ///
 /// It is made of an exchange, is polled, and holds the exchange's outcome once it is answered.
 #[derive(Drop)]
-pub struct Flight<A: App, Args: FromRequest<A>, H: Handler<Args>> {
-    pub(crate) stage: StageOf<A, Args, H>,
+pub struct Flight<A: App, Args, S: Service<A, Args>> {
+    pub(crate) stage: StageOf<A, Args, S>,
 }
 
-impl<A: App, Args: FromRequest<A>, H: Handler<Args>> Model for Flight<A, Args, H> {
+impl<A: App, Args, S: Service<A, Args>> Model for Flight<A, Args, S> {
     ghost use Rattle.web_worker.specs.Exchanges.{FlightView, IsUnfinished, flight_view};
 
-    ghost Value = { FlightView A.Source A.Layer A.Local A.Conn Args.Future H.Future };
+    ghost Value = { FlightView A.Source A.Layer A.Local A.Conn S.Call };
 
     ghost view = { λ f. flight_view A.Source.feed f.stage };
 
-    ghost invariant = { λ f. IsUnfinished Args.Future.is_finished H.Future.is_finished
-        (flight_view A.Source.feed f.stage) };
+    ghost invariant = { λ f. IsUnfinished S.is_finished (flight_view A.Source.feed f.stage) };
 }
 
-impl<A: App, Args: FromRequest<A>, H: Handler<Args>> Flight<A, Args, H> {
+impl<A: App, Args, S: Service<A, Args>> Flight<A, Args, S> {
     ghost use Rattle.std.specs.Prelude.{◌≡◌};
     ghost use Rattle.std.specs.Option.{option_map};
     ghost use Rattle.web_request.specs.Pool.{Pool};
@@ -107,7 +94,7 @@ impl<A: App, Args: FromRequest<A>, H: Handler<Args>> Flight<A, Args, H> {
     ghost use Rattle.web_worker.specs.PoolSteps.{after_release, serial_of};
 
     /// A flight that waits for its first poll.
-    pub fn new(exchange: Exchange<A>) -> Flight<A, Args, H>
+    pub fn new(exchange: Exchange<A>) -> Flight<A, Args, S>
         ensures { result ≡ FlightView.Waiting exchange }
     {
         Flight {
@@ -138,7 +125,7 @@ impl<A: App, Args: FromRequest<A>, H: Handler<Args>> Flight<A, Args, H> {
     }
 
     /// Whether it is not answered yet.
-    pub(crate) fn is_open(&self) -> bool
+    pub fn is_open(&self) -> bool
         ensures { result ≡ is_open self.now }
     {
         match &self.stage {
@@ -149,12 +136,10 @@ impl<A: App, Args: FromRequest<A>, H: Handler<Args>> Flight<A, Args, H> {
 
     /// Answers an open flight with `Outcome::Unfinished` and gives its record back.
     pub(crate) fn end(&mut self, pool: &mut HttpRequestPool<A>)
-    where
-        H::Output: Responder<A>,
         ensures pool { pool.new ≡ after_release (serial_of self.old) None pool.old }
         ensures answered { self.new ≡ FlightView.Answered (flight_outcome self.old) }
-        ensures may_come { (handler : H) (worker : Pool A.Layer)
-            → AnswerMayCome (⟦<H as Serves<A, Args>>⟧.setting handler worker) self.old }
+        ensures may_come { (service : S) (worker : Pool A.Layer)
+            → AnswerMayCome (⟦<S as Serves<A, Args>>⟧.setting service worker) self.old }
     {
         if self.is_open() {
             store_outcome(pool, &mut self.stage, Outcome::Unfinished);
@@ -165,9 +150,9 @@ impl<A: App, Args: FromRequest<A>, H: Handler<Args>> Flight<A, Args, H> {
 /// Answers an exchange in its place, and gives the record that it held back.
 // Inlined, so that the outcome is made in its place: 80 instructions fewer.
 #[inline(always)]
-pub(crate) fn store_outcome<A: App, U: Drop, W: Drop>(
+pub(crate) fn store_outcome<A: App, K: Drop>(
     pool: &mut HttpRequestPool<A>,
-    stage: &mut Stage<Exchange<A>, HttpRequest<A>, U, W, Outcome<A>>,
+    stage: &mut Stage<Exchange<A>, HttpRequest<A>, K, Outcome<A>>,
     outcome: Outcome<A>,
 )
     ensures pool { pool.new

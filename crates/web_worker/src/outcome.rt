@@ -13,3 +13,18 @@ pub enum Outcome<A: App> {
     /// An allocation failed in one of its polls, which ended the exchange.
     NoMemory,
 }
+
+impl<A: App> Outcome<A> {
+    ghost use Rattle.std.specs.Prelude.{◌≡◌};
+    ghost use Rattle.web_worker.specs.Outcomes.{is_unfinished, outcome_view};
+
+    /// Whether no response was ready.
+    pub(crate) fn is_unfinished(&self) -> bool
+        ensures { result ≡ is_unfinished (outcome_view A.Source.feed self.now) }
+    {
+        match self {
+            Outcome::Unfinished => true,
+            Outcome::Reply(_) | Outcome::NoMemory => false,
+        }
+    }
+}

@@ -1,190 +1,28 @@
 //! One poll of one exchange.
-ghost use Rattle.std.specs.Prelude.{◌≡◌, ◌+◌, ◌<◌, ◌^◌, IfSome, IsNone, IsSome, None, Ok, Some};
+ghost use Rattle.std.specs.Prelude.{◌≡◌, ◌+◌, ◌<◌, ◌^◌, IfSome, IsNone, None, Some};
 ghost use Rattle.std.specs.Prelude.{false, slice_get};
 ghost use Rattle.web_request.specs.Pool.{Pool, after_start, new_record, next_serial};
-ghost use Rattle.web_request.specs.Request.{Record};
-ghost use Rattle.web_worker.specs.Exchanges.{ExchangeView, FlightView, IsUnfinished, flight_view};
-ghost use Rattle.web_worker.specs.Exchanges.{request_of};
-ghost use Rattle.web_worker.specs.Flights.{is_open};
-ghost use Rattle.web_worker.specs.HandlerPromises.{SamePromises};
-ghost use Rattle.web_worker.specs.PollOne.{CallEffectAt, EffectAt, FlightPoll, IsIdle, PollsAt};
-ghost use Rattle.web_worker.specs.PoolSteps.{HeldOrReturned, TakesOrReturns};
-ghost use Rattle.web_worker.specs.PoolSteps.{after_release, serial_of};
+ghost use Rattle.web_worker.specs.Exchanges.{ExchangeView, FlightView, IsInFlight, IsUnfinished};
+ghost use Rattle.web_worker.specs.Exchanges.{flight_view, request_of};
+ghost use Rattle.web_worker.specs.Flights.{FlightMoves, is_open};
+ghost use Rattle.web_worker.specs.HandlerCalls.{AreOver};
+ghost use Rattle.web_worker.specs.PollOne.{BeginsFlight, CallEffectAt, CallPoll, EffectAt};
+ghost use Rattle.web_worker.specs.PollOne.{FlightPoll, IsIdle, PollsAt, StateAt};
+ghost use Rattle.web_worker.specs.PoolSteps.{HeldOrReturned};
+ghost use Rattle.web_worker.specs.PoolSteps.{serial_of};
 ghost use Rattle.web_worker.specs.RecordsMade.{may_make};
-ghost use Rattle.web_worker.specs.StagePolls.{ArgumentsPoll, HandlerPoll, IsStart};
-ghost use Rattle.web_worker.specs.Stages.{request_in, work_changed};
+ghost use Rattle.web_worker.specs.ServiceStates.{MovesTo};
+ghost use Rattle.web_worker.specs.Flights.{flight_outcome};
 
-use crate::answering::{error_outcome, response_outcome};
-use crate::exchange::Exchange;
-use crate::flight::{Flight, Stage, StageOf, Work, store_outcome};
-use crate::handler::Handler;
+use crate::flight::{Flight, Stage, StageOf, store_outcome};
 use crate::outcome::Outcome;
+use crate::service::Service;
 use crate::setting::Serves;
 use crate::worker::Worker;
 use std::alloc::Global;
 use std::mem;
-use web_body::{Payload, Poll, Step};
-use web_extract::FromRequest;
-use web_reply::Responder;
+use web_body::Payload;
 use web_request::{App, HttpRequest, HttpRequestPool, RequestParts};
-
-/// Answers an exchange for which an allocation failed.
-///
-/// It stands apart, so that a poll that returns `Pending` does not clear an outcome.
-fn store_no_memory<A: App, U: Drop, W: Drop>(
-    pool: &mut HttpRequestPool<A>,
-    stage: &mut Stage<Exchange<A>, HttpRequest<A>, U, W, Outcome<A>>,
-)
-    ensures pool { pool.new
-        ≡ after_release (serial_of (flight_view A.Source.feed stage.old)) None pool.old }
-    ensures stage { stage.new ≡ Stage.Answered Outcome.NoMemory }
-{
-    store_outcome(pool, stage, Outcome::NoMemory);
-}
-
-/// Polls the handler's future of an exchange that waits for it.
-fn poll_handler<A: App, Args: FromRequest<A>, H: Handler<Args>>(
-    alloc: Global,
-    pool: &mut HttpRequestPool<A>,
-    stage: &mut StageOf<A, Args, H>,
-)
-where
-    H::Output: Responder<A>,
-    requires unfinished { IsUnfinished Args.Future.is_finished H.Future.is_finished
-        (flight_view A.Source.feed stage.old) }
-    ensures pool { HeldOrReturned (serial_of (flight_view A.Source.feed stage.old))
-        (serial_of (flight_view A.Source.feed stage.new)) pool.old pool.new }
-    ensures unfinished { IsUnfinished Args.Future.is_finished H.Future.is_finished
-        (flight_view A.Source.feed stage.new) }
-    ensures polled { (handler : H) (worker : Pool A.Layer)
-        → HandlerPoll (⟦<H as Serves<A, Args>>⟧.setting handler worker)
-        (flight_view A.Source.feed stage.old) (flight_view A.Source.feed stage.new) }
-{
-    match stage {
-        Stage::InFlight(request, work) => match work {
-            Work::Handling(future) => match future.poll(alloc) {
-                Step::Pending => {}
-                Step::Ready(value) => {
-                    let outcome = response_outcome(alloc, value, request);
-                    store_outcome(pool, stage, outcome);
-                }
-                Step::NoMemory => store_no_memory(pool, stage),
-            },
-            Work::Extracting(_) => {}
-        },
-        Stage::Waiting(_) | Stage::Answered(_) => {}
-    }
-}
-
-/// Polls the future of a handler that was called for an exchange, and keeps it where it is not
-/// ready.
-///
-/// It is polled before it is put into its place, which costs more than a poll: most futures are
-/// ready at once.
-fn begin_handling<A: App, Args: FromRequest<A>, H: Handler<Args>>(
-    alloc: Global,
-    pool: &mut HttpRequestPool<A>,
-    stage: &mut StageOf<A, Args, H>,
-    mut future: H::Future,
-)
-where
-    H::Output: Responder<A>,
-    requires unfinished { H.Future.is_finished future ≡ false }
-    requires in_flight { IsSome (request_in stage.old) }
-    ensures pool { HeldOrReturned (serial_of (flight_view A.Source.feed stage.old))
-        (serial_of (flight_view A.Source.feed stage.new)) pool.old pool.new }
-    ensures unfinished { IsUnfinished Args.Future.is_finished H.Future.is_finished
-        (flight_view A.Source.feed stage.new) }
-    ensures polled { (handler : H) (worker : Pool A.Layer)
-        → HandlerPoll (⟦<H as Serves<A, Args>>⟧.setting handler worker)
-        (flight_view A.Source.feed (work_changed stage.old (Work.Handling future)))
-        (flight_view A.Source.feed stage.new) }
-{
-    match stage {
-        Stage::InFlight(request, work) => match future.poll(alloc) {
-            Step::Pending => *work = Work::Handling(future),
-            Step::Ready(value) => {
-                let outcome = response_outcome(alloc, value, request);
-                store_outcome(pool, stage, outcome);
-            }
-            Step::NoMemory => store_no_memory(pool, stage),
-        },
-        Stage::Waiting(_) | Stage::Answered(_) => {}
-    }
-}
-
-/// Calls the handler with the arguments of an exchange, and polls its future in the same turn.
-fn call_handler<A: App, Args: FromRequest<A>, H: Handler<Args>>(
-    alloc: Global,
-    pool: &mut HttpRequestPool<A>,
-    handler: &mut H,
-    stage: &mut StageOf<A, Args, H>,
-    args: Args,
-)
-where
-    H::Output: Responder<A>,
-    requires ready { H.ready handler.old }
-    requires in_flight { IsSome (request_in stage.old) }
-    ensures pool { HeldOrReturned (serial_of (flight_view A.Source.feed stage.old))
-        (serial_of (flight_view A.Source.feed stage.new)) pool.old pool.new }
-    ensures ready { H.ready handler.new }
-    ensures same_promises { SamePromises (H.answers handler.old) (H.answers handler.new) }
-    ensures unfinished { IsUnfinished Args.Future.is_finished H.Future.is_finished
-        (flight_view A.Source.feed stage.new) }
-    ensures called { (worker : Pool A.Layer) (q : Record A.Layer A.Local A.Conn) (f : Args.Future)
-        → request_in stage.old ≡ Some q → Args.Future.gives f 0 (Ok args)
-        → ArgumentsPoll (⟦<H as Serves<A, Args>>⟧.setting handler.old worker)
-        (FlightView.Extracting (record { record_of = q; future = f }))
-        (flight_view A.Source.feed stage.new)
-        (H.calls handler.old) (H.calls handler.new) }
-{
-    match handler.call(alloc, args) {
-        Ok(future) => begin_handling::<A, Args, H>(alloc, pool, stage, future),
-        Err(_) => store_no_memory(pool, stage),
-    }
-}
-
-/// Polls the arguments of an exchange that waits for them, and calls the handler with them where
-/// they are there.
-fn poll_arguments<A: App, Args: FromRequest<A>, H: Handler<Args>>(
-    alloc: Global,
-    pool: &mut HttpRequestPool<A>,
-    handler: &mut H,
-    stage: &mut StageOf<A, Args, H>,
-)
-where
-    H::Output: Responder<A>,
-    requires ready { H.ready handler.old }
-    requires unfinished { IsUnfinished Args.Future.is_finished H.Future.is_finished
-        (flight_view A.Source.feed stage.old) }
-    ensures pool { HeldOrReturned (serial_of (flight_view A.Source.feed stage.old))
-        (serial_of (flight_view A.Source.feed stage.new)) pool.old pool.new }
-    ensures ready { H.ready handler.new }
-    ensures same_promises { SamePromises (H.answers handler.old) (H.answers handler.new) }
-    ensures unfinished { IsUnfinished Args.Future.is_finished H.Future.is_finished
-        (flight_view A.Source.feed stage.new) }
-    ensures polled { (worker : Pool A.Layer)
-        → ArgumentsPoll (⟦<H as Serves<A, Args>>⟧.setting handler.old worker)
-        (flight_view A.Source.feed stage.old) (flight_view A.Source.feed stage.new)
-        (H.calls handler.old) (H.calls handler.new) }
-{
-    match stage {
-        Stage::InFlight(_, work) => match work {
-            Work::Extracting(future) => match future.poll(alloc) {
-                Step::Pending => {}
-                Step::Ready(Ok(args)) => {
-                    call_handler::<A, Args, H>(alloc, pool, handler, stage, args);
-                }
-                Step::Ready(Err(error)) => {
-                    store_outcome(pool, stage, error_outcome(alloc, error));
-                }
-                Step::NoMemory => store_no_memory(pool, stage),
-            },
-            Work::Handling(_) => {}
-        },
-        Stage::Waiting(_) | Stage::Answered(_) => {}
-    }
-}
 
 /// A record of these parts, where there is memory for it.
 fn make_record<A: App>(
@@ -204,178 +42,221 @@ fn make_record<A: App>(
     }
 }
 
-/// Makes the future of the arguments of a request. Where an allocation fails, the request is given
-/// back.
-fn begin_arguments<A: App, Args: FromRequest<A>, H: Handler<Args>>(
+/// Polls a call that was just begun, and puts it into its place where it has no answer yet.
+///
+/// It is polled before it is put there, which costs more than a poll: most calls are answered at
+/// once.
+fn poll_begun<A: App, Args, S: Service<A, Args>>(
     alloc: Global,
     pool: &mut HttpRequestPool<A>,
-    stage: &mut StageOf<A, Args, H>,
+    service: &mut S,
+    stage: &mut StageOf<A, Args, S>,
     request: HttpRequest<A>,
-    mut payload: Payload<A::Source>,
+    mut call: S::Call,
 )
-where
-    H::Output: Responder<A>,
+    requires ready { S.ready service.old }
+    requires unfinished { S.is_finished call ≡ false }
     requires no_memory { stage.old ≡ Stage.Answered Outcome.NoMemory }
+    ensures ready { S.ready service.new }
+    ensures same { S.same_promises service.old service.new }
+    ensures unfinished { IsUnfinished S.is_finished (flight_view A.Source.feed stage.new) }
     ensures pool { HeldOrReturned (Some request.serial)
         (serial_of (flight_view A.Source.feed stage.new)) pool.old pool.new }
-    ensures unfinished { IsUnfinished Args.Future.is_finished H.Future.is_finished
-        (flight_view A.Source.feed stage.new) }
-    ensures starts { (handler : H) (worker : Pool A.Layer)
-        (x : ExchangeView A.Source A.Layer A.Local A.Conn)
-        → request.request ≡ request_of worker x → x.body ≡ payload
-        → IsStart (⟦<H as Serves<A, Args>>⟧.setting handler worker) x
-        (flight_view A.Source.feed stage.new) }
+    ensures polled { (worker : Pool A.Layer)
+        → CallPoll (⟦<S as Serves<A, Args>>⟧.setting service.old worker) request.request
+        (AreOver (S.left service.old call request.request).arguments)
+        (S.left service.old call request.request) (flight_view A.Source.feed stage.new)
+        (S.calls service.old) (S.calls service.new) }
+    ensures state { MovesTo S.states request.request
+        (flight_outcome (flight_view A.Source.feed stage.new)) service.old service.new }
 {
-    match Args::from_request(alloc, &request, &mut payload) {
-        Ok(future) => *stage = Stage::InFlight(request, Work::Extracting(future)),
+    let mut outcome = Outcome::Unfinished;
+    service.poll(alloc, &mut call, &request, &mut outcome);
+    if outcome.is_unfinished() {
+        *stage = Stage::InFlight(request, call);
+    } else {
+        *stage = Stage::Answered(outcome);
+        pool.give_back(request);
+    }
+}
+
+/// Begins the call of a request, and polls it. Where an allocation fails, the request is given
+/// back.
+fn begin_call<A: App, Args, S: Service<A, Args>>(
+    alloc: Global,
+    pool: &mut HttpRequestPool<A>,
+    service: &mut S,
+    stage: &mut StageOf<A, Args, S>,
+    mut request: HttpRequest<A>,
+    mut body: Payload<A::Source>,
+)
+    requires ready { S.ready service.old }
+    requires no_memory { stage.old ≡ Stage.Answered Outcome.NoMemory }
+    ensures ready { S.ready service.new }
+    ensures same { S.same_promises service.old service.new }
+    ensures unfinished { IsUnfinished S.is_finished (flight_view A.Source.feed stage.new) }
+    ensures pool { HeldOrReturned (Some request.serial)
+        (serial_of (flight_view A.Source.feed stage.new)) pool.old pool.new }
+    ensures polled { (worker : Pool A.Layer) (x : ExchangeView A.Source A.Layer A.Local A.Conn)
+        → request.request ≡ request_of worker x → x.body ≡ body
+        → BeginsFlight (⟦<S as Serves<A, Args>>⟧.setting service.old worker) x
+        (flight_view A.Source.feed stage.new) (S.calls service.old) (S.calls service.new) }
+    ensures state { MovesTo S.states (S.completed service.old request.request)
+        (flight_outcome (flight_view A.Source.feed stage.new)) service.old service.new }
+{
+    match service.begin(alloc, &mut request, &mut body) {
+        Ok(call) => poll_begun::<A, Args, S>(alloc, pool, service, stage, request, call),
         Err(_) => pool.give_back(request),
     }
 }
 
-/// Takes a record for an exchange that waits for its first poll, and makes the future of its
-/// arguments.
+/// Takes a record for an exchange that waits for its first poll, begins its call and polls it.
 #[inline(never)]
-fn start_flight<A: App, Args: FromRequest<A>, H: Handler<Args>>(
+fn start_flight<A: App, Args, S: Service<A, Args>>(
     alloc: Global,
     pool: &mut HttpRequestPool<A>,
-    stage: &mut StageOf<A, Args, H>,
+    service: &mut S,
+    stage: &mut StageOf<A, Args, S>,
 )
-where
-    H::Output: Responder<A>,
     requires room { pool.old.made + 1 < 2 ^ 64 }
-    ensures unfinished { IsUnfinished Args.Future.is_finished H.Future.is_finished
-        (flight_view A.Source.feed stage.new) }
-    ensures makes { (x : ExchangeView A.Source A.Layer A.Local A.Conn) → stage.old ≡ Stage.Waiting x
-        → TakesOrReturns (FlightView.Waiting x) (flight_view A.Source.feed stage.new)
-        pool.old pool.new }
-    ensures starts { (handler : H) (x : ExchangeView A.Source A.Layer A.Local A.Conn)
-        → stage.old ≡ Stage.Waiting x
-        → IsStart (⟦<H as Serves<A, Args>>⟧.setting handler pool.old) x
-        (flight_view A.Source.feed stage.new) }
+    requires ready { S.ready service.old }
+    ensures ready { S.ready service.new }
+    ensures same { S.same_promises service.old service.new }
+    ensures unfinished { IsUnfinished S.is_finished (flight_view A.Source.feed stage.new) }
+    ensures polls { (x : ExchangeView A.Source A.Layer A.Local A.Conn) → stage.old ≡ Stage.Waiting x
+        → FlightPoll (⟦<S as Serves<A, Args>>⟧.setting service.old pool.old)
+        (FlightView.Waiting x) (flight_view A.Source.feed stage.new)
+        pool.old pool.new (S.calls service.old) (S.calls service.new) }
+    ensures state { (x : ExchangeView A.Source A.Layer A.Local A.Conn) → stage.old ≡ Stage.Waiting x
+        → MovesTo S.states (S.completed service.old (request_of pool.old x))
+        (flight_outcome (flight_view A.Source.feed stage.new)) service.old service.new }
 {
     let waiting = mem::replace(stage, Stage::Answered(Outcome::NoMemory));
     if let Some(exchange) = waiting.into_waiting() {
-        let (parts, payload) = exchange.into_parts();
-        if let Some(request) = make_record(alloc, pool, parts) {
-            begin_arguments::<A, Args, H>(alloc, pool, stage, request, payload);
+        let (parts, body) = exchange.into_parts();
+        match make_record(alloc, pool, parts) {
+            Some(request) => {
+                begin_call::<A, Args, S>(alloc, pool, service, stage, request, body);
+            }
+            None => {}
+        }
+    }
+}
+
+/// Goes on with the call of an exchange in flight.
+fn poll_call<A: App, Args, S: Service<A, Args>>(
+    alloc: Global,
+    pool: &mut HttpRequestPool<A>,
+    service: &mut S,
+    stage: &mut StageOf<A, Args, S>,
+)
+    requires ready { S.ready service.old }
+    requires unfinished { IsUnfinished S.is_finished (flight_view A.Source.feed stage.old) }
+    requires in_flight { IsInFlight (flight_view A.Source.feed stage.old) }
+    ensures ready { S.ready service.new }
+    ensures same { S.same_promises service.old service.new }
+    ensures unfinished { IsUnfinished S.is_finished (flight_view A.Source.feed stage.new) }
+    ensures polls { (worker : Pool A.Layer)
+        → FlightPoll (⟦<S as Serves<A, Args>>⟧.setting service.old worker)
+        (flight_view A.Source.feed stage.old) (flight_view A.Source.feed stage.new)
+        pool.old pool.new (S.calls service.old) (S.calls service.new) }
+    ensures state { (worker : Pool A.Layer)
+        → FlightMoves (⟦<S as Serves<A, Args>>⟧.setting service.old worker) S.states
+        (flight_view A.Source.feed stage.old) (flight_view A.Source.feed stage.new)
+        service.old service.new }
+{
+    if let Stage::InFlight(request, call) = stage {
+        let mut outcome = Outcome::Unfinished;
+        service.poll(alloc, call, request, &mut outcome);
+        if !outcome.is_unfinished() {
+            store_outcome(pool, stage, outcome);
         }
     }
 }
 
 /// One poll of an exchange in its place.
-fn poll_stage<A: App, Args: FromRequest<A>, H: Handler<Args>>(
+fn poll_stage<A: App, Args, S: Service<A, Args>>(
     alloc: Global,
     pool: &mut HttpRequestPool<A>,
-    handler: &mut H,
-    stage: &mut StageOf<A, Args, H>,
+    service: &mut S,
+    stage: &mut StageOf<A, Args, S>,
 )
-where
-    H::Output: Responder<A>,
     requires room { pool.old.made + may_make (Some (flight_view A.Source.feed stage.old)) < 2 ^ 64 }
-    requires ready { H.ready handler.old }
-    requires unfinished { IsUnfinished Args.Future.is_finished H.Future.is_finished
-        (flight_view A.Source.feed stage.old) }
-    ensures ready { H.ready handler.new }
-    ensures same_promises { SamePromises (H.answers handler.old) (H.answers handler.new) }
-    ensures unfinished { IsUnfinished Args.Future.is_finished H.Future.is_finished
-        (flight_view A.Source.feed stage.new) }
-    ensures polls { FlightPoll (⟦<H as Serves<A, Args>>⟧.setting handler.old pool.old)
+    requires ready { S.ready service.old }
+    requires unfinished { IsUnfinished S.is_finished (flight_view A.Source.feed stage.old) }
+    ensures ready { S.ready service.new }
+    ensures same { S.same_promises service.old service.new }
+    ensures unfinished { IsUnfinished S.is_finished (flight_view A.Source.feed stage.new) }
+    ensures polls { FlightPoll (⟦<S as Serves<A, Args>>⟧.setting service.old pool.old)
         (flight_view A.Source.feed stage.old) (flight_view A.Source.feed stage.new)
-        pool.old pool.new (H.calls handler.old) (H.calls handler.new) }
+        pool.old pool.new (S.calls service.old) (S.calls service.new) }
+    ensures state { FlightMoves (⟦<S as Serves<A, Args>>⟧.setting service.old pool.old) S.states
+        (flight_view A.Source.feed stage.old) (flight_view A.Source.feed stage.new)
+        service.old service.new }
 {
     match stage {
-        Stage::Waiting(_) => {
-            start_flight::<A, Args, H>(alloc, pool, stage);
-            poll_arguments::<A, Args, H>(alloc, pool, handler, stage);
-        }
-        Stage::InFlight(_, work) => match work {
-            Work::Extracting(_) => poll_arguments::<A, Args, H>(alloc, pool, handler, stage),
-            Work::Handling(_) => poll_handler::<A, Args, H>(alloc, pool, stage),
-        },
+        Stage::Waiting(_) => start_flight::<A, Args, S>(alloc, pool, service, stage),
+        Stage::InFlight(_, _) => poll_call::<A, Args, S>(alloc, pool, service, stage),
         Stage::Answered(_) => {}
-    }
-}
-
-/// Polls the flight of this number, where there is one.
-fn poll_at<A: App, Args: FromRequest<A>, H: Handler<Args>>(
-    alloc: Global,
-    pool: &mut HttpRequestPool<A>,
-    handler: &mut H,
-    flights: &mut [Flight<A, Args, H>],
-    k: usize,
-)
-where
-    H::Output: Responder<A>,
-    requires room { pool.old.made + may_make (slice_get flights.old k) < 2 ^ 64 }
-    requires ready { H.ready handler.old }
-    ensures ready { H.ready handler.new }
-    ensures same_promises { SamePromises (H.answers handler.old) (H.answers handler.new) }
-    ensures idle { IsIdle (slice_get flights.old k) → handler.new ≡ handler.old }
-    ensures polls { PollsAt (⟦<H as Serves<A, Args>>⟧.setting handler.old pool.old)
-        k flights.old flights.new pool.old pool.new (H.calls handler.old) (H.calls handler.new) }
-{
-    if k < flights.len() {
-        let place = &mut flights[k];
-        if place.is_open() {
-            poll_stage(alloc, pool, handler, &mut place.stage);
-        }
     }
 }
 
 /// Polls the flight of this number once. A number that names no flight, or an answered one, changes
 /// nothing, so that no failed allocation is seen.
 ///
-/// The first poll of a flight takes a record and makes its arguments' future. Where the arguments
-/// are there, the handler is called with them and polled in the same turn; where they fail, the
-/// flight is answered with the response to their error. Where the handler's value is there, the
-/// flight is answered with its response. Where an allocation fails, it is answered with
+/// The first poll of a flight takes a record and begins the service's call. Where a handler's
+/// extractors are there, the handler is called with them and polled in the same turn; where they
+/// fail, the flight is answered with the response to their error. Where the handler's value is
+/// there, the flight is answered with its response. Where an allocation fails, it is answered with
 /// `Outcome::NoMemory`. An answered flight has given its record back.
-pub fn poll_one<A: App, Args: FromRequest<A>, H: Handler<Args>>(
+pub fn poll_one<A: App, Args, S: Service<A, Args>>(
     alloc: Global,
     worker: &mut Worker<A>,
-    handler: &mut H,
-    flights: &mut [Flight<A, Args, H>],
+    service: &mut S,
+    flights: &mut [Flight<A, Args, S>],
     k: usize,
 )
-where
-    H::Output: Responder<A>,
     requires room { worker.old.made + may_make (slice_get flights.old k) < 2 ^ 64 }
-    requires ready { H.ready handler.old }
-    ensures ready { H.ready handler.new }
-    ensures same_promises { SamePromises (H.answers handler.old) (H.answers handler.new) }
-    ensures idle { IsIdle (slice_get flights.old k) → handler.new ≡ handler.old }
+    requires ready { S.ready service.old }
+    ensures ready { S.ready service.new }
+    ensures same_promises { S.same_promises service.old service.new }
+    ensures idle { IsIdle (slice_get flights.old k) → service.new ≡ service.old }
     ensures unchanged { IsIdle (slice_get flights.old k)
         → (flights.new ≡ flights.old) × (worker.new ≡ worker.old) }
-    ensures polls { PollsAt (⟦<H as Serves<A, Args>>⟧.setting handler.old worker.old)
+    ensures polls { PollsAt (⟦<S as Serves<A, Args>>⟧.setting service.old worker.old)
         k flights.old flights.new worker.old worker.new
-        (H.calls handler.old) (H.calls handler.new) }
-    ensures effect { EffectAt (⟦<H as Serves<A, Args>>⟧.setting handler.old worker.old)
+        (S.calls service.old) (S.calls service.new) }
+    ensures effect { EffectAt (⟦<S as Serves<A, Args>>⟧.setting service.old worker.old)
         k flights.old flights.new }
-    ensures call { CallEffectAt (⟦<H as Serves<A, Args>>⟧.setting handler.old worker.old)
-        k flights.old flights.new (H.calls handler.old) (H.calls handler.new) }
+    ensures call { CallEffectAt (⟦<S as Serves<A, Args>>⟧.setting service.old worker.old)
+        k flights.old flights.new (S.calls service.old) (S.calls service.new) }
+    ensures state { StateAt (⟦<S as Serves<A, Args>>⟧.setting service.old worker.old) S.states
+        k flights.old flights.new service.old service.new }
 {
-    poll_at(alloc, &mut worker.pool, handler, flights, k);
+    if k < flights.len() {
+        poll_flight::<A, Args, S>(alloc, worker, service, &mut flights[k]);
+    }
 }
 
 /// Polls one flight once, as `poll_one` polls one of a list. An answered one stays as it is.
-pub fn poll_flight<A: App, Args: FromRequest<A>, H: Handler<Args>>(
+pub fn poll_flight<A: App, Args, S: Service<A, Args>>(
     alloc: Global,
     worker: &mut Worker<A>,
-    handler: &mut H,
-    flight: &mut Flight<A, Args, H>,
+    service: &mut S,
+    flight: &mut Flight<A, Args, S>,
 )
-where
-    H::Output: Responder<A>,
     requires room { worker.old.made + may_make (Some flight.old) < 2 ^ 64 }
-    requires ready { H.ready handler.old }
-    ensures ready { H.ready handler.new }
-    ensures same_promises { SamePromises (H.answers handler.old) (H.answers handler.new) }
-    ensures idle { is_open flight.old ≡ false → handler.new ≡ handler.old }
-    ensures polls { FlightPoll (⟦<H as Serves<A, Args>>⟧.setting handler.old worker.old)
+    requires ready { S.ready service.old }
+    ensures ready { S.ready service.new }
+    ensures same_promises { S.same_promises service.old service.new }
+    ensures idle { is_open flight.old ≡ false → service.new ≡ service.old }
+    ensures polls { FlightPoll (⟦<S as Serves<A, Args>>⟧.setting service.old worker.old)
         flight.old flight.new worker.old worker.new
-        (H.calls handler.old) (H.calls handler.new) }
+        (S.calls service.old) (S.calls service.new) }
+    ensures state { FlightMoves (⟦<S as Serves<A, Args>>⟧.setting service.old worker.old) S.states
+        flight.old flight.new service.old service.new }
 {
     if flight.is_open() {
-        poll_stage(alloc, &mut worker.pool, handler, &mut flight.stage);
+        poll_stage::<A, Args, S>(alloc, &mut worker.pool, service, &mut flight.stage);
     }
 }

@@ -1,30 +1,23 @@
 //! What the polls of a worker are judged by.
 
-use crate::handler::Handler;
-use web_extract::FromRequest;
-use web_reply::Responder;
+use crate::service::Service;
 use web_request::App;
 
-/// A handler of these arguments whose outputs are responders.
+/// A service as the contracts of a worker see it.
 ///
-/// Each such handler has it; nobody implements it. Its ghost member brings together what the
-/// arguments, their error, the handler and its outputs promise, for the contracts of a worker.
-pub trait Serves<A: App, Args: FromRequest<A>>: Handler<Args> {
+/// Each service has it; nobody implements it. Its ghost member brings together what the service and
+/// the worker make of an exchange.
+pub trait Serves<A: App, Args>: Service<A, Args> {
     ghost use Rattle.web_request.specs.Pool.{Pool};
     ghost use Rattle.web_worker.specs.Setting.{Setting};
 
     /// The setting of a worker with this pool.
-    ghost setting: { Self → Pool A.Layer → Setting A.Source A.Layer A.Local A.Conn
-        Args Args.Error Self.Output Args.Future Self.Future };
+    ghost setting: { Self → Pool A.Layer → Setting A.Source A.Layer A.Local A.Conn Args Self.Call };
 }
 
-impl<A: App, Args: FromRequest<A>, H: Handler<Args>> Serves<A, Args> for H
-where
-    H::Output: Responder<A>,
-{
+impl<A: App, Args, S: Service<A, Args>> Serves<A, Args> for S {
     ghost use Rattle.web_worker.specs.Setting.{setting_of};
 
-    ghost setting = { λ handler pool. setting_of Args.means Args.Error.converts
-        (H.answers handler) H.Output.responds A.Source.feed
-        Args.Future.gives H.Future.gives pool };
+    ghost setting = { λ service pool. setting_of (S.completed service) (S.promise service)
+        (S.left service) A.Source.feed pool };
 }

@@ -1,22 +1,23 @@
 use Rattle.std.proofs.Common.{◌≡◌}
+use Rattle.web_reply.specs.Replies.{Fault}
 use Rattle.demo_picked.specs.PickedArguments.{MeansPicked}
 use Rattle.demo_picked.specs.PickedFunctions.{picked_arguments}
 use Rattle.demo_picked.proofs.PickedFunctionsLemmas.{picked_meets}
 use Rattle.demo_command.specs.PickedScripts.{AppendsPickedCalls, ArePickedReplies, IsPickedSummary}
 use Rattle.web_cli.specs.LoadTexts.{IsSummary, load_script}
 use Rattle.web_cli.specs.ScriptAnswers.{AppendsScriptCalls, AreReplies}
-use Rattle.web_cli.proofs.DemoSettingLemmas.{demo_setting}
+use Rattle.web_cli.proofs.DemoSettingLemmas.{DemoRules}
 use Rattle.web_cli.proofs.RunLemmas.{alone_as, headline_as, result_as}
 use Rattle.demo_command.proofs.command.run.Goals as goal
 
 pub returns-clause-serves : goal.returns-clause-serves
 returns-clause-serves g c = λ capacity words.
-    let s = demo_setting {U = Unit {0}} {W = Unit {0}} (record {
+    let s : DemoRules _ Fault _ = record {
       means = λ q m rest n x. MeansPicked q m rest n x;
       converts = λ e f. f ≡ e;
       answers = g.H.Handler.answers c.args.handler.now;
       responds = g.H.Output.Responder.responds;
-    }) (λ u n x. ⊥) (λ u n x. ⊥) in
+    } in
     let old = g.H.Handler.calls c.args.handler.now in
     let new = g.H.Handler.calls c.run_over.new.handler in
     let h = c.run_over.ensures.serves capacity words in (
@@ -33,12 +34,12 @@ returns-clause-serves g c = λ capacity words.
 
 pub returns-clause-headline : goal.returns-clause-headline
 returns-clause-headline g c = λ capacity words.
-    let s = demo_setting {U = Unit {0}} {W = Unit {0}} (record {
+    let s : DemoRules _ Fault _ = record {
       means = λ q m rest n x. MeansPicked q m rest n x;
       converts = λ e f. f ≡ e;
       answers = g.H.Handler.answers c.args.handler.now;
       responds = g.H.Output.Responder.responds;
-    }) (λ u n x. ⊥) (λ u n x. ⊥) in
+    } in
     let old = g.H.Handler.calls c.args.handler.now in
     let new = g.H.Handler.calls c.run_over.new.handler in
     headline_as (AreReplies s capacity)
@@ -53,12 +54,12 @@ returns-clause-headline g c = λ capacity words.
 
 pub returns-clause-replays : goal.returns-clause-replays
 returns-clause-replays g c = λ load words.
-    let s = demo_setting {U = Unit {0}} {W = Unit {0}} (record {
+    let s : DemoRules _ Fault _ = record {
       means = λ q m rest n x. MeansPicked q m rest n x;
       converts = λ e f. f ≡ e;
       answers = g.H.Handler.answers c.args.handler.now;
       responds = g.H.Output.Responder.responds;
-    }) (λ u n x. ⊥) (λ u n x. ⊥) in
+    } in
     let old = g.H.Handler.calls c.args.handler.now in
     let new = g.H.Handler.calls c.run_over.new.handler in
     alone_as (IsSummary s (load_script load))

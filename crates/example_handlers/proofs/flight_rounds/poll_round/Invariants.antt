@@ -1,4 +1,4 @@
 use Rattle.example_handlers.proofs.flight_rounds.poll_round.Given as goal
 
 abbrev pub invariant-loop-k : goal.invariant-loop-k
-invariant-loop-k g l = g.H.Handler.ready l.handler
+invariant-loop-k g l = g.H.Service.ready l.handler

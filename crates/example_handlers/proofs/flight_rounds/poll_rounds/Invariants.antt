@@ -1,4 +1,4 @@
 use Rattle.example_handlers.proofs.flight_rounds.poll_rounds.Given as goal
 
 abbrev pub invariant-loop : goal.invariant-loop
-invariant-loop g l = g.H.Handler.ready l.handler
+invariant-loop g l = g.H.Service.ready l.handler

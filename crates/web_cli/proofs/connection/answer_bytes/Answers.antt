@@ -1,5 +1,5 @@
 use Rattle.std.proofs.Common.{◌∷◌, [], refl}
-use Rattle.web_worker.specs.Setting.{setting_of}
+use Rattle.web_worker.specs.HandlerServices.{handler_setting}
 use Rattle.web_body.specs.MemoryBodies.{without_empty}
 use Rattle.web_request.specs.declared.source.Mark.TheVariants.{Piece}
 use Rattle.web_request.specs.Feed.{Feed}
@@ -10,10 +10,10 @@ use Rattle.web_cli.proofs.connection.answer_bytes.Goals as goal
 pub returns : goal.returns
 returns g c =
     let marks = without_empty (Piece c.args.bytes.items ∷ []) in
-    let s = setting_of g.Args.FromRequest.means g.Args.Error.Into.converts
+    let s = handler_setting g.Args.FromRequest.means g.Args.Error.Into.converts
     (g.H.Handler.answers c.args.handler.now) g.H.Output.Responder.responds (λ (f : Feed). f)
     g.Args.Future.Poll.gives g.H.Future.Poll.gives (demo_pool c.args.capacity) in
-    let t = setting_of {U = Unit {0}} {W = Unit {0}} g.Args.FromRequest.means g.Args.Error.Into.converts
+    let t = handler_setting {U = Unit {0}} {W = Unit {0}} g.Args.FromRequest.means g.Args.Error.Into.converts
     (g.H.Handler.answers c.args.handler.now) g.H.Output.Responder.responds (λ (f : Feed). f)
     (λ u n x. ⊥) (λ u n x. ⊥) (demo_pool c.args.capacity) in
     let whole = rw (c.in_ok-source.ensures, c.in_ok-worker.ensures) at c.serve_connection.ensures.whole in

@@ -1,4 +1,4 @@
-use Rattle.web_worker.specs.Setting.{setting_of}
+use Rattle.web_worker.specs.HandlerServices.{handler_setting}
 use Rattle.web_cli.specs.ConnectionAnswers.{AreAnswers}
 use Rattle.web_cli.proofs.ConnectionLemmas.{all_answered}
 use Rattle.web_cli.proofs.connection.connect.Goals as goal

@@ -1,17 +1,13 @@
 use Rattle.web_cli.specs.LoadTexts.{IsSummary, load_script}
 use Rattle.web_cli.specs.ScriptAnswers.{AppendsScriptCalls}
-use Rattle.web_cli.proofs.DemoSettingLemmas.{demo_setting}
+use Rattle.web_worker.specs.HandlerServices.{rules_of}
 use Rattle.web_cli.proofs.RunLemmas.{wrote}
 use Rattle.web_cli.proofs.loads.replay.Goals as goal
 
 pub returns-in-Ok-replay_script-clause-replays : goal.returns-in-Ok-replay_script-clause-replays
 returns-in-Ok-replay_script-clause-replays g c =
-    let s = demo_setting (record {
-      means = g.Args.FromRequest.means;
-      converts = g.Args.Error.Into.converts;
-      answers = g.H.Handler.answers c.args.handler.now;
-      responds = g.H.Output.Responder.responds;
-    }) g.Args.Future.Poll.gives g.H.Future.Poll.gives in
+    let s = rules_of g.Args.FromRequest.means g.Args.Error.Into.converts
+    (g.H.Handler.answers c.args.handler.now) g.H.Output.Responder.responds in
     let old = g.H.Handler.calls c.args.handler.now in
     let new = g.H.Handler.calls c.replay_script.new.handler in
     let text = rw c.in-Ok.ensures.text at c.in-Ok-replay_script.ensures.text in

@@ -2,7 +2,7 @@ use Rattle.std.proofs.Common.{◌≡◌, ◌∙◌, ap, arith, [], ℕ, List, le
 use Rattle.cli_script.specs.Script.{ScriptView, script_lines, script_view}
 use Rattle.cli_script.specs.ScriptExchanges.{exchanges}
 use Rattle.cli_script.specs.ScriptedView.{ScriptedExchangeView}
-use Rattle.web_cli.proofs.DemoSettingLemmas.{demo_setting}
+use Rattle.web_worker.specs.HandlerServices.{rules_of}
 use Rattle.web_cli.proofs.RepliesTextLemmas.{calls_same, summary_same}
 use Rattle.web_cli.proofs.loads.replay_script.Goals as goal
 
@@ -15,12 +15,8 @@ returns-in-Ok-clause-text g c =
     let is : c.len-script_len.result ≡ c.args.bytes.len = c.len-script_len.ensures in
     let es = exchanges (script_lines c.in_ok-from_vec.field-0) in
     let are = c.as_mut_slice.ensures.value ∙ c.in-Ok.ensures.added [] c.new-sink.ensures in
-    summary_same (demo_setting (record {
-      means = g.Args.FromRequest.means;
-      converts = g.Args.Error.Into.converts;
-      answers = g.H.Handler.answers c.args.handler.now;
-      responds = g.H.Output.Responder.responds;
-    }) g.Args.Future.Poll.gives g.H.Future.Poll.gives) c.summary.result
+    summary_same (rules_of g.Args.FromRequest.means g.Args.Error.Into.converts
+    (g.H.Handler.answers c.args.handler.now) g.H.Output.Responder.responds) c.summary.result
     (script_with es c.deref.result.now) (script_view (script_lines c.args.bytes.items))
     (ap (script_with es) (c.deref.ensures.value ∙ c.in-Ok.ensures.read.1)
     ∙ ap (λ (bytes : List ℕ). script_view (script_lines bytes)) c.in_ok-from_vec.ensures.ok)
@@ -31,12 +27,8 @@ pub returns-in-Ok-clause-calls : goal.returns-in-Ok-clause-calls
 returns-in-Ok-clause-calls g c =
     let es = exchanges (script_lines c.in_ok-from_vec.field-0) in
     let are = c.as_mut_slice.ensures.value ∙ c.in-Ok.ensures.added [] c.new-sink.ensures in
-    calls_same (demo_setting (record {
-      means = g.Args.FromRequest.means;
-      converts = g.Args.Error.Into.converts;
-      answers = g.H.Handler.answers c.args.handler.now;
-      responds = g.H.Output.Responder.responds;
-    }) g.Args.Future.Poll.gives g.H.Future.Poll.gives) c.summary.result
+    calls_same (rules_of g.Args.FromRequest.means g.Args.Error.Into.converts
+    (g.H.Handler.answers c.args.handler.now) g.H.Output.Responder.responds) c.summary.result
     (script_with es c.deref.result.now) (script_view (script_lines c.args.bytes.items))
     (ap (script_with es) (c.deref.ensures.value ∙ c.in-Ok.ensures.read.1)
     ∙ ap (λ (bytes : List ℕ). script_view (script_lines bytes)) c.in_ok-from_vec.ensures.ok)

@@ -66,4 +66,4 @@ returns-clause-calls g c = λ es are bodies.
       responds = g.H.Output.Responder.responds;
     }) g.met.Args.FromRequest.converted g.Args.Future.Poll.gives g.H.Future.Poll.gives a meets
     (record { exchanges = es; plan = plan }) os (g.H.Handler.calls c.args.handler.now)
-    (g.H.Handler.calls c.serve_flights.new.handler) called bodies some
+    (g.H.Handler.calls c.serve_flights.new.service) called bodies some

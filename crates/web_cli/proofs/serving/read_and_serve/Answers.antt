@@ -1,17 +1,13 @@
 use Rattle.std.proofs.Common.{◌≡◌, inr}
 use Rattle.web_cli.specs.ScriptAnswers.{AppendsScriptCalls, AreReplies}
-use Rattle.web_cli.proofs.DemoSettingLemmas.{demo_setting}
+use Rattle.web_worker.specs.HandlerServices.{rules_of}
 use Rattle.web_cli.proofs.RunLemmas.{refused, replied}
 use Rattle.web_cli.proofs.serving.read_and_serve.Goals as goal
 
 pub returns-in-Ok-Refused-clause-serves : goal.returns-in-Ok-Refused-clause-serves
 returns-in-Ok-Refused-clause-serves g c =
-    let s = demo_setting (record {
-      means = g.Args.FromRequest.means;
-      converts = g.Args.Error.Into.converts;
-      answers = g.H.Handler.answers c.args.handler.now;
-      responds = g.H.Output.Responder.responds;
-    }) g.Args.Future.Poll.gives g.H.Future.Poll.gives in
+    let s = rules_of g.Args.FromRequest.means g.Args.Error.Into.converts
+    (g.H.Handler.answers c.args.handler.now) g.H.Output.Responder.responds in
     let all = rw c.in-Ok-All.field-0-is at c.in-Ok-All.ensures in
     let fault = rw c.in-Ok-Refused.field-0-is at c.in-Ok-Refused.ensures.valid in
     let same = rw c.in-Ok-Refused.field-0-is at c.in-Ok-Refused.ensures.refused in
@@ -27,12 +23,8 @@ returns-in-Ok-Refused-clause-serves g c =
 
 pub returns-in-Ok-Replies-clause-serves : goal.returns-in-Ok-Replies-clause-serves
 returns-in-Ok-Replies-clause-serves g c =
-    let s = demo_setting (record {
-      means = g.Args.FromRequest.means;
-      converts = g.Args.Error.Into.converts;
-      answers = g.H.Handler.answers c.args.handler.now;
-      responds = g.H.Output.Responder.responds;
-    }) g.Args.Future.Poll.gives g.H.Future.Poll.gives in
+    let s = rules_of g.Args.FromRequest.means g.Args.Error.Into.converts
+    (g.H.Handler.answers c.args.handler.now) g.H.Output.Responder.responds in
     let all = rw c.in-Ok-All.field-0-is at c.in-Ok-All.ensures in
     let valid = rw c.in-Ok-Replies.field-0-is at c.in-Ok-Replies.ensures.valid in
     let text = rw c.in-Ok-Replies.field-0-is at c.in-Ok-Replies.ensures.text in

@@ -2,22 +2,22 @@ use Rattle.std.proofs.Common.{ℕ, ◌∙◌, [], length, refl, ap, subst, arith
 use Rattle.web_texts.specs.Counts.{Rose}
 use Rattle.web_request.specs.Pool.{Pool}
 use Rattle.web_worker.specs.PlanPools.{with_records}
+use Rattle.web_worker.specs.Exchanges.{request_of}
 use Rattle.web_worker.specs.Setting.{setting_of}
 use Rattle.web_messages.specs.declared.limits.Limits.{Limits}
 use Rattle.web_http1.specs.Connections.{ConnectionView, FinishesWith, ended_at}
 use Rattle.web_http1.specs.ConnectionSteps.{with_piece}
 use Rattle.web_http1.proofs.ConnectionLemmas.{steps_as}
 use Rattle.web_http1.proofs.ServingLemmas.{appends_finished, appends_none, appends_then, ended_all, ended_up_to, failed_up_to, finished, finishes_open, is_faultless, is_faulty, lacks_memory, last_fault, none_after, pieced, stalled, starts, stops_finished, stops_own, unless_lacking, waits_empty}
-use Rattle.web_http1.proofs.SettingLemmas.{same_all, same_then}
 use Rattle.web_http1.proofs.serving.serve_connection_with.Goals as goal
 
 pub turns-init : goal.turns-init
 turns-init g c =
-    let s = setting_of g.Args.FromRequest.means g.Args.Error.Into.converts (g.H.Handler.answers c.args.handler.now) g.H.Output.Responder.responds g.A.Source.Source.feed g.Args.Future.Poll.gives g.H.Future.Poll.gives c.args.worker.now in
+    let s = setting_of (g.H.Service.completed c.args.handler.now) (g.H.Service.promise c.args.handler.now) (g.H.Service.left c.args.handler.now) g.A.Source.Source.feed c.args.worker.now in
     let is_new = c.with_room-connection.ensures in
     record {
       ready = c.requires.ready;
-      same_promises = same_all (g.H.Handler.answers c.args.handler.now);
+      same_promises = g.met.H.Service.same_itself c.args.handler.now;
       unended = ap (λ (k : ConnectionView). k.ended) is_new;
       limits_are = ap (λ (k : ConnectionView). k.limits) is_new;
       waits = waits_empty c.args.limits c.with_room-connection.result is_new;
@@ -48,22 +48,24 @@ take_piece-ended-requires-clause-room g c =
     omega (arith, made, given, bounded, least, room)
 
 pub returns-in-Some-clause-same_promises : goal.returns-in-Some-clause-same_promises
-returns-in-Some-clause-same_promises g c = same_then _ _ _ c.turns.invariant.same_promises c.take_piece-ended.ensures.same_promises
+returns-in-Some-clause-same_promises g c = g.met.H.Service.same_on _ _ _ c.turns.invariant.same_promises c.take_piece-ended.ensures.same_promises
 
 pub returns-in-Some-clause-whole : goal.returns-in-Some-clause-whole
 returns-in-Some-clause-whole g c = λ marks is no.
-    let s = setting_of g.Args.FromRequest.means g.Args.Error.Into.converts (g.H.Handler.answers c.args.handler.now) g.H.Output.Responder.responds g.A.Source.Source.feed g.Args.Future.Poll.gives g.H.Future.Poll.gives c.args.worker.now in
+    let s = setting_of (g.H.Service.completed c.args.handler.now) (g.H.Service.promise c.args.handler.now) (g.H.Service.left c.args.handler.now) g.A.Source.Source.feed c.args.worker.now in
     let takes = rw (c.turns.invariant.kept, c.in-Some.is) at c.take_piece-ended.ensures.takes in
-    let step = steps_as s (g.H.Handler.answers c.args.handler.now) (g.H.Handler.answers c.turns.handler) c.turns.invariant.same_promises (with_piece c.turns.connection c.in-Piece.piece) (ended_at c.turns.connection.limits [] c.in-Some.ended) c.turns.out.items c.take_piece-ended.new.out.items takes.1 in
+    let step = steps_as g.A.Source.Source.feed (request_of c.args.worker.now) (g.H.Service.completed c.args.handler.now) (g.H.Service.completed c.turns.handler)
+    (g.H.Service.promise c.args.handler.now) (g.H.Service.promise c.turns.handler) (g.H.Service.left c.args.handler.now) (g.H.Service.left c.turns.handler) (g.met.H.Service.keeps c.args.handler.now c.turns.handler c.turns.invariant.same_promises) (with_piece c.turns.connection c.in-Piece.piece) (ended_at c.turns.connection.limits [] c.in-Some.ended) c.turns.out.items c.take_piece-ended.new.out.items takes.1 in
     ended_all s c.args.limits marks (g.S.Source.feed c.next.new.self) (ended_at c.turns.connection.limits [] c.in-Some.ended) c.args.out.now.items c.take_piece-ended.new.out.items
     (pieced s c.args.limits marks (g.S.Source.feed c.turns.source) (g.S.Source.feed c.next.new.self) c.turns.connection c.args.out.now.items c.turns.out.items c.turns.invariant.unended c.turns.invariant.limits_are (c.turns.invariant.so_far marks is) c.in-Piece.piece (ended_at c.turns.connection.limits [] c.in-Some.ended) c.take_piece-ended.new.out.items refl c.in-Piece.ensures.next step)
     c.in-Some.ended refl c.turns.invariant.limits_are
 
 pub returns-in-Some-clause-fault : goal.returns-in-Some-clause-fault
 returns-in-Some-clause-fault g c = λ marks is yes.
-    let s = setting_of g.Args.FromRequest.means g.Args.Error.Into.converts (g.H.Handler.answers c.args.handler.now) g.H.Output.Responder.responds g.A.Source.Source.feed g.Args.Future.Poll.gives g.H.Future.Poll.gives c.args.worker.now in
+    let s = setting_of (g.H.Service.completed c.args.handler.now) (g.H.Service.promise c.args.handler.now) (g.H.Service.left c.args.handler.now) g.A.Source.Source.feed c.args.worker.now in
     let takes = rw (c.turns.invariant.kept, c.in-Some.is) at c.take_piece-ended.ensures.takes in
-    let step = steps_as s (g.H.Handler.answers c.args.handler.now) (g.H.Handler.answers c.turns.handler) c.turns.invariant.same_promises (with_piece c.turns.connection c.in-Piece.piece) (ended_at c.turns.connection.limits [] c.in-Some.ended) c.turns.out.items c.take_piece-ended.new.out.items takes.1 in
+    let step = steps_as g.A.Source.Source.feed (request_of c.args.worker.now) (g.H.Service.completed c.args.handler.now) (g.H.Service.completed c.turns.handler)
+    (g.H.Service.promise c.args.handler.now) (g.H.Service.promise c.turns.handler) (g.H.Service.left c.args.handler.now) (g.H.Service.left c.turns.handler) (g.met.H.Service.keeps c.args.handler.now c.turns.handler c.turns.invariant.same_promises) (with_piece c.turns.connection c.in-Piece.piece) (ended_at c.turns.connection.limits [] c.in-Some.ended) c.turns.out.items c.take_piece-ended.new.out.items takes.1 in
     ended_up_to s c.args.limits marks (g.S.Source.feed c.next.new.self) (ended_at c.turns.connection.limits [] c.in-Some.ended) c.args.out.now.items c.take_piece-ended.new.out.items
     (pieced s c.args.limits marks (g.S.Source.feed c.turns.source) (g.S.Source.feed c.next.new.self) c.turns.connection c.args.out.now.items c.turns.out.items c.turns.invariant.unended c.turns.invariant.limits_are (c.turns.invariant.so_far marks is) c.in-Piece.piece (ended_at c.turns.connection.limits [] c.in-Some.ended) c.take_piece-ended.new.out.items refl c.in-Piece.ensures.next step)
     c.in-Some.ended refl c.turns.invariant.limits_are
@@ -89,12 +91,13 @@ returns-in-Some-clause-kept g c = c.take_piece-ended.ensures.kept ∙ ap (λ (z 
 
 pub turns-preserved-in_default : goal.turns-preserved-in_default
 turns-preserved-in_default g c =
-    let s = setting_of g.Args.FromRequest.means g.Args.Error.Into.converts (g.H.Handler.answers c.args.handler.now) g.H.Output.Responder.responds g.A.Source.Source.feed g.Args.Future.Poll.gives g.H.Future.Poll.gives c.args.worker.now in
+    let s = setting_of (g.H.Service.completed c.args.handler.now) (g.H.Service.promise c.args.handler.now) (g.H.Service.left c.args.handler.now) g.A.Source.Source.feed c.args.worker.now in
     let takes = rw (c.turns.invariant.kept, c.in_default.is) at c.take_piece-ended.ensures.takes in
-    let step = steps_as s (g.H.Handler.answers c.args.handler.now) (g.H.Handler.answers c.turns.handler) c.turns.invariant.same_promises (with_piece c.turns.connection c.in-Piece.piece) c.take_piece-ended.new.connection c.turns.out.items c.take_piece-ended.new.out.items takes.3 in
+    let step = steps_as g.A.Source.Source.feed (request_of c.args.worker.now) (g.H.Service.completed c.args.handler.now) (g.H.Service.completed c.turns.handler)
+    (g.H.Service.promise c.args.handler.now) (g.H.Service.promise c.turns.handler) (g.H.Service.left c.args.handler.now) (g.H.Service.left c.turns.handler) (g.met.H.Service.keeps c.args.handler.now c.turns.handler c.turns.invariant.same_promises) (with_piece c.turns.connection c.in-Piece.piece) c.take_piece-ended.new.connection c.turns.out.items c.take_piece-ended.new.out.items takes.3 in
     record {
       ready = c.take_piece-ended.ensures.ready;
-      same_promises = same_then _ _ _ c.turns.invariant.same_promises c.take_piece-ended.ensures.same_promises;
+      same_promises = g.met.H.Service.same_on _ _ _ c.turns.invariant.same_promises c.take_piece-ended.ensures.same_promises;
       unended = takes.0;
       limits_are = takes.1 ∙ c.turns.invariant.limits_are;
       waits = takes.2;
@@ -115,12 +118,13 @@ turns-preserved-in_default g c =
 
 pub turns-preserved-in_default-2 : goal.turns-preserved-in_default-2
 turns-preserved-in_default-2 g c =
-    let s = setting_of g.Args.FromRequest.means g.Args.Error.Into.converts (g.H.Handler.answers c.args.handler.now) g.H.Output.Responder.responds g.A.Source.Source.feed g.Args.Future.Poll.gives g.H.Future.Poll.gives c.args.worker.now in
+    let s = setting_of (g.H.Service.completed c.args.handler.now) (g.H.Service.promise c.args.handler.now) (g.H.Service.left c.args.handler.now) g.A.Source.Source.feed c.args.worker.now in
     let takes = rw (c.turns.invariant.kept, c.in_default.is) at c.take_piece-ended.ensures.takes in
-    let step = steps_as s (g.H.Handler.answers c.args.handler.now) (g.H.Handler.answers c.turns.handler) c.turns.invariant.same_promises (with_piece c.turns.connection c.in-Piece.piece) c.take_piece-ended.new.connection c.turns.out.items c.take_piece-ended.new.out.items takes.3 in
+    let step = steps_as g.A.Source.Source.feed (request_of c.args.worker.now) (g.H.Service.completed c.args.handler.now) (g.H.Service.completed c.turns.handler)
+    (g.H.Service.promise c.args.handler.now) (g.H.Service.promise c.turns.handler) (g.H.Service.left c.args.handler.now) (g.H.Service.left c.turns.handler) (g.met.H.Service.keeps c.args.handler.now c.turns.handler c.turns.invariant.same_promises) (with_piece c.turns.connection c.in-Piece.piece) c.take_piece-ended.new.connection c.turns.out.items c.take_piece-ended.new.out.items takes.3 in
     record {
       ready = c.take_piece-ended.ensures.ready;
-      same_promises = same_then _ _ _ c.turns.invariant.same_promises c.take_piece-ended.ensures.same_promises;
+      same_promises = g.met.H.Service.same_on _ _ _ c.turns.invariant.same_promises c.take_piece-ended.ensures.same_promises;
       unended = takes.0;
       limits_are = takes.1 ∙ c.turns.invariant.limits_are;
       waits = takes.2;
@@ -141,7 +145,7 @@ turns-preserved-in_default-2 g c =
 
 pub turns-preserved : goal.turns-preserved
 turns-preserved g c =
-    let s = setting_of g.Args.FromRequest.means g.Args.Error.Into.converts (g.H.Handler.answers c.args.handler.now) g.H.Output.Responder.responds g.A.Source.Source.feed g.Args.Future.Poll.gives g.H.Future.Poll.gives c.args.worker.now in
+    let s = setting_of (g.H.Service.completed c.args.handler.now) (g.H.Service.promise c.args.handler.now) (g.H.Service.left c.args.handler.now) g.A.Source.Source.feed c.args.worker.now in
     record {
       ready = c.turns.invariant.ready;
       same_promises = c.turns.invariant.same_promises;
@@ -168,12 +172,12 @@ returns-in-Fault-clause-same_promises g c = c.turns.invariant.same_promises
 
 pub returns-in-Fault-clause-whole : goal.returns-in-Fault-clause-whole
 returns-in-Fault-clause-whole g c = λ marks is no.
-    let s = setting_of g.Args.FromRequest.means g.Args.Error.Into.converts (g.H.Handler.answers c.args.handler.now) g.H.Output.Responder.responds g.A.Source.Source.feed g.Args.Future.Poll.gives g.H.Future.Poll.gives c.args.worker.now in
+    let s = setting_of (g.H.Service.completed c.args.handler.now) (g.H.Service.promise c.args.handler.now) (g.H.Service.left c.args.handler.now) g.A.Source.Source.feed c.args.worker.now in
     absurd (cc (is_faulty s c.args.limits marks (g.S.Source.feed c.turns.source) (g.S.Source.feed c.next.new.self) c.turns.connection c.args.out.now.items c.turns.out.items c.turns.invariant.unended c.turns.invariant.limits_are (c.turns.invariant.so_far marks is) c.in-Fault.ensures.next, no))
 
 pub returns-in-Fault-clause-fault : goal.returns-in-Fault-clause-fault
 returns-in-Fault-clause-fault g c = λ marks is yes.
-    let s = setting_of g.Args.FromRequest.means g.Args.Error.Into.converts (g.H.Handler.answers c.args.handler.now) g.H.Output.Responder.responds g.A.Source.Source.feed g.Args.Future.Poll.gives g.H.Future.Poll.gives c.args.worker.now in
+    let s = setting_of (g.H.Service.completed c.args.handler.now) (g.H.Service.promise c.args.handler.now) (g.H.Service.left c.args.handler.now) g.A.Source.Source.feed c.args.worker.now in
     failed_up_to s c.args.limits marks (g.S.Source.feed c.turns.source) c.turns.connection c.args.out.now.items c.turns.out.items (c.turns.invariant.so_far marks is) c.turns.invariant.unended c.turns.invariant.limits_are c.turns.invariant.waits
     (last_fault s c.args.limits marks (g.S.Source.feed c.turns.source) (g.S.Source.feed c.next.new.self) c.turns.connection c.args.out.now.items c.turns.out.items c.turns.invariant.unended c.turns.invariant.limits_are (c.turns.invariant.so_far marks is) c.in-Fault.ensures.next)
 
@@ -204,7 +208,7 @@ returns-in-End-clause-same_promises g c = c.turns.invariant.same_promises
 
 pub returns-in-End-clause-whole : goal.returns-in-End-clause-whole
 returns-in-End-clause-whole g c = λ marks is no.
-    let s = setting_of g.Args.FromRequest.means g.Args.Error.Into.converts (g.H.Handler.answers c.args.handler.now) g.H.Output.Responder.responds g.A.Source.Source.feed g.Args.Future.Poll.gives g.H.Future.Poll.gives c.args.worker.now in
+    let s = setting_of (g.H.Service.completed c.args.handler.now) (g.H.Service.promise c.args.handler.now) (g.H.Service.left c.args.handler.now) g.A.Source.Source.feed c.args.worker.now in
     let done = finishes_open c.turns.connection c.finish.result c.turns.out.items c.finish.new.out.items c.turns.invariant.unended c.finish.ensures.finishes in
     finished s c.args.limits marks (g.S.Source.feed c.turns.source) c.turns.connection c.args.out.now.items c.turns.out.items (c.turns.invariant.so_far marks is) c.turns.invariant.unended c.turns.invariant.limits_are c.turns.invariant.waits
     c.finish.result c.finish.new.out.items (none_after s c.args.limits marks (g.S.Source.feed c.turns.source) (g.S.Source.feed c.next.new.self) c.turns.connection c.args.out.now.items c.turns.out.items c.turns.invariant.unended c.turns.invariant.limits_are (c.turns.invariant.so_far marks is) c.in-End.ensures.next)
@@ -212,7 +216,7 @@ returns-in-End-clause-whole g c = λ marks is no.
 
 pub returns-in-End-clause-fault : goal.returns-in-End-clause-fault
 returns-in-End-clause-fault g c = λ marks is yes.
-    let s = setting_of g.Args.FromRequest.means g.Args.Error.Into.converts (g.H.Handler.answers c.args.handler.now) g.H.Output.Responder.responds g.A.Source.Source.feed g.Args.Future.Poll.gives g.H.Future.Poll.gives c.args.worker.now in
+    let s = setting_of (g.H.Service.completed c.args.handler.now) (g.H.Service.promise c.args.handler.now) (g.H.Service.left c.args.handler.now) g.A.Source.Source.feed c.args.worker.now in
     absurd (cc (is_faultless s c.args.limits marks (g.S.Source.feed c.turns.source) (g.S.Source.feed c.next.new.self) c.turns.connection c.args.out.now.items c.turns.out.items c.turns.invariant.unended c.turns.invariant.limits_are (c.turns.invariant.so_far marks is) c.in-End.ensures.next, yes))
 
 pub returns-in-End-clause-faults : goal.returns-in-End-clause-faults
@@ -241,7 +245,7 @@ returns-in-NoMemory-clause-same_promises g c = c.turns.invariant.same_promises
 
 pub returns-in-NoMemory-clause-whole : goal.returns-in-NoMemory-clause-whole
 returns-in-NoMemory-clause-whole g c = λ marks is no.
-    let s = setting_of g.Args.FromRequest.means g.Args.Error.Into.converts (g.H.Handler.answers c.args.handler.now) g.H.Output.Responder.responds g.A.Source.Source.feed g.Args.Future.Poll.gives g.H.Future.Poll.gives c.args.worker.now in
+    let s = setting_of (g.H.Service.completed c.args.handler.now) (g.H.Service.promise c.args.handler.now) (g.H.Service.left c.args.handler.now) g.A.Source.Source.feed c.args.worker.now in
     lacks_memory s c.args.limits marks (g.S.Source.feed c.turns.source) c.turns.connection c.args.out.now.items c.turns.out.items (c.turns.invariant.so_far marks is) (inl c.turns.invariant.unended)
 
 pub returns-in-NoMemory-clause-made : goal.returns-in-NoMemory-clause-made

@@ -1,6 +1,5 @@
 use Rattle.std.proofs.Common.{◌≡◌, ◌+◌, ◌-◌, ◌≤◌, List, length, None, Some}
 use Rattle.web_request.specs.declared.source.Mark.{Mark}
-use Rattle.web_worker.specs.HandlerPromises.{SamePromises}
 use Rattle.web_worker.specs.PlanPools.{with_records}
 use Rattle.web_worker.specs.Setting.{setting_of}
 use Rattle.web_http1.specs.Connections.{WaitsForMore}
@@ -10,8 +9,8 @@ use Rattle.web_http1.proofs.serving.serve_connection_with.Given as goal
 
 abbrev pub invariant-turns : goal.invariant-turns
 invariant-turns g l = record {
-  ready : g.H.Handler.ready l.handler;
-  same_promises : SamePromises (g.H.Handler.answers l.fn.handler) (g.H.Handler.answers l.handler);
+  ready : g.H.Service.ready l.handler;
+  same_promises : g.H.Service.same_promises l.fn.handler l.handler;
   unended : l.connection.ended ≡ None;
   limits_are : l.connection.limits ≡ l.fn.limits;
   waits : WaitsForMore l.connection;
@@ -22,7 +21,7 @@ invariant-turns g l = record {
   lacked : (g.S.Source.feed l.source).lacked ≡ (g.S.Source.feed l.fn.source).lacked;
   grows : Appends l.fn.out.items l.out.items;
   so_far : (marks : List Mark) → (g.S.Source.feed l.fn.source).marks ≡ Some marks
-      → SoFar (setting_of g.Args.FromRequest.means g.Args.Error.Into.converts (g.H.Handler.answers l.fn.handler) g.H.Output.Responder.responds g.A.Source.Source.feed g.Args.Future.Poll.gives g.H.Future.Poll.gives l.fn.worker) l.fn.limits marks (g.S.Source.feed l.source) l.connection l.fn.out.items l.out.items;
+      → SoFar (setting_of (g.H.Service.completed l.fn.handler) (g.H.Service.promise l.fn.handler) (g.H.Service.left l.fn.handler) g.A.Source.Source.feed l.fn.worker) l.fn.limits marks (g.S.Source.feed l.source) l.connection l.fn.out.items l.out.items;
 }
 
 abbrev pub decreases-turns : goal.decreases-turns

@@ -1,5 +1,4 @@
-use Rattle.web_worker.specs.Setting.{setting_of}
-use Rattle.web_routing.specs.HandlerServices.{rules_of}
+use Rattle.web_worker.specs.HandlerServices.{handler_setting, rules_of}
 use Rattle.web_routing.proofs.ServiceLawLemmas.{bridged, exactly_once, exchanged, refused_once}
 use Rattle.web_routing.proofs.laws.exchange_law.Goals as goal
 
@@ -23,6 +22,6 @@ returns-clause-exactly g c = λ h q m rest d w v y r exact answers responds.
 
 pub returns-clause-worker : goal.returns-clause-worker
 returns-clause-worker g c = λ h pool x m d r e o.
-    bridged (setting_of g.Args.FromRequest.means g.Args.Error.Into.converts
+    bridged (handler_setting g.Args.FromRequest.means g.Args.Error.Into.converts
     (g.H.Handler.answers h) g.H.Output.Responder.responds
     g.A.Source.Source.feed g.Args.Future.Poll.gives g.H.Future.Poll.gives pool) x m d r e o

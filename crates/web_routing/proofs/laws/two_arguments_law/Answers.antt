@@ -3,7 +3,7 @@ use Rattle.std.specs.Prelude.{Ok}
 use Rattle.web_extract.specs.ListMeanings.{Means2, Member}
 use Rattle.web_extract.specs.ListResults.{list2}
 use Rattle.web_extract.specs.SeenResults.{view2}
-use Rattle.web_routing.specs.HandlerServices.{rules_of}
+use Rattle.web_worker.specs.HandlerServices.{rules_of}
 use Rattle.web_routing.proofs.ServiceLawLemmas.{exchanged, member_seen}
 use Rattle.web_routing.proofs.laws.two_arguments_law.Goals as goal
 

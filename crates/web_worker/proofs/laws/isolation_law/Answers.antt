@@ -3,5 +3,8 @@ use Rattle.web_worker.proofs.laws.isolation_law.Goals as goal
 
 pub returns : goal.returns
 returns g c = λ first second one other root config same.
-    same_in_both_runs g.Args.FromRequest.means g.Args.Error.Into.converts g.H.Output.Responder.responds g.A.Source.Source.feed g.Args.Future.Poll.gives g.H.Future.Poll.gives
-    (g.H.Handler.answers one) (g.H.Handler.answers other) same first second root config
+    same_in_both_runs g.A.Source.Source.feed
+    (g.S.Service.completed one) (g.S.Service.completed other)
+    (g.S.Service.promise one) (g.S.Service.promise other)
+    (g.S.Service.left one) (g.S.Service.left other)
+    (g.met.S.Service.keeps one other same) first second root config

@@ -27,7 +27,7 @@ returns-clause-pool g c =
     let size = c.loop-flight.invariant.size in
     let last : c.loop-flight.flight-index ≡ length c.args.flights.now = (let a = c.loop-flight.auto.flight-index-end in let b = c.loop-flight-test.false in omega (arith, a, b, size)) in
     let none : drop c.loop-flight.flight-index c.args.flights.now ≡ [] = drop_all c.loop-flight.flight-index c.args.flights.now (omega (arith, last)) in
-    ap (λ fs. return_held c.loop-flight.pool (map (λ (f : FlightView _ _ _ _ _ _). serial_state f) fs)) (sym none) ∙ c.loop-flight.invariant.pool
+    ap (λ fs. return_held c.loop-flight.pool (map (λ (f : FlightView _ _ _ _ _). serial_state f) fs)) (sym none) ∙ c.loop-flight.invariant.pool
 
 pub returns-clause-answered : goal.returns-clause-answered
 returns-clause-answered g c =

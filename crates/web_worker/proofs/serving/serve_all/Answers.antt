@@ -33,51 +33,51 @@ collect_outcomes-requires-clause-room g c =
 
 pub returns-clause-outcomes : goal.returns-clause-outcomes
 returns-clause-outcomes g c =
-    let s = setting_of g.Args.FromRequest.means g.Args.Error.Into.converts (g.H.Handler.answers c.args.handler.now) g.H.Output.Responder.responds g.A.Source.Source.feed g.Args.Future.Poll.gives g.H.Future.Poll.gives c.args.worker.now in
+    let s = setting_of (g.S.Service.completed c.args.service.now) (g.S.Service.promise c.args.service.now) (g.S.Service.left c.args.service.now) g.A.Source.Source.feed c.args.worker.now in
     let waiting = c.as_mut_slice.ensures.value ∙ c.into_flights.ensures in
     let size : c.into_flights.new.flights.len ≡ length c.serve_flights.new.flights = sym (c.serve_flights.auto.flights ∙ c.as_mut_slice.ensures.len) in
     let same : outcome_views g.A.Source.Source.feed c.collect_outcomes.new.outcomes.items ≡ map (λ f. flight_outcome f) c.serve_flights.new.flights =
-    c.collect_outcomes.ensures ∙ ap (λ fs. map (λ (f : FlightView _ _ _ _ _ _). flight_outcome f) fs)
+    c.collect_outcomes.ensures ∙ ap (λ fs. map (λ (f : FlightView _ _ _ _ _). flight_outcome f) fs)
     (lent_back c.into_flights.new.flights.len c.serve_flights.new.flights (drop (length c.serve_flights.new.flights) c.into_flights.new.flights.items) size) in
     let served = subst (λ (plan : List ℕ). AllowedOutcomes s plan c.args.exchanges.items (map (λ f. flight_outcome f) c.serve_flights.new.flights)) (map_same c.args.plan.now) (c.serve_flights.ensures.outcomes c.args.exchanges.items waiting) in
     subst (λ (os : List OutcomeView). AllowedOutcomes s c.args.plan.now c.args.exchanges.items os) (sym same) served
 
 pub returns-clause-functions : goal.returns-clause-functions
 returns-clause-functions g c =
-    let s = setting_of g.Args.FromRequest.means g.Args.Error.Into.converts (g.H.Handler.answers c.args.handler.now) g.H.Output.Responder.responds g.A.Source.Source.feed g.Args.Future.Poll.gives g.H.Future.Poll.gives c.args.worker.now in
+    let s = setting_of (g.S.Service.completed c.args.service.now) (g.S.Service.promise c.args.service.now) (g.S.Service.left c.args.service.now) g.A.Source.Source.feed c.args.worker.now in
     deterministic_outcomes s c.args.plan.now c.args.exchanges.items (outcome_views g.A.Source.Source.feed c.collect_outcomes.new.outcomes.items) (returns-clause-outcomes g c)
 
 pub returns-clause-calls : goal.returns-clause-calls
 returns-clause-calls g c =
-    let s = setting_of g.Args.FromRequest.means g.Args.Error.Into.converts (g.H.Handler.answers c.args.handler.now) g.H.Output.Responder.responds g.A.Source.Source.feed g.Args.Future.Poll.gives g.H.Future.Poll.gives c.args.worker.now in
+    let s = setting_of (g.S.Service.completed c.args.service.now) (g.S.Service.promise c.args.service.now) (g.S.Service.left c.args.service.now) g.A.Source.Source.feed c.args.worker.now in
     let waiting = c.as_mut_slice.ensures.value ∙ c.into_flights.ensures in
     let size : c.into_flights.new.flights.len ≡ length c.serve_flights.new.flights = sym (c.serve_flights.auto.flights ∙ c.as_mut_slice.ensures.len) in
     let same : outcome_views g.A.Source.Source.feed c.collect_outcomes.new.outcomes.items ≡ map (λ f. flight_outcome f) c.serve_flights.new.flights =
-    c.collect_outcomes.ensures ∙ ap (λ fs. map (λ (f : FlightView _ _ _ _ _ _). flight_outcome f) fs)
+    c.collect_outcomes.ensures ∙ ap (λ fs. map (λ (f : FlightView _ _ _ _ _). flight_outcome f) fs)
     (lent_back c.into_flights.new.flights.len c.serve_flights.new.flights (drop (length c.serve_flights.new.flights) c.into_flights.new.flights.items) size) in
-    let served = subst (λ (plan : List ℕ). AppendsCalls (g.H.Handler.calls c.args.handler.now) (g.H.Handler.calls c.serve_flights.new.handler) (λ vs. AllowedCalls s (LacksMemory (map (λ f. flight_outcome f) c.serve_flights.new.flights)) c.args.exchanges.items plan vs)) (map_same c.args.plan.now) (c.serve_flights.ensures.calls c.args.exchanges.items waiting) in
-    subst (λ (os : List OutcomeView). AppendsCalls (g.H.Handler.calls c.args.handler.now) (g.H.Handler.calls c.serve_flights.new.handler) (λ vs. AllowedCalls s (LacksMemory os) c.args.exchanges.items c.args.plan.now vs)) (sym same) served
+    let served = subst (λ (plan : List ℕ). AppendsCalls (g.S.Service.calls c.args.service.now) (g.S.Service.calls c.serve_flights.new.service) (λ vs. AllowedCalls s (LacksMemory (map (λ f. flight_outcome f) c.serve_flights.new.flights)) c.args.exchanges.items plan vs)) (map_same c.args.plan.now) (c.serve_flights.ensures.calls c.args.exchanges.items waiting) in
+    subst (λ (os : List OutcomeView). AppendsCalls (g.S.Service.calls c.args.service.now) (g.S.Service.calls c.serve_flights.new.service) (λ vs. AllowedCalls s (LacksMemory os) c.args.exchanges.items c.args.plan.now vs)) (sym same) served
 
 pub returns-clause-called : goal.returns-clause-called
 returns-clause-called g c =
-    let s = setting_of g.Args.FromRequest.means g.Args.Error.Into.converts (g.H.Handler.answers c.args.handler.now) g.H.Output.Responder.responds g.A.Source.Source.feed g.Args.Future.Poll.gives g.H.Future.Poll.gives c.args.worker.now in
-    deterministic_calls s c.args.plan.now c.args.exchanges.items (outcome_views g.A.Source.Source.feed c.collect_outcomes.new.outcomes.items) (g.H.Handler.calls c.args.handler.now) (g.H.Handler.calls c.serve_flights.new.handler)
+    let s = setting_of (g.S.Service.completed c.args.service.now) (g.S.Service.promise c.args.service.now) (g.S.Service.left c.args.service.now) g.A.Source.Source.feed c.args.worker.now in
+    deterministic_calls s c.args.plan.now c.args.exchanges.items (outcome_views g.A.Source.Source.feed c.collect_outcomes.new.outcomes.items) (g.S.Service.calls c.args.service.now) (g.S.Service.calls c.serve_flights.new.service)
     (returns-clause-calls g c)
 
 pub returns-clause-pools : goal.returns-clause-pools
 returns-clause-pools g c =
-    let s = setting_of g.Args.FromRequest.means g.Args.Error.Into.converts (g.H.Handler.answers c.args.handler.now) g.H.Output.Responder.responds g.A.Source.Source.feed g.Args.Future.Poll.gives g.H.Future.Poll.gives c.args.worker.now in
+    let s = setting_of (g.S.Service.completed c.args.service.now) (g.S.Service.promise c.args.service.now) (g.S.Service.left c.args.service.now) g.A.Source.Source.feed c.args.worker.now in
     let waiting = c.as_mut_slice.ensures.value ∙ c.into_flights.ensures in
     let size : c.into_flights.new.flights.len ≡ length c.serve_flights.new.flights = sym (c.serve_flights.auto.flights ∙ c.as_mut_slice.ensures.len) in
     let same : outcome_views g.A.Source.Source.feed c.collect_outcomes.new.outcomes.items ≡ map (λ f. flight_outcome f) c.serve_flights.new.flights =
-    c.collect_outcomes.ensures ∙ ap (λ fs. map (λ (f : FlightView _ _ _ _ _ _). flight_outcome f) fs)
+    c.collect_outcomes.ensures ∙ ap (λ fs. map (λ (f : FlightView _ _ _ _ _). flight_outcome f) fs)
     (lent_back c.into_flights.new.flights.len c.serve_flights.new.flights (drop (length c.serve_flights.new.flights) c.into_flights.new.flights.items) size) in
     let served = subst (λ (plan : List ℕ). AllowedPool s plan c.args.exchanges.items (map (λ f. flight_outcome f) c.serve_flights.new.flights) c.args.worker.now c.serve_flights.new.worker) (map_same c.args.plan.now) (c.serve_flights.ensures.pools c.args.exchanges.items waiting) in
     subst (λ (os : List OutcomeView). AllowedPool s c.args.plan.now c.args.exchanges.items os c.args.worker.now c.serve_flights.new.worker) (sym same) served
 
 pub returns-clause-pool : goal.returns-clause-pool
 returns-clause-pool g c =
-    let s = setting_of g.Args.FromRequest.means g.Args.Error.Into.converts (g.H.Handler.answers c.args.handler.now) g.H.Output.Responder.responds g.A.Source.Source.feed g.Args.Future.Poll.gives g.H.Future.Poll.gives c.args.worker.now in
+    let s = setting_of (g.S.Service.completed c.args.service.now) (g.S.Service.promise c.args.service.now) (g.S.Service.left c.args.service.now) g.A.Source.Source.feed c.args.worker.now in
     pool_is s c.args.plan.now c.args.exchanges.items (outcome_views g.A.Source.Source.feed c.collect_outcomes.new.outcomes.items) c.args.worker.now c.serve_flights.new.worker
     (returns-clause-outcomes g c) (returns-clause-pools g c)
 
@@ -87,3 +87,6 @@ returns-clause-made g c =
     let count = waiting_start c.as_mut_slice.result.now c.args.exchanges.items waiting in
     let made = c.serve_flights.ensures.made in
     omega (arith, count, made)
+
+pub returns-in_default-clause-same_promises : goal.returns-in_default-clause-same_promises
+returns-in_default-clause-same_promises g c = g.met.S.Service.same_itself c.args.service.now

@@ -1,5 +1,6 @@
 use Rattle.std.proofs.Common.{◌≡◌, ◌+◌, ◌∙◌, ◌++◌, ◌∷◌, [], ℕ, List, ap, arith, length, map, refl, sym, subst, take}
 use Rattle.web_request.specs.Pool.{Pool}
+use Rattle.web_worker.specs.Exchanges.{request_of}
 use Rattle.web_worker.specs.Flights.{flight_outcome}
 use Rattle.web_worker.specs.Outcomes.{OutcomeView}
 use Rattle.web_worker.specs.PlanCalls.{AllowedCalls, AppendsCalls, LacksMemory}
@@ -16,16 +17,16 @@ use Rattle.web_worker.proofs.PoolCountLemmas.{polls_least, polls_most, polls_res
 use Rattle.web_worker.proofs.PoolEndLemmas.{returned_made, returned_rest}
 use Rattle.web_worker.proofs.PoolFunctionLemmas.{pool_is}
 use Rattle.web_worker.proofs.PoolPlanLemmas.{RunSoFar, run_ends, run_more, run_start}
-use Rattle.web_worker.proofs.SamePromiseLemmas.{polls_as}
+use Rattle.web_worker.proofs.ServiceLemmas.{polls_as}
 use Rattle.web_worker.proofs.serving.serve_flights.Goals as goal
 
 pub loop-entry-init : goal.loop-entry-init
 loop-entry-init g c =
-    let s = setting_of g.Args.FromRequest.means g.Args.Error.Into.converts (g.H.Handler.answers c.args.handler.now) g.H.Output.Responder.responds g.A.Source.Source.feed g.Args.Future.Poll.gives g.H.Future.Poll.gives c.args.worker.now in
+    let s = setting_of (g.S.Service.completed c.args.service.now) (g.S.Service.promise c.args.service.now) (g.S.Service.left c.args.service.now) g.A.Source.Source.feed c.args.worker.now in
     record {
       ready = c.requires.ready;
-      same_promises = record { kept = λ x n y h. h; same = λ x n y h. h };
-      calls = calls_start s c.args.flights.now (g.H.Handler.calls c.args.handler.now);
+      same_promises = g.met.S.Service.same_itself c.args.service.now;
+      calls = calls_start s c.args.flights.now (g.S.Service.calls c.args.service.now);
       flights = flights_start s c.args.flights.now;
       most = omega arith;
       least = omega arith;
@@ -42,42 +43,45 @@ poll_one-requires-clause-room g c =
 
 pub loop-entry-preserved : goal.loop-entry-preserved
 loop-entry-preserved g c =
-    let s = setting_of g.Args.FromRequest.means g.Args.Error.Into.converts (g.H.Handler.answers c.args.handler.now) g.H.Output.Responder.responds g.A.Source.Source.feed g.Args.Future.Poll.gives g.H.Future.Poll.gives c.args.worker.now in
+    let s = setting_of (g.S.Service.completed c.args.service.now) (g.S.Service.promise c.args.service.now) (g.S.Service.left c.args.service.now) g.A.Source.Source.feed c.args.worker.now in
     let plan = map (λ n. g.N.PlanEntry.number n) (take c.loop-entry.entry-index c.args.plan.now) in
     let next : map (λ n. g.N.PlanEntry.number n) (take (c.loop-entry.entry-index + 1) c.args.plan.now) ≡ plan ++ c.index.result ∷ [] =
     rw c.index.ensures (rw c.entry-item.is (map_next (λ n. g.N.PlanEntry.number n) c.args.plan.now c.loop-entry.entry-index c.entry-item.result c.loop-entry-test.true)) in
-    let polled = polls_as s (g.H.Handler.answers c.args.handler.now) (g.H.Handler.answers c.loop-entry.handler) c.loop-entry.invariant.same_promises
+    let polled = polls_as g.A.Source.Source.feed (request_of c.args.worker.now)
+    (g.S.Service.completed c.args.service.now) (g.S.Service.completed c.loop-entry.service)
+    (g.S.Service.promise c.args.service.now) (g.S.Service.promise c.loop-entry.service)
+    (g.S.Service.left c.args.service.now) (g.S.Service.left c.loop-entry.service)
+    (g.met.S.Service.keeps c.args.service.now c.loop-entry.service c.loop-entry.invariant.same_promises)
     c.index.result c.loop-entry.flights c.poll_one.new.flights (with_records c.loop-entry.worker.serials c.loop-entry.worker.made c.args.worker.now) c.poll_one.new.worker
-    (g.H.Handler.calls c.loop-entry.handler) (g.H.Handler.calls c.poll_one.new.handler) (rw c.loop-entry.invariant.rest at c.poll_one.ensures.polls) in
+    (g.S.Service.calls c.loop-entry.service) (g.S.Service.calls c.poll_one.new.service) (rw c.loop-entry.invariant.rest at c.poll_one.ensures.polls) in
     record {
       ready = c.poll_one.ensures.ready;
-      same_promises = record {
-        kept = λ x n y h. c.loop-entry.invariant.same_promises.kept x n y (c.poll_one.ensures.same_promises.kept x n y h);
-        same = λ x n y h. c.poll_one.ensures.same_promises.same x n y (c.loop-entry.invariant.same_promises.same x n y h);
-      };
+      same_promises = g.met.S.Service.same_on c.args.service.now c.loop-entry.service
+          c.poll_one.new.service c.loop-entry.invariant.same_promises
+          c.poll_one.ensures.same_promises;
       calls = rw next (calls_next s plan c.index.result c.args.flights.now c.loop-entry.flights c.poll_one.new.flights (with_records c.loop-entry.worker.serials c.loop-entry.worker.made c.args.worker.now) c.poll_one.new.worker
-          (g.H.Handler.calls c.args.handler.now) (g.H.Handler.calls c.loop-entry.handler) (g.H.Handler.calls c.poll_one.new.handler) c.loop-entry.invariant.calls polled);
+          (g.S.Service.calls c.args.service.now) (g.S.Service.calls c.loop-entry.service) (g.S.Service.calls c.poll_one.new.service) c.loop-entry.invariant.calls polled);
       flights = rw next (flights_next s plan c.index.result c.args.flights.now c.loop-entry.flights c.poll_one.new.flights (with_records c.loop-entry.worker.serials c.loop-entry.worker.made c.args.worker.now) c.poll_one.new.worker
-          (g.H.Handler.calls c.loop-entry.handler) (g.H.Handler.calls c.poll_one.new.handler) c.loop-entry.invariant.flights polled);
+          (g.S.Service.calls c.loop-entry.service) (g.S.Service.calls c.poll_one.new.service) c.loop-entry.invariant.flights polled);
       most =
-          let m = polls_most (setting_of g.Args.FromRequest.means g.Args.Error.Into.converts (g.H.Handler.answers c.loop-entry.handler) g.H.Output.Responder.responds g.A.Source.Source.feed g.Args.Future.Poll.gives g.H.Future.Poll.gives c.loop-entry.worker)
+          let m = polls_most (setting_of (g.S.Service.completed c.loop-entry.service) (g.S.Service.promise c.loop-entry.service) (g.S.Service.left c.loop-entry.service) g.A.Source.Source.feed c.loop-entry.worker)
           c.index.result c.loop-entry.flights c.poll_one.new.flights c.loop-entry.worker c.poll_one.new.worker
-          (g.H.Handler.calls c.loop-entry.handler) (g.H.Handler.calls c.poll_one.new.handler) c.poll_one.ensures.polls in
+          (g.S.Service.calls c.loop-entry.service) (g.S.Service.calls c.poll_one.new.service) c.poll_one.ensures.polls in
           let so_far = c.loop-entry.invariant.most in
           omega (arith, m, so_far);
       least =
-          let m = polls_least (setting_of g.Args.FromRequest.means g.Args.Error.Into.converts (g.H.Handler.answers c.loop-entry.handler) g.H.Output.Responder.responds g.A.Source.Source.feed g.Args.Future.Poll.gives g.H.Future.Poll.gives c.loop-entry.worker)
+          let m = polls_least (setting_of (g.S.Service.completed c.loop-entry.service) (g.S.Service.promise c.loop-entry.service) (g.S.Service.left c.loop-entry.service) g.A.Source.Source.feed c.loop-entry.worker)
           c.index.result c.loop-entry.flights c.poll_one.new.flights c.loop-entry.worker c.poll_one.new.worker
-          (g.H.Handler.calls c.loop-entry.handler) (g.H.Handler.calls c.poll_one.new.handler) c.poll_one.ensures.polls in
+          (g.S.Service.calls c.loop-entry.service) (g.S.Service.calls c.poll_one.new.service) c.poll_one.ensures.polls in
           let so_far = c.loop-entry.invariant.least in
           omega (arith, m, so_far);
       rest =
-          polls_rest (setting_of g.Args.FromRequest.means g.Args.Error.Into.converts (g.H.Handler.answers c.loop-entry.handler) g.H.Output.Responder.responds g.A.Source.Source.feed g.Args.Future.Poll.gives g.H.Future.Poll.gives c.loop-entry.worker)
+          polls_rest (setting_of (g.S.Service.completed c.loop-entry.service) (g.S.Service.promise c.loop-entry.service) (g.S.Service.left c.loop-entry.service) g.A.Source.Source.feed c.loop-entry.worker)
           c.index.result c.loop-entry.flights c.poll_one.new.flights c.loop-entry.worker c.poll_one.new.worker
-          (g.H.Handler.calls c.loop-entry.handler) (g.H.Handler.calls c.poll_one.new.handler) c.poll_one.ensures.polls
+          (g.S.Service.calls c.loop-entry.service) (g.S.Service.calls c.poll_one.new.service) c.poll_one.ensures.polls
           ∙ ap (λ (z : Pool _). with_records c.poll_one.new.worker.serials c.poll_one.new.worker.made z) c.loop-entry.invariant.rest;
       runs = rw next (run_more s plan c.index.result c.args.flights.now c.loop-entry.flights c.poll_one.new.flights c.args.worker.now c.loop-entry.worker c.poll_one.new.worker
-          (g.H.Handler.calls c.loop-entry.handler) (g.H.Handler.calls c.poll_one.new.handler) c.loop-entry.invariant.runs c.loop-entry.invariant.flights c.loop-entry.invariant.rest polled);
+          (g.S.Service.calls c.loop-entry.service) (g.S.Service.calls c.poll_one.new.service) c.loop-entry.invariant.runs c.loop-entry.invariant.flights c.loop-entry.invariant.rest polled);
     }
 
 pub returns-clause-answered : goal.returns-clause-answered
@@ -85,7 +89,7 @@ returns-clause-answered g c = ended_answered c.loop-entry.flights c.end_flights.
 
 pub returns-clause-outcomes : goal.returns-clause-outcomes
 returns-clause-outcomes g c = λ xs e.
-    let s = setting_of g.Args.FromRequest.means g.Args.Error.Into.converts (g.H.Handler.answers c.args.handler.now) g.H.Output.Responder.responds g.A.Source.Source.feed g.Args.Future.Poll.gives g.H.Future.Poll.gives c.args.worker.now in
+    let s = setting_of (g.S.Service.completed c.args.service.now) (g.S.Service.promise c.args.service.now) (g.S.Service.left c.args.service.now) g.A.Source.Source.feed c.args.worker.now in
     let plan = map (λ n. g.N.PlanEntry.number n) c.args.plan.now in
     let last : c.loop-entry.entry-index ≡ length c.args.plan.now = (let a = c.loop-entry.auto.entry-index-end in let b = c.loop-entry-test.false in omega (arith, a, b)) in
     let after : FlightsAfter s plan c.args.flights.now c.loop-entry.flights =
@@ -95,15 +99,15 @@ returns-clause-outcomes g c = λ xs e.
 
 pub returns-clause-functions : goal.returns-clause-functions
 returns-clause-functions g c = λ xs e.
-    let s = setting_of g.Args.FromRequest.means g.Args.Error.Into.converts (g.H.Handler.answers c.args.handler.now) g.H.Output.Responder.responds g.A.Source.Source.feed g.Args.Future.Poll.gives g.H.Future.Poll.gives c.args.worker.now in
+    let s = setting_of (g.S.Service.completed c.args.service.now) (g.S.Service.promise c.args.service.now) (g.S.Service.left c.args.service.now) g.A.Source.Source.feed c.args.worker.now in
     deterministic_outcomes s (map (λ n. g.N.PlanEntry.number n) c.args.plan.now) xs (map (λ f. flight_outcome f) c.end_flights.new.flights) (returns-clause-outcomes g c xs e)
 
 pub returns-clause-calls : goal.returns-clause-calls
 returns-clause-calls g c = λ xs e.
-    let s = setting_of g.Args.FromRequest.means g.Args.Error.Into.converts (g.H.Handler.answers c.args.handler.now) g.H.Output.Responder.responds g.A.Source.Source.feed g.Args.Future.Poll.gives g.H.Future.Poll.gives c.args.worker.now in
+    let s = setting_of (g.S.Service.completed c.args.service.now) (g.S.Service.promise c.args.service.now) (g.S.Service.left c.args.service.now) g.A.Source.Source.feed c.args.worker.now in
     let plan = map (λ n. g.N.PlanEntry.number n) c.args.plan.now in
-    let old = g.H.Handler.calls c.args.handler.now in
-    let new = g.H.Handler.calls c.loop-entry.handler in
+    let old = g.S.Service.calls c.args.service.now in
+    let new = g.S.Service.calls c.loop-entry.service in
     let last : c.loop-entry.entry-index ≡ length c.args.plan.now = (let a = c.loop-entry.auto.entry-index-end in let b = c.loop-entry-test.false in omega (arith, a, b)) in
     let after : CallsAfter s plan c.args.flights.now c.loop-entry.flights old new =
     subst (λ (plan : List ℕ). CallsAfter s plan c.args.flights.now c.loop-entry.flights old new) (map_all (λ n. g.N.PlanEntry.number n) c.args.plan.now c.loop-entry.entry-index last) c.loop-entry.invariant.calls in
@@ -112,13 +116,13 @@ returns-clause-calls g c = λ xs e.
 
 pub returns-clause-called : goal.returns-clause-called
 returns-clause-called g c = λ xs e.
-    let s = setting_of g.Args.FromRequest.means g.Args.Error.Into.converts (g.H.Handler.answers c.args.handler.now) g.H.Output.Responder.responds g.A.Source.Source.feed g.Args.Future.Poll.gives g.H.Future.Poll.gives c.args.worker.now in
-    deterministic_calls s (map (λ n. g.N.PlanEntry.number n) c.args.plan.now) xs (map (λ f. flight_outcome f) c.end_flights.new.flights) (g.H.Handler.calls c.args.handler.now) (g.H.Handler.calls c.loop-entry.handler)
+    let s = setting_of (g.S.Service.completed c.args.service.now) (g.S.Service.promise c.args.service.now) (g.S.Service.left c.args.service.now) g.A.Source.Source.feed c.args.worker.now in
+    deterministic_calls s (map (λ n. g.N.PlanEntry.number n) c.args.plan.now) xs (map (λ f. flight_outcome f) c.end_flights.new.flights) (g.S.Service.calls c.args.service.now) (g.S.Service.calls c.loop-entry.service)
     (returns-clause-calls g c xs e)
 
 pub returns-clause-pools : goal.returns-clause-pools
 returns-clause-pools g c = λ xs e.
-    let s = setting_of g.Args.FromRequest.means g.Args.Error.Into.converts (g.H.Handler.answers c.args.handler.now) g.H.Output.Responder.responds g.A.Source.Source.feed g.Args.Future.Poll.gives g.H.Future.Poll.gives c.args.worker.now in
+    let s = setting_of (g.S.Service.completed c.args.service.now) (g.S.Service.promise c.args.service.now) (g.S.Service.left c.args.service.now) g.A.Source.Source.feed c.args.worker.now in
     let plan = map (λ n. g.N.PlanEntry.number n) c.args.plan.now in
     let last : c.loop-entry.entry-index ≡ length c.args.plan.now = (let a = c.loop-entry.auto.entry-index-end in let b = c.loop-entry-test.false in omega (arith, a, b)) in
     let runs : RunSoFar s plan c.args.flights.now c.loop-entry.flights c.args.worker.now c.loop-entry.worker =
@@ -129,7 +133,7 @@ returns-clause-pools g c = λ xs e.
 
 pub returns-clause-pool : goal.returns-clause-pool
 returns-clause-pool g c = λ xs e.
-    let s = setting_of g.Args.FromRequest.means g.Args.Error.Into.converts (g.H.Handler.answers c.args.handler.now) g.H.Output.Responder.responds g.A.Source.Source.feed g.Args.Future.Poll.gives g.H.Future.Poll.gives c.args.worker.now in
+    let s = setting_of (g.S.Service.completed c.args.service.now) (g.S.Service.promise c.args.service.now) (g.S.Service.left c.args.service.now) g.A.Source.Source.feed c.args.worker.now in
     pool_is s (map (λ n. g.N.PlanEntry.number n) c.args.plan.now) xs (map (λ f. flight_outcome f) c.end_flights.new.flights) c.args.worker.now c.end_flights.new.pool
     (returns-clause-outcomes g c xs e) (returns-clause-pools g c xs e)
 

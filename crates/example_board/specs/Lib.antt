@@ -1,0 +1,2 @@
+pub mod BoardReplies
+pub mod Position

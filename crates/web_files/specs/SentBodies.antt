@@ -1,0 +1,71 @@
+-- Bodies of a folder as they are sent.
+use Rattle.std.specs.Prelude.{◌≡◌, ◌⊎◌, ℕ, List, Option, None, Some, drop}
+use Rattle.web_body.specs.declared.payload.Payload.{Payload}
+use Rattle.web_body.specs.declared.payload.Payload.TheVariants as payload
+use Rattle.web_reply.specs.Replies.{Reply, bare_reply, with_body}
+use Rattle.web_reply.specs.declared.body.BoxBody.{BoxBody}
+use Rattle.web_reply.specs.declared.body.BoxBody.TheVariants as boxed
+use Rattle.web_folders.specs.declared.body.FilePart.{FilePart}
+use Rattle.web_folders.specs.declared.body.FolderBody.{FolderBody}
+use Rattle.web_folders.specs.declared.body.FolderBody.TheVariants as body
+use Rattle.web_files.specs.Pieces.{PiecesLeft, pieces_of}
+
+-- What is known of an open file: the bytes that are left to be read, the position, and all of its
+-- bytes. Of the files of a system nothing is.
+pub record Known (F : Type 0) : Type 0 where
+  pub left : F → Option (List ℕ)
+  pub position : F → Option ℕ
+  pub bytes : F → Option (List ℕ)
+
+-- What is left to be read is what stands from the position on.
+abbrev pub ReadsFromPosition : {F : Type 0} → Known F → Type 0
+ReadsFromPosition {F} known =
+    (file : F) (at : ℕ) (bytes : List ℕ) → known.position file ≡ Some at
+    → known.bytes file ≡ Some bytes → known.left file ≡ Some (drop at bytes)
+
+-- The file after it was moved from its first position to this one: where its bytes are known, those
+-- from there on are left.
+abbrev pub IsMoved : {F : Type 0} → Known F → F → ℕ → F → Type 0
+IsMoved known file first moved =
+    (bytes : List ℕ) → ReadsFromPosition known → known.position file ≡ Some 0
+    → known.bytes file ≡ Some bytes → known.left moved ≡ Some (drop first bytes)
+
+-- a body of this length and payload
+abbrev pub IsSized : ℕ → Payload PiecesLeft → BoxBody PiecesLeft → Type 0
+IsSized count payload (boxed.Sized n p) = (n ≡ count) × (p.value ≡ payload)
+IsSized count payload boxed.Empty = ⊥
+IsSized count payload (boxed.Bytes bytes) = ⊥
+IsSized count payload (boxed.Stream p) = ⊥
+
+-- So many bytes of the file, in pieces, from the first position of the part on.
+abbrev pub SendsPart : {F : Type 0} → Known F → FilePart F → BoxBody PiecesLeft → Type 0
+SendsPart {F} known part given =
+    (moved : F) × IsMoved known part.file part.first moved
+    × IsSized part.count (payload.Stream (pieces_of part.count (known.left moved))) given
+
+abbrev pub SendsBody : {F : Type 0} → Known F → FolderBody F → BoxBody PiecesLeft → Type 0
+SendsBody known body.Empty given = given ≡ boxed.Empty
+SendsBody known (body.Page page) given = given ≡ boxed.Bytes page
+SendsBody known (body.File part) given = SendsPart known part given
+SendsBody known (body.Omitted count) given = IsSized count payload.None given
+
+abbrev pub IsFile : {F : Type 0} → FolderBody F → Type 0
+IsFile body.Empty = ⊥
+IsFile (body.Page page) = ⊥
+IsFile (body.File part) = Unit {0}
+IsFile (body.Omitted count) = ⊥
+
+-- The reply with its body as it is sent, and all else as it was. If a file cannot be read from the
+-- first position of its part, an empty 500.
+abbrev pub Streams : {F : Type 0} → Known F → Reply (FolderBody F) → Reply (BoxBody PiecesLeft)
+    → Type 0
+Streams known reply sent =
+    ((given : BoxBody PiecesLeft) × SendsBody known reply.body given
+    × (sent ≡ with_body given reply))
+    ⊎ (IsFile reply.body × (sent ≡ bare_reply 500 boxed.Empty))
+
+-- by whether it can be read
+abbrev pub SendsIfRead : {F : Type 0} → Known F → FolderBody F → Option (BoxBody PiecesLeft)
+    → Type 0
+SendsIfRead known b None = IsFile b
+SendsIfRead known b (Some given) = SendsBody known b given

@@ -1,0 +1,4 @@
+mod FileTagLemmas
+mod FolderLemmas
+mod HeaderLemmas
+mod MediaTypeLemmas

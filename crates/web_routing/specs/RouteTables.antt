@@ -1,0 +1,72 @@
+-- How a table of routes grows.
+use Rattle.std.specs.Prelude.{◌≡◌, ◌+◌, ◌⊎◌, ℕ, List, [], ◌∷◌, ◌++◌, Option, None, Some, Ok, ⊤}
+use Rattle.std.specs.Prelude.{length}
+use Rattle.std.specs.Prelude.{slice_get, slice_set}
+use Rattle.std.specs.List.{All}
+use Rattle.std.specs.Str.{IsAscii}
+use Rattle.matchit.specs.Params.{walk}
+use Rattle.matchit.specs.Route.{parse_route}
+use Rattle.matchit.specs.Router.{InsertsRead, RouteOf}
+use Rattle.matchit.specs.Rows.{RowsOf}
+use Rattle.matchit.specs.declared.params.Params.{Params}
+use Rattle.web_routing.specs.RoutedPaths.{ResourceView, TableView, route_of}
+use Rattle.web_routing.specs.declared.route_table.MethodRoute.{MethodRoute}
+
+abbrev pub empty_table : TableView
+empty_table = record { patterns = []; resources = []; count = 0 }
+
+-- P, of what each row leads to
+abbrev pub EachRow : {K : Type 0} → (K → Type 0) → RowsOf K → Type 0
+EachRow P [] = ⊤
+EachRow P (r ∷ rs) = P r.1 × EachRow P rs
+
+-- the names of parameters are ASCII
+abbrev pub AreAsciiRows : RowsOf (RouteOf ℕ) → Type 0
+AreAsciiRows rows = EachRow (λ r. IsAscii r.text) rows
+
+-- what the parameters of a match took
+abbrev pub walked : Params → List (List ℕ × List ℕ)
+walked p = walk p.pattern.now p.text.now p.path.now p.names.now 0 0
+
+abbrev pub HasPattern : List ℕ → ResourceView → Type 0
+HasPattern pattern r = r.pattern ≡ pattern
+
+-- the place of a resource of this pattern, or None where there is none
+abbrev pub PlaceOf : List ℕ → List ResourceView → Option ℕ → Type 0
+PlaceOf pattern rs (Some k) = (r : ResourceView) × (slice_get rs k ≡ Some r) × HasPattern pattern r
+PlaceOf pattern rs None = All (λ r. HasPattern pattern r → ⊥) rs
+
+-- a route of a method that had none
+abbrev pub AddsRoute : MethodRoute → ResourceView → ResourceView → Type 0
+AddsRoute route old new =
+    (route_of old.routes route.method ≡ None)
+    × (new ≡ record old { routes = old.routes ++ route ∷ [] })
+
+-- a route of a pattern that has routes
+pub record AddsMethod (route : MethodRoute) (pattern : List ℕ) (old new : TableView) : Type 0 where
+  pub place : ℕ
+  pub before : ResourceView
+  pub after : ResourceView
+  pub there : slice_get old.resources place ≡ Some before
+  pub is : HasPattern pattern before
+  pub adds : AddsRoute route before after
+  pub patterns : new.patterns ≡ old.patterns
+  pub resources : new.resources ≡ slice_set old.resources place after
+
+-- the first route of a pattern, which `matchit` takes
+pub record AddsResource
+    (route : MethodRoute) (pattern : List ℕ) (old new : TableView) : Type 0 where
+  pub patterns : InsertsRead (parse_route pattern) (length old.resources) old.patterns new.patterns
+      (Ok tt)
+  pub resources : new.resources
+      ≡ old.resources ++ record { pattern = pattern; routes = route ∷ [] } ∷ []
+  pub count : new.count ≡ old.count
+
+-- a route of this method and this pattern, which gets the next number
+abbrev pub Added : List ℕ → List ℕ → TableView → TableView → Type 0
+Added method pattern old new =
+    (new.count ≡ old.count + 1)
+    × (AddsMethod (record { method = method; number = old.count }) pattern old new
+    ⊎ (All (λ r. HasPattern pattern r → ⊥) old.resources
+    × AddsResource (record { method = method; number = old.count }) pattern old
+    (record new { count = old.count })))

@@ -1,0 +1,14 @@
+use Rattle.std.proofs.Common.{◌≡◌, ◌+◌, ◌-◌, ◌≤◌, None}
+use Rattle.web_http1.specs.Connections.{WaitsForMore, bytes_open}
+use Rattle.web_stdio.proofs.serving.serve_pieces.Given as goal
+
+abbrev pub invariant-pieces : goal.invariant-pieces
+invariant-pieces g l = record {
+  ready : g.S.Service.ready l.service;
+  unended : l.connection.ended ≡ None;
+  waits : WaitsForMore l.connection;
+  made : l.worker.made + bytes_open l.connection ≤ l.fn.worker.made + l.taken;
+}
+
+abbrev pub decreases-pieces : goal.decreases-pieces
+decreases-pieces g l = l.most - l.taken
