@@ -1,1 +1,2 @@
+mod OpenedPathLemmas
 mod PiecesLemmas

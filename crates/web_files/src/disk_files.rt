@@ -1,4 +1,7 @@
 //! Files of the file system.
+ghost use Rattle.std.specs.Prelude.{◌≡◌, IfOk, string_bytes};
+ghost use Rattle.web_files.specs.OpenedPaths.{opened_path, or_slash as or_slash_lem};
+
 use crate::links::Links;
 use std::alloc::{Allocator, Global};
 use std::fs::{DirEntry, Files, Metadata, OpenFile};
@@ -58,6 +61,18 @@ fn facts_of(metadata: &Metadata) -> FileFacts {
     }
 }
 
+/// The path, or that of the folder of all where it is empty.
+fn or_slash(full: String) -> Result<String, NoMemory>
+    ensures { IfOk result (λ path. string_bytes path ≡ or_slash_lem (string_bytes full)) }
+{
+    if !full.as_str().is_empty() {
+        return Ok(full);
+    }
+    let mut path = full;
+    path.push_str("/")?;
+    Ok(path)
+}
+
 /// The path by which the system knows an open file.
 fn descriptor_path<F: AsRawFd>(alloc: Global, file: &F) -> Result<String, NoMemory> {
     let fd = file.as_raw_fd();
@@ -79,12 +94,12 @@ impl<R: Files + Alloc<A = Global> + Drop> DiskFiles<R> {
     }
 
     /// The path in the file system.
-    fn full_path(&self, alloc: Global, path: &Below) -> Result<String, NoMemory> {
-        let mut full = path.in_folder(alloc, self.root.as_str())?;
-        if full.is_empty() {
-            full.push('/')?;
-        }
-        Ok(full)
+    fn full_path(&self, alloc: Global, path: &Below) -> Result<String, NoMemory>
+        ensures { IfOk result (λ full.
+            string_bytes full ≡ opened_path (string_bytes self.now.root) path.now.names) }
+    {
+        let full = path.in_folder(alloc, self.root.as_str())?;
+        or_slash(full)
     }
 
     /// What is at a path, without opening it: to open a pipe may wait.

@@ -7,5 +7,4 @@ ghost use Rattle.web_files.specs.Pieces.{SendsAFront, SendsAll};
 pub fn pieces_law()
     ensures front { SendsAFront }
     ensures all { SendsAll }
-{
-}
+{}

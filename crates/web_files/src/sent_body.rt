@@ -27,7 +27,10 @@ fn sized<F: Read + Drop>(
 /// The file at this position, from which it is read next. `None` if it cannot be read from there.
 fn moved<F: Read + Seek + Drop>(file: F, first: u64) -> Option<F>
     ensures { IfSome result (λ moved. IsMoved (record {
-        left = F.remaining; position = F.stream_position; bytes = F.stream_bytes })
+      left = F.remaining;
+      position = F.stream_position;
+      bytes = F.stream_bytes;
+    })
         file first moved) }
 {
     let mut file = file;
@@ -46,7 +49,10 @@ fn part_body<F: Read + Seek + Drop>(
     part: FilePart<F>,
 ) -> Result<Option<BoxBody<FilePieces<F>>>, NoMemory>
     ensures { IfOk result (λ found. IfSome found (λ body. SendsPart (record {
-            left = F.remaining; position = F.stream_position; bytes = F.stream_bytes })
+      left = F.remaining;
+      position = F.stream_position;
+      bytes = F.stream_bytes;
+    })
         part body)) }
 {
     let FilePart { file, first, count } = part;
@@ -66,7 +72,10 @@ fn sent_body<F: Read + Seek + Drop>(
     body: FolderBody<F>,
 ) -> Result<Option<BoxBody<FilePieces<F>>>, NoMemory>
     ensures { IfOk result (λ sent. SendsIfRead (record {
-            left = F.remaining; position = F.stream_position; bytes = F.stream_bytes })
+      left = F.remaining;
+      position = F.stream_position;
+      bytes = F.stream_bytes;
+    })
         body sent) }
 {
     match body {
@@ -85,7 +94,10 @@ pub fn streamed<F: Read + Seek + Drop>(
     reply: HttpResponse<FolderBody<F>>,
 ) -> Result<HttpResponse<BoxBody<FilePieces<F>>>, NoMemory>
     ensures { IfOk result (λ sent. Streams (record {
-            left = F.remaining; position = F.stream_position; bytes = F.stream_bytes })
+      left = F.remaining;
+      position = F.stream_position;
+      bytes = F.stream_bytes;
+    })
         reply sent) }
 {
     let (reply, body) = reply.into_parts();
