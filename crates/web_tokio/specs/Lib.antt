@@ -1,4 +1,0 @@
-pub mod Traffic
-pub mod SocketReplies
-pub mod Sessions
-pub mod Turns
