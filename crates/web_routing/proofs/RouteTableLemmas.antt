@@ -1,22 +1,22 @@
 -- Routes of tables: their names and the parts of paths are ASCII.
-use Rattle.std.proofs.Common.{◌≡◌, ℕ, zero, suc, ◌+◌, ◌-◌, ◌<◌, ◌≤◌, ap, refl, arith, inl, inr, length}
+use Rattle.std.proofs.Common.{◌≡◌, ℕ, zero, suc, ◌-◌, ◌<◌, ◌≤◌, ap, refl, arith, inl, inr, length}
 use Rattle.std.proofs.Common.{take, drop}
 use Rattle.std.specs.Prelude.{Bool, true, false, cond, List, [], ◌∷◌, ◌++◌, ltb, leb, ◌&&◌, ◌==◌, ◌||◌, ◌⊎◌}
 use Rattle.std.specs.Prelude.{Option, None, Some, Result, Ok, Err, IfSome, slice_get, slice_index}
 use Rattle.std.specs.Prelude.{⊤}
-use Rattle.std.specs.List.{All, list_all}
-use Rattle.std.specs.Str.{IsAscii, IsNotAscii, IsUtf8}
+use Rattle.std.specs.List.{All}
+use Rattle.std.specs.Str.{IsAscii, IsNotAscii}
 use Rattle.std.proofs.lemmas.Bool.Decides.{nat_tests}
 use Rattle.std.proofs.lemmas.List.{take_all}
-use Rattle.std.proofs.lemmas.Str.{IsAscii-append, IsAscii-drop, IsAscii-take, IsUtf8-from_ascii}
-use Rattle.std.proofs.lemmas.Str.Ascii.{IsAscii-cons, IsAscii-nil, IsAscii-push}
+use Rattle.std.proofs.lemmas.Str.{IsAscii-drop, IsAscii-take, IsUtf8-from_ascii}
+use Rattle.std.proofs.lemmas.Str.Ascii.{IsAscii-nil, IsAscii-push}
 use Rattle.matchit.specs.Order.{placed}
-use Rattle.matchit.specs.Params.{AllText, after_token, part_of, walk, wild_from, wild_stop}
-use Rattle.matchit.specs.Route.{Scan, add_name_byte, close_brace, close_name, closed_scan, feed}
-use Rattle.matchit.specs.Route.{feed_closed, feed_named, feed_name_closed, feed_name_opened}
+use Rattle.matchit.specs.Params.{AllText, part_of, walk, wild_from, wild_stop}
+use Rattle.matchit.specs.Route.{Scan, add_name_byte, close_brace, close_name, feed}
+use Rattle.matchit.specs.Route.{feed_named}
 use Rattle.matchit.specs.Route.{feed_opened, feed_outside, finish, after_close, after_feed}
-use Rattle.matchit.specs.Route.{after_shape, on_shape, open_brace, open_name, open_text, parse_route}
-use Rattle.matchit.specs.Route.{push_byte, scan, scan_start, shape_error, star, wild_token}
+use Rattle.matchit.specs.Route.{after_shape, on_shape, open_brace, open_text, parse_route}
+use Rattle.matchit.specs.Route.{scan, scan_start, shape_error, star}
 use Rattle.matchit.specs.Router.{InsertsRead, RouteOf, route_from}
 use Rattle.matchit.specs.Rows.{RowsOf, catch_all_token, comes_before, param_token}
 use Rattle.matchit.specs.Seek.{first, has_slash, longest_suffix, or_else, own, param_step, seek}

@@ -1,6 +1,6 @@
 -- Calls of routers.
 use Rattle.std.proofs.Common.{◌≡◌, ℕ, refl, inl, inr}
-use Rattle.std.specs.Prelude.{List, Option, None, Some, ⊤}
+use Rattle.std.specs.Prelude.{List, Option}
 use Rattle.web_request.specs.Request.{Request}
 use Rattle.web_reply.specs.ResponseBodies.{Plain}
 use Rattle.web_reply.specs.Replies.{Reply}

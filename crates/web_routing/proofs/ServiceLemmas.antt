@@ -1,5 +1,5 @@
 -- Calls of the services inside others.
-use Rattle.std.proofs.Common.{◌≡◌, ℕ, refl, subst, sym, inl, inr}
+use Rattle.std.proofs.Common.{◌≡◌, ℕ, refl, inl, inr}
 use Rattle.std.specs.Prelude.{Option, None, Some, List, Result, Ok, Err, IfOk, ⊤}
 use Rattle.web_request.specs.declared.source.Mark.{Mark}
 use Rattle.web_request.specs.Request.{Request}
@@ -11,8 +11,7 @@ use Rattle.web_worker.specs.HandlerServices.{extracting_promise}
 use Rattle.web_worker.specs.Outcomes.{OutcomeMeets, OutcomeView}
 use Rattle.web_worker.specs.Outcomes.{OutcomeView.Replied, OutcomeView.Unfinished}
 use Rattle.web_worker.specs.Outcomes.{OutcomeView.NoMemory}
-use Rattle.web_worker.specs.ServicePromises.{Begins, Narrows, Polls, Promise}
-use Rattle.web_worker.specs.ServicePromises.{one_later}
+use Rattle.web_worker.specs.ServicePromises.{Begins, Polls, Promise}
 use Rattle.web_worker.specs.declared.service.Whole.{Whole}
 use Rattle.web_routing.specs.ServiceRoutes.{changed, whole_promise}
 

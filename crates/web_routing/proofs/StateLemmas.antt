@@ -1,5 +1,5 @@
 -- The states of a route and of a service whose replies are changed.
-use Rattle.std.proofs.Common.{◌≡◌, refl, inl, inr}
+use Rattle.std.proofs.Common.{refl, inl, inr}
 use Rattle.std.specs.Prelude.{Option, None, Some, Result, Ok}
 use Rattle.web_texts.specs.declared.memory.NoMemory.{NoMemory as Wanting}
 use Rattle.web_reply.specs.ResponseBodies.{Plain}
