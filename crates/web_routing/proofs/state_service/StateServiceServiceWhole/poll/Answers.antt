@@ -7,7 +7,7 @@ use Rattle.web_worker.proofs.HandlerServiceLemmas.{extracting, refused}
 use Rattle.web_routing.specs.StateServices.{StateAnswers, StateSteps}
 use Rattle.web_routing.proofs.ServiceLemmas.{at_once, whole_calls, whole_polls}
 use Rattle.web_routing.proofs.StateLemmas.{state_lost, state_refused, state_replied}
-use Rattle.web_routing.proofs.state_service.StateServiceService.poll.Goals as goal
+use Rattle.web_routing.proofs.state_service.StateServiceServiceWhole.poll.Goals as goal
 
 pub returns-in-Pending-clause-polls : goal.returns-in-Pending-clause-polls
 returns-in-Pending-clause-polls g c =
@@ -43,13 +43,11 @@ returns-in-Ok-clause-calls g c =
 
 pub returns-in-Ok-clause-moves : goal.returns-in-Ok-clause-moves
 returns-in-Ok-clause-moves g c =
-    state_replied g.H.StateHandler.replies g.Args.Error.Into.converts
-    g.H.Output.Responder.responds c.args.self.now.handler c.reply.new.self
+    state_replied (λ s. s.handler) g.H.StateHandler.replies g.Args.Error.Into.converts
+    g.H.Output.Responder.responds c.args.self.now
+    (record { handler = c.reply.new.self; args = c.args.self.now.args })
     c.args.request.now.request c.in-Ready-Ok.args c.in-Ok.value c.in-Ok.ensures
     (outcome_view g.A.Source.Source.feed c.response_outcome.result) c.response_outcome.ensures
-
-pub returns-in-Err-clause-calls : goal.returns-in-Err-clause-calls
-returns-in-Err-clause-calls g c = whole_calls _ _
 
 pub returns-in-Err-clause-moves : goal.returns-in-Err-clause-moves
 returns-in-Err-clause-moves g c =
@@ -75,7 +73,7 @@ returns-in-Ready-Err-clause-calls g c =
 
 pub returns-in-Ready-Err-clause-moves : goal.returns-in-Ready-Err-clause-moves
 returns-in-Ready-Err-clause-moves g c =
-    state_refused g.H.StateHandler.replies g.Args.Error.Into.converts
-    g.H.Output.Responder.responds c.args.self.now.handler c.args.request.now.request
+    state_refused (λ s. s.handler) g.H.StateHandler.replies g.Args.Error.Into.converts
+    g.H.Output.Responder.responds c.args.self.now c.args.request.now.request
     c.in-Ready-Err.error (outcome_view g.A.Source.Source.feed c.error_outcome.result)
     c.error_outcome.ensures

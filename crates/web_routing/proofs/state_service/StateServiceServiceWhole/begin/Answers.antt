@@ -4,7 +4,7 @@ use Rattle.web_worker.specs.HandlerServices.{extracting_promise, request_promise
 use Rattle.web_worker.proofs.HandlerServiceLemmas.{begun}
 use Rattle.web_routing.specs.StateServices.{StateAnswers}
 use Rattle.web_routing.proofs.ServiceLemmas.{whole_begins, whole_to_come}
-use Rattle.web_routing.proofs.state_service.StateServiceService.begin.Goals as goal
+use Rattle.web_routing.proofs.state_service.StateServiceServiceWhole.begin.Goals as goal
 
 pub returns-clause-begins : goal.returns-clause-begins
 returns-clause-begins g c =

@@ -1,0 +1,11 @@
+use Rattle.web_worker.specs.HandlerCalls.{AreOver}
+use Rattle.web_worker.specs.Outcomes.{outcome_view}
+use Rattle.web_routing.specs.ServiceRoutes.{whole_promise}
+use Rattle.web_routing.proofs.ServiceLemmas.{whole_calls}
+use Rattle.web_routing.proofs.handler_service.HandlerServiceServiceWhole.poll.Goals as goal
+
+pub returns-clause-calls : goal.returns-clause-calls
+returns-clause-calls g c =
+    whole_calls (AreOver (whole_promise (g.H.Service.left c.args.self.now.handler
+    c.poll.new.call c.args.request.now.request)).arguments)
+    (outcome_view g.A.Source.Source.feed c.poll.new.outcome)
