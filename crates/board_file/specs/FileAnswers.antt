@@ -22,10 +22,10 @@ module _ {S : Type 0} (g : Ghosts S) where
   abbrev pub OpenAnswers : Board S → Ask → Result Told (Fail BoardError) → Board S → Type 0
   OpenAnswers old ask x new = Answers g old new ask x × SurvivesAsk g old new ask
 
-  -- one step of a board that is open or is opened now; or it could not be opened
-  abbrev pub FileAnswers
-      : Option (Board S) → Ask → Result Told (Fail BoardError) → Option (Board S) → Type 0
-  FileAnswers old ask x new =
-      ((first : Board S) × (last : Board S) × IsOpenOne old first
-      × OpenAnswers first ask x last × StaysOrCloses last new)
-      ⊎ ((old ≡ None) × (new ≡ None) × IsErr x)
+-- one step of a board that is open or is opened now; or it could not be opened
+abbrev pub FileAnswers : {B : Type 0} → (B → Ask → Result Told (Fail BoardError) → B → Type 0)
+    → Option B → Ask → Result Told (Fail BoardError) → Option B → Type 0
+FileAnswers {B} answers old ask x new =
+    ((first : B) × (last : B) × IsOpenOne old first × answers first ask x last
+    × StaysOrCloses last new)
+    ⊎ ((old ≡ None) × (new ≡ None) × IsErr x)

@@ -4,7 +4,7 @@ ghost use Rattle.board_file.specs.FileAnswers.{IsOpenOne, StaysOrCloses};
 
 use crate::access::BoardAccess;
 use board_store::{Ask, Board, BoardError, Told, failure};
-use sqlite::{Alter, Connection, File, FileStore};
+use sqlite::{Connection, File, FileStore};
 use std::alloc::Global;
 use web_texts::Fail;
 
@@ -92,13 +92,13 @@ impl BoardAccess for BoardFile {
     ghost use Rattle.board_file.specs.FileAnswers.{FileAnswers};
 
     ghost answers = { λ a ask x b.
-        FileAnswers ⟦<FileStore<File> as Alter>⟧.Store a.open ask x b.open };
+        FileAnswers ⟦<Board<FileStore<File>> as BoardAccess>⟧.answers a.open ask x b.open };
 
     /// Does what is asked, and opens the file where it is not open.
     fn answer(&mut self, alloc: Global, ask: &Ask) -> Result<Told, Fail<BoardError>> {
         match self.take() {
             Ok(mut board) => {
-                let answer = board.answer(alloc, ask);
+                let answer = BoardAccess::answer(&mut board, alloc, ask);
                 self.put_back(board, is_known(&answer));
                 answer
             }
