@@ -1,3 +1,4 @@
+use Rattle.std.specs.Prelude.{ℕ}
 use Rattle.std.proofs.Common.{ap, rules, ◌∙◌}
 use Rattle.std.specs.Prelude.{string_bytes}
 use Rattle.web_reply.specs.Responders.{text_reply}
@@ -27,5 +28,5 @@ returns g c =
     (λ q m. bytes_rest (payload_settings of_layer q.layers) q.head.headers (string_rest (payload_settings of_layer q.layers) q.head.headers m))
     (λ q m. text_and_rest (payload_settings of_layer q.layers) q.head.headers m)
     (λ q m. c.text_list_law.ensures q m)
-    feed _ _ worker x told) _ _ _ functions)
+    feed (λ (u : ℕ) n a. ⊥) (λ (w : ℕ) n y. ⊥) worker x told) _ _ _ functions)
     c.serve_all.ensures.functions

@@ -5,7 +5,7 @@ use Rattle.web_extract_body.specs.JsonArgument.{json_rest}
 use Rattle.example_shop.specs.Item.{item_of}
 use Rattle.example_shop.specs.ItemReplies.{configurations_of, item_argument, item_error}
 use Rattle.example_shop.specs.ItemReplies.{item_json, item_reply, item_result}
-use Rattle.std.specs.Prelude.{false}
+use Rattle.std.specs.Prelude.{ℕ, false}
 use Rattle.example_shop.proofs.ItemLemmas.{json_responds}
 use Rattle.example_shop.proofs.ExactLemmas.{exact_once, holds_only}
 use Rattle.example_shop.proofs.ToldBodiesLemmas.{each_answered, on_ok}
@@ -24,5 +24,5 @@ returns c =
     (λ q m. item_result (json_settings configurations_of q.layers) q.head m)
     (c.json_law.ensures (λ errors e h. item_error errors e) (λ errors e h. (refl, λ x is. is))
     (λ p t. false) (λ p t. (refl, λ x is. is)) item_of (λ d. (refl, λ x is. is)))
-    (λ (f : Feed). f) _ _ worker x told) _ _ _ functions)
+    (λ (f : Feed). f) (λ (u : ℕ) n a. ⊥) (λ (w : ℕ) n y. ⊥) worker x told) _ _ _ functions)
     c.serve_all.ensures.functions

@@ -1,3 +1,4 @@
+use Rattle.std.specs.Prelude.{ℕ}
 use Rattle.std.proofs.Common.{rules, refl}
 use Rattle.web_request.specs.Feed.{Feed}
 use Rattle.web_extract.specs.LayerConfigurations.{form_settings}
@@ -22,5 +23,5 @@ returns c =
     (λ q m. form_result (form_settings configurations_of q.layers) (λ h e head. form_refusal e) booking_of_pairs q.head m)
     (c.form_law.ensures (λ h e head. form_refusal e) (λ h e head. (refl, λ x is. is))
     booking_of_pairs (λ d. (refl, λ x is. is)))
-    (λ (f : Feed). f) _ _ worker x told) _ _ _ functions)
+    (λ (f : Feed). f) (λ (u : ℕ) n a. ⊥) (λ (w : ℕ) n y. ⊥) worker x told) _ _ _ functions)
     c.serve_all.ensures.functions

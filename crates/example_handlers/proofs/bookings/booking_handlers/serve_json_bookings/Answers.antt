@@ -1,3 +1,4 @@
+use Rattle.std.specs.Prelude.{ℕ}
 use Rattle.std.proofs.Common.{rules, refl}
 use Rattle.web_request.specs.Feed.{Feed}
 use Rattle.web_extract.specs.LayerConfigurations.{json_settings}
@@ -22,5 +23,5 @@ returns c =
     (λ q m. json_result (json_settings configurations_of q.layers) (λ h e head. json_refusal e) (λ p t. is_plain_text t) booking_of_json q.head m)
     (c.json_law.ensures (λ h e head. json_refusal e) (λ h e head. (refl, λ x is. is))
     (λ p t. is_plain_text t) (λ p t. (refl, λ x is. is)) booking_of_json (λ d. (refl, λ x is. is)))
-    (λ (f : Feed). f) _ _ worker x told) _ _ _ functions)
+    (λ (f : Feed). f) (λ (u : ℕ) n a. ⊥) (λ (w : ℕ) n y. ⊥) worker x told) _ _ _ functions)
     c.serve_all.ensures.functions
