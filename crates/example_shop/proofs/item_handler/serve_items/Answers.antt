@@ -7,7 +7,7 @@ use Rattle.example_shop.specs.ItemReplies.{configurations_of, item_argument, ite
 use Rattle.example_shop.specs.ItemReplies.{item_json, item_reply, item_result}
 use Rattle.std.specs.Prelude.{ℕ, false}
 use Rattle.example_shop.proofs.ItemLemmas.{json_responds}
-use Rattle.example_shop.proofs.ExactLemmas.{exact_once, holds_only}
+use Rattle.example_shop.proofs.ExactLemmas.{answers_of, exact_once, holds_only}
 use Rattle.example_shop.proofs.ToldBodiesLemmas.{each_answered, on_ok}
 use Rattle.example_shop.proofs.item_handler.serve_items.Goals as goal
 
@@ -17,7 +17,8 @@ returns c =
     on_ok c.serve_all.result _ _
     (λ os functions. each_answered _ (λ x. (item_argument (λ (f : Feed). f) worker x).delay)
     (λ x. item_reply (item_argument (λ (f : Feed). f) worker x).result)
-    (λ x told. exact_once _ _ (λ v n y answer. holds_only answer.0 v n y (search rules) answer.2)
+    (λ x told. exact_once _ (answers_of c.serve_all.ensures.same_promises)
+    (λ v n y answer. holds_only answer.0 v n y (search rules) answer.2)
     _ item_json (λ v q r responds. json_responds v r responds)
     (λ q m. json_rest (json_settings configurations_of q.layers) (λ errors e h. item_error errors e)
     (λ p t. false) item_of q.head m)
