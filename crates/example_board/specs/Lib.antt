@@ -1,2 +1,0 @@
-pub mod BoardReplies
-pub mod Position
