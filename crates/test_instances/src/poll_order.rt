@@ -236,7 +236,12 @@ where
     assert!(rt; flights.len() < 9);
     let plan: [u32; 4] = [0, 1, 1, 0];
     serve_flights(alloc, &mut worker, &mut flights, &plan, handler);
-    flights.iter().all(|flight| flight.outcome().is_some())
+    for flight in &flights {
+        if flight.outcome().is_none() {
+            return false;
+        }
+    }
+    true
 }
 
 /// Serves the exchanges either way, and compares the orders in which sources are asked and the
