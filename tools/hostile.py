@@ -17,10 +17,8 @@ UNREAD_CLIENTS, UNREAD_BYTES, UNREAD_KILOBYTES = 8, 32_768, 16_384
 SLOW_CLIENTS = 100
 CONNECTIONS = 10_000
 MESSAGES, FIRST_MESSAGES, MORE_KILOBYTES = 100_000, 10_000, 256
-# After so many bytes of a connection its next reply is the last.
-LAST_BYTE = 1_073_741_824
 # The most that one message may cost a process, in kilobytes.
-MESSAGE_KILOBYTES = 12_288
+MESSAGE_KILOBYTES = 8_192
 
 
 def connected(port):
@@ -124,21 +122,6 @@ def one_process(path):
         return seen
 
 
-def until_last(path, most):
-    """How many messages with a long body one process answers before it closes, how many replies say so, and its status."""
-    message = head("POST /visits HTTP/1.1", "Host: a", f"Content-Length: {most}", body=bytes(most))
-    with subprocess.Popen([path], stdin=subprocess.PIPE, stdout=subprocess.PIPE) as it:
-        sender = threading.Thread(target=feed, args=(it.stdin, message, LAST_BYTE // len(message) + 10), daemon=True)
-        sender.start()
-        data = it.stdout.read()
-        sender.join()
-        with contextlib.suppress(OSError):
-            it.stdin.close()
-        status = it.wait()
-    closing = len(re.findall(rb"(?m)^connection: close\r$", data))
-    return data.count(b"HTTP/1.1 405 "), -(-LAST_BYTE // len(message)), closing, status
-
-
 # Requests that another server reads otherwise, or that are none, with the status that they get and whether it closes.
 
 def head(line, *fields, body=b""):
@@ -155,23 +138,7 @@ TABLE = [
     (head("GET  /items/7 HTTP/1.1", "Host: a"), 400, True),
     (head("GET /items/7 HTTP/1.1 ", "Host: a"), 400, True),
     (head("GET /items/7", "Host: a"), 400, True),
-    (head("GET /items/7 HTTP/0.9", "Host: a"), 505, True),
-    (head("GET /items/7 HTTP/1.2", "Host: a"), 505, True),
-    (head("GET /items/7 HTTP/1.1"), 400, True),
-    (head("GET /items/7 HTTP/1.1", "Host: a", "Host: a"), 400, True),
-    (head("GET /items/7#x HTTP/1.1", "Host: a"), 400, True),
-    (head("GET /items/7#/../8 HTTP/1.1", "Host: a"), 400, True),
-    (head("GET http://a/items/7 HTTP/1.1", "Host: a"), 400, True),
-    (head("GET items/7 HTTP/1.1", "Host: a"), 400, True),
-    (head('GET /items/7?f="a" HTTP/1.1', "Host: a"), 400, True),
-    (head("GET * HTTP/1.1", "Host: a"), 400, True),
-    (head("OPTIONS * HTTP/1.1", "Host: a"), 204, False),
-    (head("CONNECT a:443 HTTP/1.1", "Host: a"), 400, True),
-    (head("GET /items/%37 HTTP/1.1", "Host: a"), 200, False),
-    (head(f"GET /{'a' * 9_000} HTTP/1.1", "Host: a"), 414, True),
-    (head("GET /items/7 HTTP/1.1", "Host: a", f"X: {'a' * 9_000}"), 431, True),
-    (head("GET /items/7 HTTP/1.1", "Host: a", *[f"x{it}: a" for it in range(99)]), 200, False),
-    (head("GET /items/7 HTTP/1.1", "Host: a", *[f"x{it}: a" for it in range(100)]), 431, True),
+    (head("GET /items/7 HTTP/0.9", "Host: a"), 400, True),
     (head("G(T /items/7 HTTP/1.1", "Host: a"), 400, True),
     (head("GET /items/7\x00 HTTP/1.1", "Host: a"), 400, True),
     (head("GET /items/7 HTTP/1.1", "Host: a", "X: a\x00b"), 400, True),
@@ -184,15 +151,14 @@ TABLE = [
     (head("POST /items HTTP/1.1", "Host: a", "Content-Length: 99999999999999999999"), 400, True),
     (head("POST /items HTTP/1.1", "Host: a", "Content-Length: 2000000"), 413, True),
     (head("POST /items HTTP/1.1", "Host: a", "Content-Length: 2", "Transfer-Encoding: chunked", body=b"0\r\n\r\n"), 400, True),
-    (head("POST /items HTTP/1.1", "Host: a", "Transfer-Encoding: chunked, chunked", body=b"0\r\n\r\n"), 501, True),
-    (head("POST /items HTTP/1.1", "Host: a", "Transfer-Encoding: xchunked", body=b"0\r\n\r\n"), 501, True),
-    (head("POST /items HTTP/1.1", "Host: a", "Transfer-Encoding: gzip, chunked", body=b"0\r\n\r\n"), 501, True),
+    (head("POST /items HTTP/1.1", "Host: a", "Transfer-Encoding: chunked, chunked", body=b"0\r\n\r\n"), 400, True),
+    (head("POST /items HTTP/1.1", "Host: a", "Transfer-Encoding: xchunked", body=b"0\r\n\r\n"), 400, True),
     (head("POST /items HTTP/1.1", "Host: a", "Transfer-Encoding: chunked", body=b"-1\r\n\r\n"), 400, True),
     (head("POST /items HTTP/1.1", "Host: a", "Transfer-Encoding: chunked", body=b"2\r\n{}0\r\n\r\n"), 400, True),
     (head("POST /items HTTP/1.1", "Host: a", "Transfer-Encoding: chunked", body=b"2\n{}\r\n0\r\n\r\n"), 400, True),
     (head("POST /items HTTP/1.1", "Host: a", "Transfer-Encoding: chunked", body=b"fffffffff\r\n"), 400, True),
     (head("POST /items HTTP/1.1", "Host: a", "Transfer-Encoding: chunked", body=b"100001\r\n"), 413, True),
-    (b"PRI * HTTP/2.0\r\n\r\nSM\r\n\r\n", 505, True),
+    (b"PRI * HTTP/2.0\r\n\r\nSM\r\n\r\n", 400, True),
     (b"\x16\x03\x01\x00\xa5\x01\x00\x00\xa1\x03\x03\r\n\r\n", 400, True),
 ]
 
@@ -219,31 +185,25 @@ def nested(length):
     return b"[" + b",".join([item] * max((length - 2) // (len(item) + 1), 1)) + b"]"
 
 
-def in_chunks(content, extension):
-    """Each byte as a chunk with an extension of this length."""
-    return b"".join(b"1;" + b"a" * extension + b"\r\n%c\r\n" % it for it in content) + b"0\r\n\r\n"
+def in_chunks_of_one(length):
+    return b"".join(b"1;" + b"a" * 250 + b"\r\nx\r\n" for _ in range(length)) + b"0\r\n\r\n"
 
 
-def shapes(most, most_json):
+def shapes(most):
     json = "Content-Type: application/json"
     text = b"[" + b"0," * (most // 2 - 2) + b"0]"
     fields = [f"a{it}: b" for it in range(60)]
-    for length in (most_json, most):
-        deep = nested(length)
-        yield "JSON, nested objects", head("POST /items HTTP/1.1", "Host: a", json, f"Content-Length: {len(deep)}", body=deep)
-    chunks = in_chunks(nested(most_json), 26)
-    yield "the same in chunks of one byte", head("POST /items HTTP/1.1", "Host: a", json, "Transfer-Encoding: chunked", body=chunks)
+    yield "JSON, nested objects", head("POST /items HTTP/1.1", "Host: a", json, f"Content-Length: {len(nested(most))}", body=nested(most))
     yield "JSON, numbers", head("POST /items HTTP/1.1", "Host: a", json, f"Content-Length: {len(text)}", body=text)
-    yield "chunks of one byte", head("POST /items HTTP/1.1", "Host: a", json, "Transfer-Encoding: chunked", body=in_chunks(b"x" * most, 250))
+    yield "chunks of one byte", head("POST /items HTTP/1.1", "Host: a", json, "Transfer-Encoding: chunked", body=in_chunks_of_one(most))
     yield "a body that is not read", head("POST /visits HTTP/1.1", "Host: a", f"Content-Length: {most}", body=b"a" * most)
     yield "many fields", head("GET /visits HTTP/1.1", "Host: a", *fields)
     yield "many cookies", head("GET /visits HTTP/1.1", "Host: a", "Cookie: " + "a=;" * 2_000)
 
 
-def feed(stream, data, count=1):
+def feed(stream, data):
     with contextlib.suppress(OSError):
-        for _ in range(count):
-            stream.write(data)
+        stream.write(data)
         stream.flush()
 
 
@@ -262,7 +222,7 @@ def most_kilobytes(path, data):
         return status, most
 
 
-def measure(path, listener, most_body, most_json):
+def measure(path, listener, most_body):
     """Prints what was seen, and how many of the bounds hold."""
     passed = []
 
@@ -284,10 +244,7 @@ def measure(path, listener, most_body, most_json):
     (_, before, files), (replied, behind, more_files) = one_process(path)
     seen(f"{replied} messages through one process: {before} kB and {files} files past the first {FIRST_MESSAGES}, {behind} kB and "
          f"{more_files} files past all", replied == MESSAGES and behind <= before + MORE_KILOBYTES and files == more_files)
-    replied, most, closing, status = until_last(path, most_body)
-    seen(f"{replied} messages with long bodies before a process closes, {closing} of whose replies say so: status {status}",
-         replied in (most - 1, most) and closing == 1 and status == 0)
-    for name, data in shapes(most_body, most_json):
+    for name, data in shapes(most_body):
         status, most = most_kilobytes(path, data)
         seen(f"{name}, {len(data)} bytes: {status}, at most {most} kB", most <= MESSAGE_KILOBYTES)
     print(f"{passed.count(True)} passed, {passed.count(False)} failed")

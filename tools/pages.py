@@ -96,10 +96,9 @@ def headings(page):
 
 
 def documents():
-    """The pages of docs/ and of its folders, and those of the folders docs/ of crates."""
-    tops = ["docs", *(f"crates/{crate}/docs" for crate in repository.crates())]
-    found = (os.path.join(folder, it) for top in tops for folder, _, files in os.walk(os.path.join(repository.TOP, top))
-             for it in files if it.endswith(".md"))
+    """The pages of docs/ and of its folders."""
+    top = os.path.join(repository.TOP, "docs")
+    found = (os.path.join(folder, it) for folder, _, files in os.walk(top) for it in files if it.endswith(".md"))
     return sorted(os.path.relpath(it, repository.TOP) for it in found)
 
 

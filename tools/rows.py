@@ -1,6 +1,6 @@
 """The rows of the command: what it is called with, what it reads, what it must write, and the status that it must end with.
 
-They stand in examples/, as crates/rothveng/docs/TEST-CASES.md says: many in a file NAME.rows, or one as NAME.script beside NAME.output."""
+They stand in examples/, as docs/demo/TEST-CASES.md says: many in a file NAME.rows, or one as NAME.script beside NAME.output."""
 import dataclasses
 import os
 import re

@@ -23,11 +23,6 @@ HABITS = [(re.compile(pattern.replace(" ", r"\s+"), re.M), instead) for pattern,
     (r"\b[Ww]rong bod(?:y|ies)\b(?!\))", "mutant"),
     (r"\bwhat is said here\b|\bis there at once\b", "a plain sentence"),
     (r"\bthe most of \d", "best of"),
-    (r"\bwhere (?:an?|the) [\w ]{1,25} (?:fails?|failed|ran|has gone|closes)\b", "if"),
-    (r"\bbeside\b", "next to, or besides"),
-    (r"\b(?:its|their) like\b", "similar, or the name of the kind"),
-    (r", as (?:those|that) of\b", "such as"),
-    (r"\b(?:is|are) to be\b", "must be"),
 )]
 
 

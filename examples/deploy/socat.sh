@@ -14,7 +14,7 @@ PROGRAM=${PROGRAM:-/usr/local/bin/example_site}
 LISTEN=${LISTEN:-UNIX-LISTEN:/run/site/site.sock,unlink-early,mode=660}
 
 # Kilobytes of memory of a process: above them an allocation fails, and the process ends.
-ulimit -v 65536
+ulimit -v 524288
 
 # -T ends a connection on which nothing came for 60 seconds; -t lets a reply through for 5 seconds
 # after the client closed its side. At most 64 processes run, and 512 connections wait.

@@ -93,7 +93,7 @@ fn a_route_is_found_by_its_pattern_and_its_method(rt: HostRuntime) {
     let expected = "\
         200 - all items\n\
         200 - item 7\n\
-        404 - id: no whole number from 0 to 4294967295\n\
+        404 - Path deserialize error: id: no whole number from 0 to 4294967295\n\
         200 - a b: new\n\
         200 - item 7\n\
         405 - \n\

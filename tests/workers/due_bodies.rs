@@ -4,7 +4,7 @@ use crate::compare::assert_same;
 use crate::requests::worker;
 use bytes::Bytes;
 use http::StatusCode;
-use http_header::{CONTENT_TYPE, HeaderValue};
+use http_header::HeaderValue;
 use std::alloc::Global;
 use std::process::Abort;
 use web_body::{Mark, Marks, Payload};
@@ -12,7 +12,7 @@ use web_extract::Ready;
 use web_http1::{
     Answered, Begun, BodyFraming, BodyStage, BodyWritten, Connection, DueBody, Ended, ReplySettings,
 };
-use web_messages::{HeadChecks, Limits, Wrong};
+use web_messages::{Limits, Wrong};
 use web_reply::{BoxBody, HttpResponse};
 use web_request::{NoData, NoMemory, PlainApp};
 use web_worker::{FnHandler, Handler, Worker};
@@ -20,8 +20,6 @@ use web_worker::{FnHandler, Handler, Worker};
 type Site = PlainApp<Marks>;
 
 type Streamed = HttpResponse<BoxBody<Marks>>;
-
-type Page = HttpResponse<Bytes>;
 
 /// The pieces of the body of a reply: those of the message, two bytes each, with stalls between.
 fn pieces(
@@ -65,18 +63,6 @@ fn respond(alloc: Global, bytes: &Bytes) -> Result<Streamed, NoMemory> {
         _ => StatusCode::OK,
     };
     Ok(HttpResponse::with_body(alloc, status, body_of(alloc, bytes)?))
-}
-
-/// Limits by which each refusal has its own status.
-fn limits() -> Limits {
-    let checks = HeadChecks {
-        reasons: true,
-        ..HeadChecks::NONE
-    };
-    Limits {
-        checks,
-        ..Limits::default()
-    }
 }
 
 /// Writes a body to its end.
@@ -128,7 +114,7 @@ fn served(
     let mut handler = FnHandler(|body: Bytes| -> Result<Ready<Streamed>, NoMemory> {
         Ok(Ready::new(respond(alloc, &body)?))
     });
-    let mut connection = Connection::new(alloc, limits());
+    let mut connection = Connection::new(alloc, Limits::default());
     let (mut out, mut at, mut last) = (Vec::new(alloc), 0, None);
     while at < bytes.len() {
         let next = (at + step).min(bytes.len());
@@ -152,7 +138,8 @@ fn served(
         connection = after;
         last = written.or(last);
     }
-    let ended = connection.finish_with(alloc, settings, &mut out);
+    connection.answer(alloc, &mut worker, &mut handler, &mut out);
+    let ended = connection.finish(alloc, &mut out);
     (out, ended, last)
 }
 
@@ -253,7 +240,6 @@ fn settings_change_heads_alone(rt: HostRuntime) {
         last: true,
         length_at_head: true,
         date: Some(HeaderValue::from_static("Sun, 06 Nov 1994 08:49:37 GMT")),
-        refusals: None,
     };
     let head = b"HEAD / HTTP/1.1\r\ncontent-length: 3\r\n\r\nabcGET / HTTP/1.1\r\n\r\n";
     let (out, ended, _) = served(&rt, alloc, &settings, head, 999);
@@ -268,63 +254,6 @@ fn settings_change_heads_alone(rt: HostRuntime) {
     assert_same(&rt, out.as_slice(), expected);
     assert_same(&rt, ended, Ended::Closed);
     assert_same(&rt, last, Some(BodyWritten::Done));
-}
-
-/// A reply to refusals with this status, in plain text.
-fn page(rt: &impl Abort, alloc: Global, status: StatusCode, text: &'static [u8]) -> Page {
-    let mut page = HttpResponse::with_body(alloc, status, Bytes::from_static(text));
-    let plain = HeaderValue::from_static("text/plain");
-    page.headers_mut()
-        .insert(CONTENT_TYPE, plain)
-        .expect(rt, "room");
-    page
-}
-
-/// Messages of which one is refused, and what is written for them with replies for 413 and 400.
-const REFUSED: &[(&[u8], &[u8])] = &[
-    (
-        b"POST / HTTP/1.1\r\ncontent-length: 9999999\r\n\r\n",
-        b"HTTP/1.1 413 Payload Too Large\r\ncontent-type: text/plain\r\n\
-        date: Sun, 06 Nov 1994 08:49:37 GMT\r\ncontent-length: 4\r\nconnection: close\r\n\r\nmuch",
-    ),
-    (
-        b"POST / HTTP/1.1\r\ncontent-length: +3\r\n\r\nGET / HTTP/1.1\r\n\r\n",
-        b"HTTP/1.1 400 Bad Request\r\ncontent-type: text/plain\r\n\
-        date: Sun, 06 Nov 1994 08:49:37 GMT\r\ncontent-length: 3\r\nconnection: close\r\n\r\nbad",
-    ),
-    (
-        b"GET / HTTP/1.1\r\n\r\nPOST / HTTP/1.1\r\ncontent-length: 3\r\n\r\nab",
-        b"HTTP/1.1 200 OK\r\ndate: Sun, 06 Nov 1994 08:49:37 GMT\r\ncontent-length: 0\r\n\r\n\
-        HTTP/1.1 400 Bad Request\r\ncontent-type: text/plain\r\n\
-        date: Sun, 06 Nov 1994 08:49:37 GMT\r\ncontent-length: 3\r\nconnection: close\r\n\r\nbad",
-    ),
-    (
-        b"POST / HTTP/1.1\r\ntransfer-encoding: gzip\r\n\r\n",
-        b"HTTP/1.1 501 Not Implemented\r\ndate: Sun, 06 Nov 1994 08:49:37 GMT\r\n\
-        content-length: 0\r\nconnection: close\r\n\r\n",
-    ),
-];
-
-#[test]
-fn refusals_are_answered_as_the_settings_say(rt: HostRuntime) {
-    let alloc = rt.alloc();
-    let pages = vec![in alloc;
-        page(&rt, alloc, StatusCode::PAYLOAD_TOO_LARGE, b"much"),
-        page(&rt, alloc, StatusCode::BAD_REQUEST, b"bad"),
-        page(&rt, alloc, StatusCode::BAD_REQUEST, b"other"),
-    ];
-    let settings = ReplySettings {
-        date: Some(HeaderValue::from_static("Sun, 06 Nov 1994 08:49:37 GMT")),
-        refusals: Some(pages.expect(&rt, "memory")),
-        ..ReplySettings::default()
-    };
-    for (bytes, expected) in REFUSED {
-        for step in 1..90 {
-            let (out, ended, _) = served(&rt, alloc, &settings, bytes, step);
-            assert_same(&rt, out.as_slice(), *expected);
-            assert_same(&rt, matches!(ended, Ended::Refused(_)), true);
-        }
-    }
 }
 
 #[test]

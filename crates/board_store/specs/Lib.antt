@@ -1,4 +1,3 @@
-pub mod BoardAnswers
 pub mod BoardRows
 pub mod BoardSteps
 pub mod Draft

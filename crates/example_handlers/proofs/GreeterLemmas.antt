@@ -12,12 +12,13 @@ use Rattle.web_reply.specs.Responders.{text_reply}
 use Rattle.web_extract.specs.ReadyFuture.{MeansUnit}
 use Rattle.web_extract.specs.declared.never.Never.{Never}
 use Rattle.web_worker.specs.Exchanges.{ExchangeView}
+use Rattle.web_worker.specs.OutcomeFunctions.{AnswersOnce}
 use Rattle.web_worker.specs.declared.handler_service.Work.{Work}
 use Rattle.web_worker.specs.ExchangeRules.{Rules, Replies, RepliesBefore}
 use Rattle.web_worker.specs.HandlerServices.{handler_setting, rules_of}
 use Rattle.web_worker.specs.Setting.{Setting}
 use Rattle.example_handlers.specs.Examples.{IsTold, marks_or_none}
-use Rattle.example_handlers.proofs.ToldBodiesLemmas.{HasOneAnswer, comes_before, is_told, once_told}
+use Rattle.example_handlers.proofs.ToldBodiesLemmas.{comes_before, is_told, once_told}
 
 abbrev hello : List ℕ
 hello = codes "hello"
@@ -47,7 +48,7 @@ module _ {S L D C U W : Type 0} (converts : Never → Fault → Type 0) (feed : 
       comes_before greeting_rules 1 (λ v k y answer. answer.0) polls n x (omega (arith, now, more))
 
   pub greeted : (x : ExchangeView S L D C) → IsTold feed x
-      → HasOneAnswer greeting x 1 (text_reply hello)
+      → AnswersOnce greeting x 1 (text_reply hello)
   greeted x told =
       let marks = (payload_feed feed x.body).marks in
       once_told greeting x 1 (text_reply hello) (marks_or_none marks) (is_told marks told)

@@ -19,14 +19,13 @@ use Rattle.web_reply.specs.Responders.{bytes_reply}
 use Rattle.web_extract.specs.BytesArgument.{bytes_result}
 use Rattle.web_extract.specs.LayerConfigurations.{Configurations, holds_nothing, payload_settings}
 use Rattle.web_worker.specs.Exchanges.{ExchangeView, request_of}
-use Rattle.web_worker.specs.OutcomeFunctions.{DeterministicOutcomes}
+use Rattle.web_worker.specs.OutcomeFunctions.{AnswersOnce, DeterministicOutcomes}
 use Rattle.web_worker.specs.Outcomes.{OutcomeView, OutcomeView.NoMemory}
 use Rattle.web_worker.specs.PlanOutcomes.{outcome_of, poll_count}
 use Rattle.web_worker.specs.Setting.{Setting}
 use Rattle.example_handlers.specs.Examples.{IsTold, body_argument}
 use Rattle.example_handlers.specs.Examples.{content_reply, marks_or_none}
 use Rattle.example_handlers.proofs.EchoLemmas.{echo, echoed}
-use Rattle.example_handlers.proofs.ToldBodiesLemmas.{HasOneAnswer}
 
 abbrev pub hello_marks : List Mark
 hello_marks = Piece (codes "he") ∷ Stall ∷ Piece (codes "llo") ∷ []
@@ -38,7 +37,7 @@ hello_bytes : answer_of (reading default_limit hello_marks).content ≡ Ok (code
 hello_bytes = unfold reading in refl
 
 module _ {S L D C V K : Type 0} (s : Setting S L D C V K) (x : ExchangeView S L D C)
-    (d : ℕ) (r : Reply Plain) (once : HasOneAnswer s x d r) (plan : List ℕ) where
+    (d : ℕ) (r : Reply Plain) (once : AnswersOnce s x d r) (plan : List ℕ) where
   named : (o : OutcomeView) → (o ≡ NoMemory) ⊎ (o ≡ outcome_of d r (poll_count plan 0))
       → (o ∷ [] ≡ outcome_of d r (poll_count plan 0) ∷ []) ⊎ (o ∷ [] ≡ NoMemory ∷ [])
   named o (inl e) = inr (ap (λ z. z ∷ []) e)
@@ -48,7 +47,7 @@ module _ {S L D C V K : Type 0} (s : Setting S L D C V K) (x : ExchangeView S L 
       → (os ≡ outcome_of d r (poll_count plan 0) ∷ []) ⊎ (os ≡ NoMemory ∷ [])
   only [] h = absurd h
   only (o ∷ p ∷ os) h = absurd h.1
-  only (o ∷ []) h = named o (h.0 d r once.once)
+  only (o ∷ []) h = named o (h.0 d r once)
 
   -- the one outcome of the one exchange
   pub only_outcome : (xs : List (ExchangeView S L D C)) → xs ≡ x ∷ [] → (os : List OutcomeView)
@@ -104,7 +103,7 @@ module _ {S L D C U W J F P Q T : Type 0} (of_layer : L → Configurations J F P
   is_told : IsTold feed x
   is_told = rw told refl
 
-  pub hello_once : HasOneAnswer (echo of_layer answers only feed arguments handling pool) x 1
+  pub hello_once : AnswersOnce (echo of_layer answers only feed arguments handling pool) x 1
       (bytes_reply (codes "hello"))
   hello_once =
       rw (← (ap (λ b. b.delay) body)) (rw (← (ap (λ b. content_reply b.result) body))

@@ -30,13 +30,14 @@ use Rattle.web_extract.specs.declared.never.Never.{Never}
 use Rattle.web_worker.specs.ExchangeRules.{Rules, Replies, RepliesBefore}
 use Rattle.web_worker.specs.PlanCalls.{ArgumentsOnce}
 use Rattle.web_worker.specs.Exchanges.{ExchangeView}
+use Rattle.web_worker.specs.OutcomeFunctions.{AnswersOnce}
 use Rattle.web_worker.specs.declared.handler_service.Work.{Work}
 use Rattle.web_worker.specs.HandlerServices.{Come, Means, handler_setting, rules_of}
 use Rattle.web_worker.specs.Setting.{Setting}
 use Rattle.example_handlers.specs.Examples.{IsTold, body_and_rest, body_delay, body_reply}
 use Rattle.example_handlers.specs.Examples.{content_reply, marks_or_none, with_rest}
 use Rattle.example_handlers.proofs.EchoLemmas.{body_in}
-use Rattle.example_handlers.proofs.ToldBodiesLemmas.{HasOneAnswer, comes_before, is_told, once_told}
+use Rattle.example_handlers.proofs.ToldBodiesLemmas.{comes_before, is_told, once_told}
 
 abbrev Arguments : Type 0
 Arguments = List ℕ × Option (List ℕ)
@@ -197,7 +198,7 @@ module _ (converts : Fault → Fault → Type 0)
         (omega (arith, delay, more))
 
     pub listed : (x : ExchangeView S L D C) → IsTold feed x
-        → HasOneAnswer listing x (body_delay feed of_layer pool x) (body_reply feed of_layer pool x)
+        → AnswersOnce listing x (body_delay feed of_layer pool x) (body_reply feed of_layer pool x)
     listed x told =
         let marks = (payload_feed feed x.body).marks in
         once_told listing x (body_delay feed of_layer pool x) (body_reply feed of_layer pool x) (marks_or_none marks)

@@ -16,13 +16,14 @@ use Rattle.web_extract.specs.HeadArguments.{AllowsNow, IsRequest}
 use Rattle.web_extract.specs.ListMeanings.{Means2, Member}
 use Rattle.web_extract.specs.PayloadArgument.{IsUnread, MeansPayload}
 use Rattle.web_worker.specs.Exchanges.{ExchangeView, request_of}
+use Rattle.web_worker.specs.OutcomeFunctions.{AnswersOnce}
 use Rattle.web_worker.specs.declared.handler_service.Work.{Work}
 use Rattle.web_worker.specs.ExchangeRules.{Rules, Replies, RepliesBefore}
 use Rattle.web_worker.specs.HandlerServices.{handler_setting, rules_of}
 use Rattle.web_worker.specs.Setting.{Setting}
 use Rattle.example_handlers.specs.Examples.{IsTold, marks_or_none}
 use Rattle.example_handlers.specs.Relays.{relayed_reply}
-use Rattle.example_handlers.proofs.ToldBodiesLemmas.{HasOneAnswer, comes_before, is_told, once_told}
+use Rattle.example_handlers.proofs.ToldBodiesLemmas.{comes_before, is_told, once_told}
 
 -- where some payload has the marks, what is allowed is a payload that has them
 unread : {S : Type 0} (feed : S → Feed) (m : List Mark) (p : Payload S) → (payload_feed feed p).marks ≡ Some m
@@ -97,7 +98,7 @@ module _ {S L D C U W : Type 0} (feed : S → Feed)
       comes_before relay_rules 0 (λ v k y answer. answer.0) polls n x (omega (arith, at, more))
 
   pub relayed : (x : ExchangeView S L D C) → IsTold feed x
-      → HasOneAnswer relay x 0 (relayed_reply x.parts.head.headers (payload_feed feed x.body).marks)
+      → AnswersOnce relay x 0 (relayed_reply x.parts.head.headers (payload_feed feed x.body).marks)
   relayed x told =
       let marks = (payload_feed feed x.body).marks in
       let q = request_of pool x in

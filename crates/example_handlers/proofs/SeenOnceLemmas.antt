@@ -12,13 +12,14 @@ use Rattle.web_extract.specs.ListMeanings.{Meaning}
 use Rattle.web_extract.specs.ListResults.{DelayedResult}
 use Rattle.web_extract.specs.SeenResults.{SeenAs}
 use Rattle.web_worker.specs.Exchanges.{ExchangeView, request_of}
+use Rattle.web_worker.specs.OutcomeFunctions.{AnswersOnce}
 use Rattle.web_worker.specs.declared.handler_service.Work.{Work}
 use Rattle.web_worker.specs.ExchangeRules.{Rules, Replies, RepliesBefore}
 use Rattle.web_worker.specs.HandlerServices.{handler_setting, rules_of}
 use Rattle.web_worker.specs.Setting.{Setting}
 use Rattle.example_handlers.specs.BookingReplies.{reply_or_error}
 use Rattle.example_handlers.specs.Examples.{IsTold, marks_or_none}
-use Rattle.example_handlers.proofs.ToldBodiesLemmas.{HasOneAnswer, comes_before, is_told, once_told}
+use Rattle.example_handlers.proofs.ToldBodiesLemmas.{comes_before, is_told, once_told}
 
 module _ {S L D C V V' Y U W : Type 0} (view : V → V') (means : Request L D C → Meaning V)
     (answers : V → ℕ → Y → Type 0)
@@ -56,7 +57,7 @@ module _ {S L D C V V' Y U W : Type 0} (view : V → V') (means : Request L D C 
 
   -- the delay and the reply are those of the one result that the arguments are seen as
   pub seen_once : (x : ExchangeView S L D C) → IsTold feed x
-      → HasOneAnswer handled x
+      → AnswersOnce handled x
       (result (request_of pool x) (marks_or_none (payload_feed feed x.body).marks)).delay
       (reply_or_error reply (result (request_of pool x) (marks_or_none (payload_feed feed x.body).marks)).result)
   seen_once x told =

@@ -33,25 +33,19 @@ comes_before R later only polls n (Ok v) more = (
 comes_before R later only polls n (Err e) more = omega (arith, more)
 
 module _ {S L D C V K : Type 0} (s : Setting S L D C V K) where
-  -- the exchange has this one delay and this one reply; a record, so that its setting can be inferred
-  pub record HasOneAnswer (x : ExchangeView S L D C) (d : ℕ) (r : Reply Plain) : Type 0 where
-    pub once : AnswersOnce s x d r
-
   -- what is known of all replies to the marks is known of the exchange
   pub once_told : (x : ExchangeView S L D C) (d : ℕ) (r : Reply Plain) (m : List Mark)
       → (payload_feed s.feed x.body).marks ≡ Some m
       → ((k : ℕ) (p : Reply Plain) → (s.promise (s.request x) m).gives k p → (k ≡ d) × (p ≡ r))
       → ((n : ℕ) → d < n → (s.promise (s.request x) m).before n)
-      → HasOneAnswer x d r
+      → AnswersOnce s x d r
   once_told x d r m told once comes = record {
-    once = record {
-      once = λ k p gives. once k p (rw told at gives);
-      comes = λ n l. rw told (comes n l);
-    };
+    once = λ k p gives. once k p (rw told at gives);
+    comes = λ n l. rw told (comes n l);
   }
 
   module _ (delay : ExchangeView S L D C → ℕ) (reply : ExchangeView S L D C → Reply Plain)
-      (once : (x : ExchangeView S L D C) → IsTold s.feed x → HasOneAnswer x (delay x) (reply x)) where
+      (once : (x : ExchangeView S L D C) → IsTold s.feed x → AnswersOnce s x (delay x) (reply x)) where
     from : (plan : List ℕ) (i : ℕ) (xs : List (ExchangeView S L D C)) (os : List OutcomeView)
         → EachFrom (λ k x o. (d : ℕ) (r : Reply Plain) → AnswersOnce s x d r
         → IsOutcome d r (poll_count plan k) o) i xs os
@@ -59,7 +53,7 @@ module _ {S L D C V K : Type 0} (s : Setting S L D C V K) where
         → IsOutcome (delay x) (reply x) (poll_count plan k) o) i xs os
     from plan i [] [] h = tt
     from plan i (x ∷ xs) (o ∷ os) h =
-        (λ told. h.0 (delay x) (reply x) (once x told).once, from plan (i + 1) xs os h.1)
+        (λ told. h.0 (delay x) (reply x) (once x told), from plan (i + 1) xs os h.1)
     from plan i [] (o ∷ os) h = absurd h
     from plan i (x ∷ xs) [] h = absurd h
 

@@ -2,13 +2,10 @@
 use crate::reply::{Plain, Reply};
 use anyhow::{Result, bail};
 use bytes::Bytes;
-use http::{Method, StatusCode};
 use httpdate::HttpDate;
 use std::alloc::Global;
-use web_body::Payload;
 use web_docs::{Document, Store, answer_document};
 use web_entities::EntityTag;
-use web_reply::BoxBody;
 use web_request::HttpRequest;
 use web_texts::{Fail, Mime, NoMemory, Text};
 
@@ -61,28 +58,11 @@ pub fn new_store(alloc: Global) -> Result<Store> {
     }
 }
 
-/// The length of a document whose reply to HEAD is this.
-fn length_at_head(files: &Store, request: &HttpRequest<Plain>, reply: &Reply) -> Option<u64> {
-    if *request.method() != Method::HEAD || reply.status() != StatusCode::OK {
-        return None;
-    }
-    let document = files.find(request.path())?;
-    Some(document.body.len() as u64)
-}
-
-/// Responds with the document of the path, or a part of it, or that it did not change, or 404. The
-/// reply to HEAD has a body of the document's length, which is not sent.
+/// Responds with the document of the path, or a part of it, or that it did not change, or 404.
 pub fn answer_file(
     alloc: Global,
     files: &Store,
     request: &HttpRequest<Plain>,
 ) -> Result<Reply, NoMemory> {
-    let reply = answer_document(alloc, files, request)?.map_into_boxed_body(alloc)?;
-    match length_at_head(files, request, &reply) {
-        Some(length) => {
-            let unread = Box::new(alloc, Payload::None)?;
-            Ok(reply.set_body(BoxBody::Sized(length, unread)))
-        }
-        None => Ok(reply),
-    }
+    answer_document(alloc, files, request)?.map_into_boxed_body(alloc)
 }

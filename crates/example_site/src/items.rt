@@ -7,15 +7,11 @@ use http::StatusCode;
 use std::alloc::Global;
 use web_body::{Marks, Payload};
 use web_build::prelude::*;
-use web_extract::Capped;
 use web_extract_body::Json;
 use web_reply::{Error, HttpResponse};
 use web_request::HttpRequest;
 use web_status::json_error_reply;
 use web_texts::{Fail, Items, NoMemory, Text, read_digits};
-
-/// The most bytes of an item as JSON: what is decoded of them may need 350 times as many.
-const MOST_JSON: usize = 16_384;
 
 /// A response of an item.
 fn written(alloc: Global, status: StatusCode, item: &Item) -> Result<Reply, NoMemory> {
@@ -48,8 +44,8 @@ pub fn take_item(
     payload: Payload<Marks>,
 ) -> Result<Reply, NoMemory> {
     let mut payload = payload;
-    match extracted::<Capped<Json<Item>, MOST_JSON>>(alloc, request, &mut payload) {
-        Ok(Capped(Json(item))) => written(alloc, StatusCode::CREATED, &item),
+    match extracted::<Json<Item>>(alloc, request, &mut payload) {
+        Ok(Json(item)) => written(alloc, StatusCode::CREATED, &item),
         Err(Fail::Of(error)) => json_refusal(alloc, error),
         Err(Fail::NoMemory) => Err(NoMemory),
     }

@@ -20,18 +20,13 @@ mod posted;
 mod reply;
 mod routes;
 mod serving;
-mod settings;
 mod site;
 mod upload;
 mod visits;
 
-use crate::serving::serve_connection;
-use std::process::ExitCode;
+use crate::serving::serve;
+use anyhow::Result;
 
-/// It writes no message where it fails: behind inetd standard error is the connection too.
-fn main(rt: HostRuntime) -> ExitCode {
-    match serve_connection(&rt) {
-        Ok(()) => ExitCode::SUCCESS,
-        Err(_) => ExitCode::FAILURE,
-    }
+fn main(rt: HostRuntime) -> Result<()> {
+    serve(rt.alloc(), &mut rt.stdin(), &mut rt.stdout())
 }

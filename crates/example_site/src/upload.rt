@@ -26,10 +26,10 @@ fn write_line(alloc: Global, page: &mut Page, part: &Part) -> Result<(), NoMemor
     page.push("\n")
 }
 
-/// Lists the parts, each of at most 32,768 bytes. None is kept.
+/// Lists the parts, each of at most 524,288 bytes. None is kept.
 pub fn list_parts(alloc: Global, request: &HttpRequest<Plain>, payload: Payload<Marks>) -> Answer {
     let mut payload = payload;
-    let form = extracted::<Multipart<32_768>>(alloc, request, &mut payload)?;
+    let form = extracted::<Multipart<524_288>>(alloc, request, &mut payload)?;
     let mut page = Page::new(alloc, "Parts")?;
     page.push("<h1>Parts</h1>\n<table>\n<tr><th>name<th>file<th>type<th>bytes\n")?;
     for part in form.parts() {

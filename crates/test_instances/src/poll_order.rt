@@ -236,12 +236,7 @@ where
     assert!(rt; flights.len() < 9);
     let plan: [u32; 4] = [0, 1, 1, 0];
     serve_flights(alloc, &mut worker, &mut flights, &plan, handler);
-    for flight in &flights {
-        if flight.outcome().is_none() {
-            return false;
-        }
-    }
-    true
+    flights.iter().all(|flight| flight.outcome().is_some())
 }
 
 /// Serves the exchanges either way, and compares the orders in which sources are asked and the

@@ -24,8 +24,6 @@ use Rattle.web_http1.specs.declared.beginning.Asked.{Asked}
 use Rattle.web_http1.specs.declared.beginning.BegunReply.{BegunReply}
 use Rattle.web_http1.specs.declared.beginning.BegunTurn.{BegunTurn}
 use Rattle.web_http1.specs.declared.beginning.BegunTurn.TheVariants as step
-use Rattle.web_http1.specs.declared.answered.Answered.TheVariants as answered
-use Rattle.web_http1.specs.declared.begun.Begun.{Begun}
 use Rattle.web_http1.specs.declared.begun.Begun.TheVariants as begun
 use Rattle.web_http1.specs.declared.due_body.BodyFraming.{BodyFraming}
 use Rattle.web_http1.specs.declared.due_body.BodyFraming.TheVariants.{Length}
@@ -34,20 +32,19 @@ use Rattle.web_http1.specs.declared.due_body.DuePayload.{DuePayload}
 use Rattle.web_http1.specs.declared.ended.Ended.{Ended}
 use Rattle.web_http1.specs.declared.ended.Ended.TheVariants as ended
 use Rattle.web_http1.specs.declared.settings.ReplySettings.{ReplySettings}
-use Rattle.web_http1.specs.Answers.{Answer, IsAnswerTo, asks_end, is_first, is_head, refusal_status}
+use Rattle.web_http1.specs.Answers.{Answer, IsAnswerTo, asks_end, is_first, is_head}
 use Rattle.web_http1.specs.BegunReplies.{AddsNothing, BeginsReply, HasMarks, IsDueOf, IsInMemory, asked_of, begun_closes, begun_head, begun_text, body_framing, bytes_at_once, framing_line, stated_framing}
-use Rattle.web_http1.specs.BegunAnswers.{AllHaveTheirLength, BeginsMessage, BeginsNext, BeginsNone, BeginsOne, BegunSteps, BegunWaits, EndsBegun, HasItsLength, IsBegun, IsBegunOr, IsInside, OneBegun, TurnsTo, TurnsUnbegun, after_begun, after_reply, begun_left, end_after, moved}
+use Rattle.web_http1.specs.BegunAnswers.{AllHaveTheirLength, BeginsMessage, BeginsNext, BeginsNone, BeginsOne, BegunSteps, BegunWaits, EndsBegun, HasItsLength, IsBegun, IsBegunOr, IsInside, OneBegun, after_begun, after_reply, after_turn, begun_left, end_after, moved, turned_answer}
 use Rattle.web_http1.specs.BodyFramings.{body_text}
 use Rattle.web_http1.specs.Connections.{ConnectionView, StepsTo, bytes_open, ended_at, open_at, open_bytes}
-use Rattle.web_http1.specs.ConnectionSteps.{IsTurned, WaitsBehind, turned_left}
+use Rattle.web_http1.specs.ConnectionSteps.{IsTurned, RefusedWith, WaitsBehind, turned_left}
 use Rattle.web_http1.specs.MessageExchanges.{exchange_of}
 use Rattle.web_http1.specs.Polls.{AllowsReply}
 use Rattle.web_http1.specs.DueBodies.{IsToCome}
-use Rattle.web_http1.specs.RefusalReplies.{RefusesAs, refusal_text}
+use Rattle.web_http1.specs.OneAnswer.{TurnsOne}
 use Rattle.web_http1.specs.ReplyBytes.{Sent, close_line, content_of, crlf, field_lines, has_no_body, head_bytes_of, head_closes, length_line, sent_bytes, sent_reply, sent_with, status_line}
 use Rattle.web_http1.proofs.ConnectionLemmas.{WritesReply, closed_steps, failed_steps, message_fits, message_some, open_steps, replied_so}
 use Rattle.web_http1.proofs.OneLemmas.{from_none}
-use Rattle.web_http1.proofs.WaitLemmas.{wait_goes, wait_limits, wait_made, wait_where}
 
 -- ---- the text of a reply to which nothing is added
 
@@ -64,7 +61,7 @@ line_of true false true n e = absurd (cc)
 line_of false none at n e = refl
 
 -- no Date
-pub no_date : (h : ResponseHead) (f : Option BodyFraming) (gone closes : Bool) (n : ℕ) → framing_line f ≡ length_line gone n → begun_head None h f closes ≡ head_bytes_of gone h n closes
+no_date : (h : ResponseHead) (f : Option BodyFraming) (gone closes : Bool) (n : ℕ) → framing_line f ≡ length_line gone n → begun_head None h f closes ≡ head_bytes_of gone h n closes
 no_date h f gone closes n is =
     ap (λ (t : List ℕ). t ++ framing_line f ++ close_line closes ++ crlf) (append-nil (status_line h ++ field_lines h.headers))
     ∙ ap (λ (l : List ℕ). status_line h ++ field_lines h.headers ++ l ++ close_line closes ++ crlf) is
@@ -226,44 +223,30 @@ module _ {S L D C V K : Type 0} (s : Setting S L D C V K) where
 
     -- ---- no reply was begun
 
-    ends_next : (e : Ended) → old.ended ≡ None → BeginsNone (turned.Ended e) → TurnsUnbegun s settings old.limits old.left before behind (turned.Ended e)
-        → BeginsNext s settings old before behind (begun.Answered (ended_at old.limits old.left e) (answered.Ended e))
-    ends_next ended.Closed unended none one = absurd none
-    ends_next (ended.Refused w) unended none one = (refl, ends_begun (ended.Refused w) unended one)
-    ends_next ended.SourceFault unended none one = absurd none
-    ends_next ended.NoMemory unended none one = (refl, ends_begun ended.NoMemory unended one)
+    pub turn_next : (t : Turned) → old.ended ≡ None → BeginsNone t → TurnsOne s old.limits old.left before behind t
+        → BeginsNext s settings old before behind (begun.Answered (after_turn old t) (turned_answer t))
+    turn_next (turned.Goes used) unended none one = absurd none
+    turn_next (turned.Waits skipped p) unended none one = (unended, refl, one)
+    turn_next (turned.Ended ended.Closed) unended none one = absurd none
+    turn_next (turned.Ended (ended.Refused w)) unended none one = (refl, ends_begun (ended.Refused w) unended one)
+    turn_next (turned.Ended ended.SourceFault) unended none one = absurd none
+    turn_next (turned.Ended ended.NoMemory) unended none one = (refl, ends_begun ended.NoMemory unended one)
 
-    pub turn_next : (t : Turned) (r : Begun S) → old.ended ≡ None → BeginsNone t → TurnsUnbegun s settings old.limits old.left before behind t → TurnsTo old t r
-        → BeginsNext s settings old before behind r
-    turn_next (turned.Goes used) r unended none one to = absurd none
-    turn_next (turned.Waits skipped p) (begun.Due due) unended none one to = absurd to
-    turn_next (turned.Waits skipped p) (begun.Answered new answered.Replied) unended none one to = absurd to
-    turn_next (turned.Waits skipped p) (begun.Answered new answered.Waits) unended none one to = (unended, to.0, one.1)
-    turn_next (turned.Waits skipped p) (begun.Answered new (answered.Ended end)) unended none one to = (
-      ap (λ (v : ConnectionView). v.ended) to.1 ∙ ap Some (sym to.0),
-      ends_begun end unended (subst (λ (x : Ended). EndsBegun s settings old.limits old.left before behind x) (sym to.0) one.1),
-    )
-    turn_next (turned.Ended e) r unended none one to =
-        subst (λ (x : Begun S). BeginsNext s settings old before behind x) (sym to) (ends_next e unended none one)
+    pub turn_goes : (t : Turned) → old.ended ≡ None → BeginsNone t → IsTurned s old.limits old.left before behind t
+        → BegunSteps s old before behind (begun.Answered (after_turn old t) (turned_answer t))
+    turn_goes (turned.Goes used) unended none h = absurd none
+    turn_goes (turned.Waits skipped p) unended none h = from_none s old.ended _ _ unended h.1
+    turn_goes (turned.Ended e) unended none h = from_none s old.ended _ _ unended h.1
 
-    pub turn_goes : (t : Turned) (r : Begun S) → old.ended ≡ None → BeginsNone t → IsTurned s old.limits old.left before behind t → TurnsTo old t r
-        → BegunSteps s old before behind r
-    turn_goes (turned.Goes used) r unended none h to = absurd none
-    turn_goes (turned.Waits skipped p) (begun.Due due) unended none h to = absurd to
-    turn_goes (turned.Waits skipped p) (begun.Answered new a) unended none h to =
-        from_none s old.ended _ _ unended (wait_goes s old (moved old skipped false) new before behind a refl h.1 to)
-    turn_goes (turned.Ended e) r unended none h to =
-        subst (λ (x : Begun S). BegunSteps s old before behind x) (sym to) (from_none s old.ended _ _ unended h.1)
+    pub turn_waits : (t : Turned) → BeginsNone t → IsTurned s old.limits old.left before behind t
+        → BegunWaits {S = S} (begun.Answered (after_turn old t) (turned_answer t))
+    turn_waits (turned.Goes used) none h = absurd none
+    turn_waits (turned.Waits skipped p) none h = (λ e. h.0.1, h.0.0.few, h.0.2)
+    turn_waits (turned.Ended e) none h = tt
 
-    pub turn_waits : (t : Turned) (r : Begun S) → TurnsTo old t r → BegunWaits r
-    turn_waits (turned.Goes used) r to = absurd to
-    turn_waits (turned.Waits skipped p) (begun.Due due) to = absurd to
-    turn_waits (turned.Waits skipped p) (begun.Answered new a) to = wait_where (moved old skipped false) new a to
-    turn_waits (turned.Ended e) r to = subst (λ (x : Begun S). BegunWaits x) (sym to) tt
-
-    pub turn_inside : (t : Turned) → BeginsNone t → TurnsUnbegun s settings old.limits old.left before behind t → IsInside old t
+    pub turn_inside : (t : Turned) → BeginsNone t → IsTurned s old.limits old.left before behind t → IsInside old t
     turn_inside (turned.Goes used) none h = absurd none
-    turn_inside (turned.Waits skipped p) none h = h.0
+    turn_inside (turned.Waits skipped p) none h = (h.0.0.inside, h.0.0.is_progress)
     turn_inside (turned.Ended e) none h = tt
 
 -- ---- the records that may be made
@@ -280,27 +263,20 @@ pub reply_made : {S : Type 0} (c : ConnectionView) (n : ℕ) (closes : Bool) (du
 reply_made c n closes None made made' e h = let m = open_moved c n closes in let b = bytes_unended c e in omega (arith, m, b, h)
 reply_made c n closes (Some due) made made' e h = let m = open_moved c n closes in let b = bytes_unended c e in omega (arith, m, b, h)
 
-pub turn_made : {S : Type 0} (c : ConnectionView) (t : Turned) (r : Begun S) (made made' : ℕ) → c.ended ≡ None → TurnsTo c t r
-    → made' + turned_left t (length c.left) ≤ made + length c.left → made' + bytes_open (after_begun r) ≤ made + bytes_open c
-turn_made c (turned.Goes used) r made made' e to h = absurd to
-turn_made c (turned.Waits skipped p) (begun.Due due) made made' e to h = absurd to
-turn_made c (turned.Waits skipped p) (begun.Answered new a) made made' e to h =
-    let m = wait_made (moved c skipped false) new a to in
-    let size = length-drop skipped c.left in
-    let b = bytes_unended c e in
-    omega (arith, m, size, b, h)
-turn_made {S} c (turned.Ended x) r made made' e to h =
-    subst (λ (y : Begun S). made' + bytes_open (after_begun y) ≤ made + bytes_open c) (sym to) (let b = bytes_unended c e in omega (arith, b, h))
+pub turn_made : (c : ConnectionView) (t : Turned) (made made' : ℕ) → c.ended ≡ None → made' + turned_left t (length c.left) ≤ made + length c.left
+    → made' + bytes_open (after_turn c t) ≤ made + bytes_open c
+turn_made c (turned.Goes used) made made' e h = let m = open_moved c used false in let b = bytes_unended c e in omega (arith, m, b, h)
+turn_made c (turned.Waits skipped p) made made' e h = let m = open_moved c skipped false in let b = bytes_unended c e in omega (arith, m, b, h)
+turn_made c (turned.Ended x) made made' e h = let b = bytes_unended c e in omega (arith, b, h)
 
 pub reply_limits : {S : Type 0} (c : ConnectionView) (n : ℕ) (closes : Bool) (due : Option (DuePayload S)) → (after_begun (after_reply c n closes due)).limits ≡ c.limits
 reply_limits c n closes None = refl
 reply_limits c n closes (Some due) = refl
 
-pub turn_limits : {S : Type 0} (c : ConnectionView) (t : Turned) (r : Begun S) → TurnsTo c t r → (after_begun r).limits ≡ c.limits
-turn_limits c (turned.Goes used) r to = absurd to
-turn_limits c (turned.Waits skipped p) (begun.Due due) to = absurd to
-turn_limits c (turned.Waits skipped p) (begun.Answered new a) to = wait_limits (moved c skipped false) new a to
-turn_limits {S} c (turned.Ended x) r to = ap (λ (y : Begun S). (after_begun y).limits) to
+pub turn_limits : (c : ConnectionView) (t : Turned) → (after_turn c t).limits ≡ c.limits
+turn_limits c (turned.Goes used) = refl
+turn_limits c (turned.Waits skipped p) = refl
+turn_limits c (turned.Ended x) = refl
 
 pub reply_waits : {S : Type 0} (c : ConnectionView) (n : ℕ) (closes : Bool) (due : Option (DuePayload S)) → BegunWaits (after_reply c n closes due)
 reply_waits c n true None = tt
@@ -359,7 +335,7 @@ module _ {S L D C V K : Type 0} (s : Setting S L D C V K) (settings : ReplySetti
     message_begins (step.Turned (turned.Ended (ended.Refused w))) h = absurd h
     message_begins (step.Turned (turned.Ended ended.SourceFault)) h = absurd h
     message_begins (step.Turned (turned.Ended ended.NoMemory)) h =
-        (tt, λ off. (tt, failed_steps s (open_at limits rest) (ended_at limits rest ended.NoMemory) before behind refl h), h)
+        (tt, (tt, failed_steps s (open_at limits rest) (ended_at limits rest ended.NoMemory) before behind refl h), h)
 
     pub message_made : (t : BegunTurn S) (old new : ℕ) → BeginsMessage s settings m before behind t → new ≤ old + 1 → new + begun_left t (length rest) ≤ old + length rest
     message_made (step.Begun used reply) old new h made =
@@ -373,27 +349,11 @@ module _ {S L D C V K : Type 0} (s : Setting S L D C V K) (settings : ReplySetti
         let fits = message_fits s (open_at limits rest) (open_at limits rest) m is in
         omega (arith, some, fits, made)
 
-  pub refused_none : (w : Wrong) (end : Ended) (before behind : List ℕ) → RefusesAs settings w end before behind → BeginsNone (turned.Ended end)
+  pub refused_none : (w : Wrong) (end : Ended) (before behind : List ℕ) → RefusedWith w end before behind → BeginsNone (turned.Ended end)
   refused_none w ended.Closed before behind h = absurd h
   refused_none w (ended.Refused v) before behind h = tt
   refused_none w ended.SourceFault before behind h = absurd h
   refused_none w ended.NoMemory before behind h = tt
-
-  pub refused_unbegun : (limits : Limits) (rest : List ℕ) (w : Wrong) (end : Ended) (before behind : List ℕ) → IsSettled limits rest (next.Refused w)
-      → RefusesAs settings w end before behind → TurnsUnbegun s settings limits rest before behind (turned.Ended end)
-  refused_unbegun limits rest w ended.Closed before behind is h = absurd h
-  refused_unbegun limits rest w (ended.Refused v) before behind is h = (
-    subst (λ (u : Wrong). IsSettled limits rest (next.Refused u)) (sym h.0) is,
-    h.1 ∙ ap (λ (u : Wrong). before ++ refusal_text settings (refusal_status u)) (sym h.0),
-  )
-  refused_unbegun limits rest w ended.SourceFault before behind is h = absurd h
-  refused_unbegun limits rest w ended.NoMemory before behind is h = h
-
-  pub waits_unbegun : (limits : Limits) (rest before behind : List ℕ) (t : Turned) → WaitsBehind limits rest t → behind ≡ before
-      → TurnsUnbegun s settings limits rest before behind t
-  waits_unbegun limits rest before behind (turned.Goes used) h written = absurd h
-  waits_unbegun limits rest before behind (turned.Waits skipped p) h written = (h, written)
-  waits_unbegun limits rest before behind (turned.Ended end) h written = absurd h
 
   pub waits_none : (limits : Limits) (rest : List ℕ) (t : Turned) → WaitsBehind limits rest t → BeginsNone t
   waits_none limits rest (turned.Goes used) h = absurd h

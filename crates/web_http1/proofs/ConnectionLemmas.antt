@@ -12,7 +12,7 @@ use Rattle.web_worker.specs.Exchanges.{ExchangeView}
 use Rattle.web_worker.specs.Setting.{Setting, setting_with}
 use Rattle.web_messages.specs.HeadFaults.{head_fault}
 use Rattle.web_messages.specs.NextMessage.{IsNext}
-use Rattle.web_messages.specs.Progress.{IsSettled, IsShort, Skips, next_at_end}
+use Rattle.web_messages.specs.Progress.{IsSettled, Skips, next_at_end}
 use Rattle.web_messages.specs.Progress as reading
 use Rattle.web_messages.specs.Sameness.{SameAhead, SameMessage, SameNext}
 use Rattle.web_messages.specs.declared.limits.HeadFault.{HeadFault}
@@ -34,6 +34,7 @@ use Rattle.web_http1.specs.declared.ended.Ended.TheVariants as ended
 use Rattle.web_http1.specs.Answers.{Answer, Behind, IsAnswerTo, MayGoOn, MayStand, Served, answer_bytes, asks_end, is_head, refusal_bytes, replies, sent_answer}
 use Rattle.web_http1.specs.Connections.{AllOpen, ConnectionView, FinishesWith, GoesOn, IsOpen, IsOwnEnd, StepsFrom, StepsTo, WaitsForMore, ended_at, open_at}
 use Rattle.web_http1.specs.ConnectionSteps.{IsReplied, IsServed, IsTurned, RefusedWith, TakesPiece, WaitsBehind, turned_left, with_piece}
+use Rattle.web_http1.specs.Keeping.{KeepsFew}
 use Rattle.web_http1.specs.MessageExchanges.{exchange_of}
 use Rattle.web_http1.specs.ReplyBytes.{Sent, sent_bytes, sent_reply}
 use Rattle.web_http1.proofs.SettingLemmas.{served_as, service_back}
@@ -110,7 +111,7 @@ module _ {S L D C V K : Type 0} (s : Setting S L D C V K) where
   none_before limits left w is more (x ∷ xs) rest closed v =
       absurd (one_next limits (left ++ more) (next.Refused w) (next.Message x.message) (is more) v.0)
 
-  pub ended_as : (c : ConnectionView) (e f : Option Ended) (more : List ℕ) (xs : List Answer) (given rest : List ℕ) (closed : Bool) → f ≡ e → GoesOn s c e more xs given rest closed
+  ended_as : (c : ConnectionView) (e f : Option Ended) (more : List ℕ) (xs : List Answer) (given rest : List ℕ) (closed : Bool) → f ≡ e → GoesOn s c e more xs given rest closed
       → GoesOn s c f more xs given rest closed
   ended_as c e f more xs given rest closed same h = subst (λ (o : Option Ended). GoesOn s c o more xs given rest closed) (sym same) h
 
@@ -361,14 +362,14 @@ open_ahead : (limits : Limits) (rest other : List ℕ) → SameAhead limits rest
 open_ahead limits rest other same opens x is = opens x (same.back x is)
 
 pub waits_behind : (limits : Limits) (rest : List ℕ) (p q : Progress) (skipped : ℕ) → Skips limits rest q skipped → IsNext limits rest (next_at_end limits p rest)
-    → IsShort limits (drop skipped rest) q → WaitsBehind limits rest (turned.Waits skipped q)
-waits_behind limits rest p q skipped skips is short = (
+    → KeepsFew limits (drop skipped rest) → WaitsBehind limits rest (turned.Waits skipped q)
+waits_behind limits rest p q skipped skips is few = (
   skips,
   open_ahead limits rest (drop skipped rest)
       (subst (λ (t : List ℕ). SameAhead limits t (drop skipped rest)) (append-nil rest)
       (subst (λ (t : List ℕ). SameAhead limits (rest ++ []) t) (append-nil (drop skipped rest)) (skips.same [])))
       (all_open limits rest p is),
-  short,
+  few,
 )
 
 -- what is kept of a step that waits

@@ -10,12 +10,9 @@ pub mod NextExistsLemmas
 pub mod AnswersExistLemmas
 pub mod PieceLemmas
 pub mod OneLemmas
-pub mod WaitLemmas
 pub mod CallLemmas
 pub mod GoesLemmas
 pub mod AllowedLemmas
 pub mod OneBufferLemmas
 pub mod DueBodyLemmas
 pub mod BegunLemmas
-pub mod RefusalLemmas
-pub mod BegunCallLemmas

@@ -3,7 +3,6 @@ use Rattle.std.proofs.Common.{◌≡◌, ℕ, ◌≤◌, inl, inr, Bool, true, f
 use Rattle.std.specs.Prelude.{MatchOption}
 use Rattle.web_worker.specs.Setting.{Setting}
 use Rattle.web_messages.specs.EmptyLines.{is_blank}
-use Rattle.web_messages.specs.Joining.{HasFewLines}
 use Rattle.web_messages.specs.Progress.{HasFewBlank, IsProgress, IsSettled, IsShort}
 use Rattle.web_messages.specs.declared.limits.Limits.{Limits}
 use Rattle.web_messages.specs.declared.limits.Wrong.{Wrong}
@@ -11,7 +10,6 @@ use Rattle.web_messages.specs.declared.message.Message.{Message}
 use Rattle.web_messages.specs.declared.message.Next.TheVariants as next
 use Rattle.web_messages.specs.declared.progress.Progress.{Progress}
 use Rattle.web_messages.specs.declared.progress.Progress.TheVariants as progress
-use Rattle.web_messages.proofs.OneChunkLemmas.{so_far_sum}
 use Rattle.web_http1.specs.declared.answering.Turned.{Turned}
 use Rattle.web_http1.specs.declared.answering.Turned.TheVariants as turned
 use Rattle.web_http1.specs.declared.ended.Ended.{Ended}
@@ -22,23 +20,16 @@ use Rattle.web_http1.specs.Keeping.{KeepsFew}
 use Rattle.web_http1.specs.OneAnswer.{EndsOne, TurnsOne}
 
 -- what is kept of a message that was read so far
-pub keeps_few : (limits : Limits) (bytes : List ℕ) (p : Progress) → IsProgress limits bytes p → HasFewBlank limits bytes → IsShort limits bytes p → HasFewLines p
-    → KeepsFew limits bytes
-keeps_few limits bytes (progress.Head s) is few short lines = inl (of (is_blank bytes) refl, λ some. (short some).1)
+pub keeps_few : (limits : Limits) (bytes : List ℕ) (p : Progress) → IsProgress limits bytes p → HasFewBlank limits bytes → IsShort limits bytes p → KeepsFew limits bytes
+keeps_few limits bytes (progress.Head s) is few short = inl (of (is_blank bytes) refl)
   where
     of : (b : Bool) → is_blank bytes ≡ b → length bytes ≤ limits.head
     of true e = few e
-    of false e = let less = (short e).0 in omega (arith, less)
-keeps_few limits bytes (progress.Sized head n) is few short lines =
+    of false e = let less = short e in omega (arith, less)
+keeps_few limits bytes (progress.Sized head n) is few short =
     inr (inl (record { head = head.value; found = is.0; size = n; declared = is.1; fits = short.0; fewer = short.1 }))
-keeps_few limits bytes (progress.Chunked head place body) is few short lines =
-    let sum = so_far_sum is.2.so_far in
-    inr (inr (record {
-      head = head.value;
-      found = is.0;
-      declared = is.1;
-      few = λ small. let at' = lines (omega (arith, sum, small)) in omega (arith, short, at', sum);
-    }))
+keeps_few limits bytes (progress.Chunked head place body) is few short =
+    inr (inr (record { head = head.value; found = is.0; declared = is.1 }))
 
 module _ {S L D C V K : Type 0} (s : Setting S L D C V K) where
   pub served_one : (limits : Limits) (rest : List ℕ) (m : Message) (before behind : List ℕ) (t : Turned) → IsSettled limits rest (next.Message m)

@@ -7,8 +7,7 @@ use Rattle.web_request.specs.Body.{ends_in_fault, piece_bytes}
 use Rattle.web_reply.specs.ResponseBodies.{Plain}
 use Rattle.web_reply.specs.Replies.{Reply}
 use Rattle.web_worker.specs.Setting.{Setting}
-use Rattle.web_messages.specs.Progress.{IsSettled}
-use Rattle.web_messages.specs.Joining.{ReadsAlike}
+use Rattle.web_messages.specs.Progress.{IsProgress, IsSettled}
 use Rattle.web_messages.specs.Sameness.{SameMessage}
 use Rattle.web_messages.specs.declared.limits.Limits.{Limits}
 use Rattle.web_messages.specs.declared.message.Message.{Message}
@@ -28,15 +27,14 @@ use Rattle.web_http1.specs.declared.due_body.DuePayload.{DuePayload}
 use Rattle.web_http1.specs.declared.ended.Ended.{Ended}
 use Rattle.web_http1.specs.declared.ended.Ended.TheVariants as ended
 use Rattle.web_http1.specs.declared.settings.ReplySettings.{ReplySettings}
-use Rattle.web_http1.specs.Answers.{Answer, IsAnswerTo, refusal_status}
-use Rattle.web_http1.specs.BegunReplies.{AddsNothing, BeginsReply, asked_of}
+use Rattle.web_http1.specs.Answers.{Answer, IsAnswerTo, refusal_bytes}
+use Rattle.web_http1.specs.BegunReplies.{BeginsReply, asked_of}
 use Rattle.web_http1.specs.Connections.{ConnectionView, StepsFrom, StepsTo, ended_at}
-use Rattle.web_http1.specs.ConnectionSteps.{IsTurned, WaitsBehind, turned_left}
+use Rattle.web_http1.specs.ConnectionSteps.{IsTurned, turned_left}
 use Rattle.web_http1.specs.DueBodies.{IsToCome, body_feed}
 use Rattle.web_http1.specs.MessageExchanges.{exchange_of}
-use Rattle.web_http1.specs.OneAnswer.{Waits, WaitsWhere}
+use Rattle.web_http1.specs.OneAnswer.{TurnsOne, WaitsWhere}
 use Rattle.web_http1.specs.Polls.{AllowsReply}
-use Rattle.web_http1.specs.RefusalReplies.{refusal_text}
 
 -- a body that is in memory, or has the length that it states: what is written of it does not
 -- depend on how it comes
@@ -73,30 +71,23 @@ after_reply c n closes (Some due) =
       connection = moved c n closes;
     })
 
--- more bytes have to come after those that are skipped; or the connection ended
+-- no more bytes are skipped than are left, and the progress is that of the others
 abbrev pub IsInside : ConnectionView → Turned → Type 0
-IsInside c (turned.Goes used) = ⊥
-IsInside c (turned.Waits skipped p) = WaitsBehind c.limits c.left (turned.Waits skipped p)
+IsInside c (turned.Goes used) = used ≤ length c.left
+IsInside c (turned.Waits skipped p) =
+    (skipped ≤ length c.left) × IsProgress c.limits (drop skipped c.left) p
 IsInside c (turned.Ended e) = ⊤
 
--- The connection waits after the bytes that are skipped. The bytes that are left then, which are no
--- more than these, read the same, whatever follows. Or an allocation failed.
-abbrev pub WaitsAfter : ConnectionView → ConnectionView → Answered → Type 0
-WaitsAfter old new answered.Replied = ⊥
-WaitsAfter old new answered.Waits =
-    (new.ended ≡ None) × (new.limits ≡ old.limits) × (length new.left ≤ length old.left)
-    × ((more : List ℕ) → ReadsAlike old.limits (old.left ++ more) (new.left ++ more))
-    × Waits new
-WaitsAfter old new (answered.Ended end) =
-    (end ≡ ended.NoMemory) × (new ≡ ended_at old.limits old.left ended.NoMemory)
-
 -- the connection after a step that began no reply
-abbrev pub TurnsTo : {S : Type 0} → ConnectionView → Turned → Begun S → Type 0
-TurnsTo c (turned.Goes used) r = ⊥
-TurnsTo c (turned.Waits skipped p) (begun.Answered new a) = WaitsAfter (moved c skipped false) new a
-TurnsTo c (turned.Waits skipped p) (begun.Due due) = ⊥
-TurnsTo c (turned.Ended e) r =
-    r ≡ begun.Answered (ended_at c.limits c.left e) (answered.Ended e)
+abbrev pub after_turn : ConnectionView → Turned → ConnectionView
+after_turn c (turned.Goes used) = moved c used false
+after_turn c (turned.Waits skipped p) = moved c skipped false
+after_turn c (turned.Ended e) = ended_at c.limits c.left e
+
+abbrev pub turned_answer : Turned → Answered
+turned_answer (turned.Goes used) = answered.Replied
+turned_answer (turned.Waits skipped p) = answered.Waits
+turned_answer (turned.Ended e) = answered.Ended e
 
 -- no reply was begun: a refusal, or more bytes have to come, or an allocation failed
 abbrev pub BeginsNone : Turned → Type 0
@@ -145,37 +136,20 @@ module _ {S L D C V K : Type 0} (s : Setting S L D C V K) where
       pub used : n ≡ message.used
       pub begun : IsBegun message before behind closes due
 
-    -- the connection ended by a refusal, or an allocation failed
-    abbrev pub EndsRefused : Limits → List ℕ → List ℕ → List ℕ → Ended → Type 0
-    EndsRefused limits bytes before behind ended.Closed = ⊥
-    EndsRefused limits bytes before behind (ended.Refused w) =
-        IsSettled limits bytes (next.Refused w)
-        × (behind ≡ before ++ refusal_text settings (refusal_status w))
-    EndsRefused limits bytes before behind ended.SourceFault = ⊥
-    EndsRefused limits bytes before behind ended.NoMemory = behind ≡ before
-
-    -- a step that began no reply
-    abbrev pub TurnsUnbegun : Limits → List ℕ → List ℕ → List ℕ → Turned → Type 0
-    TurnsUnbegun limits bytes before behind (turned.Goes used) = ⊥
-    TurnsUnbegun limits bytes before behind (turned.Waits skipped p) =
-        WaitsBehind limits bytes (turned.Waits skipped p) × (behind ≡ before)
-    TurnsUnbegun limits bytes before behind (turned.Ended end) =
-        EndsRefused limits bytes before behind end
-
     -- one step
     abbrev pub BeginsOne : Limits → List ℕ → List ℕ → List ℕ → BegunTurn S → Type 0
     BeginsOne limits bytes before behind (turn.Begun used reply) =
         OneBegun limits bytes before behind used reply.closes reply.due
     BeginsOne limits bytes before behind (turn.Turned t) =
-        BeginsNone t × (AddsNothing settings → IsTurned s limits bytes before behind t)
-        × TurnsUnbegun limits bytes before behind t
+        BeginsNone t × IsTurned s limits bytes before behind t
+        × TurnsOne s limits bytes before behind t
 
     -- the connection ended, after a whole reply that closes or by a refusal
     abbrev pub EndsBegun : Limits → List ℕ → List ℕ → List ℕ → Ended → Type 0
     EndsBegun limits bytes before behind ended.Closed =
         (n : ℕ) × OneBegun limits bytes before behind n true None
     EndsBegun limits bytes before behind (ended.Refused w) =
-        EndsRefused limits bytes before behind (ended.Refused w)
+        IsSettled limits bytes (next.Refused w) × (behind ≡ before ++ refusal_bytes w)
     EndsBegun limits bytes before behind ended.SourceFault = ⊥
     EndsBegun limits bytes before behind ended.NoMemory = behind ≡ before
 

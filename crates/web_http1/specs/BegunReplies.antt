@@ -116,4 +116,3 @@ pub record AddsNothing (settings : ReplySettings) : Type 0 where
   pub last : settings.last ≡ false
   pub at_head : settings.length_at_head ≡ false
   pub date : settings.date ≡ None
-  pub refusals : settings.refusals ≡ None

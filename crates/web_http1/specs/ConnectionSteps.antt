@@ -5,7 +5,7 @@ use Rattle.web_texts.specs.declared.memory.NoMemory.{NoMemory}
 use Rattle.web_reply.specs.ResponseBodies.{Plain}
 use Rattle.web_reply.specs.Replies.{Reply}
 use Rattle.web_worker.specs.Setting.{Setting}
-use Rattle.web_messages.specs.Progress.{HasFewBlank, IsProgress, IsShort, Skips}
+use Rattle.web_messages.specs.Progress.{HasFewBlank, IsProgress, Skips}
 use Rattle.web_messages.specs.Sameness.{SameMessage}
 use Rattle.web_messages.specs.declared.limits.Limits.{Limits}
 use Rattle.web_messages.specs.declared.limits.Wrong.{Wrong}
@@ -18,6 +18,7 @@ use Rattle.web_http1.specs.declared.ended.Ended.{Ended}
 use Rattle.web_http1.specs.declared.ended.Ended.TheVariants as ended
 use Rattle.web_http1.specs.Answers.{Answer, IsAnswerTo, answer_bytes, is_head, refusal_bytes}
 use Rattle.web_http1.specs.Answers.{StatesMarks, asks_end, sent_answer}
+use Rattle.web_http1.specs.Keeping.{KeepsFew}
 use Rattle.web_http1.specs.MessageExchanges.{exchange_of}
 use Rattle.web_http1.specs.Polls.{AllowsReply}
 use Rattle.web_http1.specs.ReplyBytes.{Sent, SentFrom, sent_bytes, sent_reply}
@@ -60,7 +61,7 @@ abbrev pub WaitsBehind : Limits → List ℕ → Turned → Type 0
 WaitsBehind limits rest (turned.Goes used) = ⊥
 WaitsBehind limits rest (turned.Waits skipped p) =
     Skips limits rest p skipped × AllOpen limits (drop skipped rest)
-    × IsShort limits (drop skipped rest) p
+    × KeepsFew limits (drop skipped rest)
 WaitsBehind limits rest (turned.Ended end) = ⊥
 
 module _ {S L D C V K : Type 0} (s : Setting S L D C V K) where
@@ -89,7 +90,7 @@ module _ {S L D C V K : Type 0} (s : Setting S L D C V K) where
   abbrev pub IsAnsweredRest : Limits → List ℕ → List ℕ → List ℕ → List ℕ → Left → Type 0
   IsAnsweredRest limits old new before behind (remains.Open p) =
       IsProgress limits new p × AllOpen limits new × HasFewBlank limits new
-      × IsShort limits new p × StepsTo s (open_at limits old) (open_at limits new) before behind
+      × KeepsFew limits new × StepsTo s (open_at limits old) (open_at limits new) before behind
   IsAnsweredRest limits old new before behind (remains.Ended end) =
       IsOwn end × StepsTo s (open_at limits old) (ended_at limits new end) before behind
 

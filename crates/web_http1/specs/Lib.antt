@@ -9,10 +9,8 @@ pub mod Expecting
 pub mod OneAnswer
 pub mod DueBodies
 pub mod BegunReplies
-pub mod RefusalReplies
 pub mod BegunAnswers
 pub mod ConnectionCalls
-pub mod BegunCalls
 pub mod ConnectionPieces
 pub mod Polls
 pub mod Serving

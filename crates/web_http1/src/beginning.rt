@@ -14,13 +14,12 @@ ghost use Rattle.web_http1.specs.BegunReplies.{begun_head, body_framing, bytes_a
 ghost use Rattle.web_http1.specs.BegunReplies.{date_line, framing_line, length_alone};
 ghost use Rattle.web_http1.specs.BegunReplies.{stated_framing};
 
-use crate::answering::{Rooms, Turned, wait};
+use crate::answering::{Rooms, Turned, refuse, wait};
 use crate::closing::{asks_end, is_first, is_head};
 use crate::due_body::{BodyFraming, DuePayload};
 use crate::ended::Ended;
 use crate::exchange::exchange_of;
 use crate::polled::reply_to;
-use crate::refusing::refuse_as;
 use crate::reply::{
     closes_after, has_no_body, put_close, put_field, put_fields, put_length, put_status_line,
 };
@@ -160,7 +159,7 @@ fn put_date(
 }
 
 /// The bytes of a reply before its body.
-pub(crate) fn put_begun_head(
+fn put_begun_head(
     alloc: Global,
     out: &mut Vec<u8>,
     date: &Option<HeaderValue>,
@@ -326,7 +325,7 @@ pub(crate) fn begin_step<A: App, Args, H: Service<A, Args>>(
                 alloc, worker, handler, settings, rooms, flights, head, body, used, out,
             ),
             MessageRead::Refused(wrong) => {
-                BegunTurn::Turned(Turned::Ended(refuse_as(alloc, rooms, settings, wrong, out)))
+                BegunTurn::Turned(Turned::Ended(refuse(alloc, rooms, wrong, out)))
             }
             MessageRead::Unfinished(progress) => BegunTurn::Turned(wait(limits, progress)),
         },

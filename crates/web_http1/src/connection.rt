@@ -4,17 +4,15 @@ ghost use Rattle.web_worker.specs.PlanPools.{with_records};
 ghost use Rattle.web_http1.specs.BegunReplies.{AddsNothing};
 ghost use Rattle.web_http1.specs.BegunAnswers.{AllHaveTheirLength, BeginsNext, BegunSteps};
 ghost use Rattle.web_http1.specs.BegunAnswers.{BegunWaits, after_begun};
-ghost use Rattle.web_http1.specs.BegunAnswers.{BeginsOne, IsInside, TurnsTo, WaitsAfter};
-ghost use Rattle.web_http1.specs.BegunAnswers.{after_reply, answered_after, begun_left};
-ghost use Rattle.web_http1.specs.BegunAnswers.{end_after, moved};
-ghost use Rattle.web_http1.specs.ConnectionSteps.{WaitsBehind};
+ghost use Rattle.web_http1.specs.BegunAnswers.{BeginsNone, BeginsOne, IsInside, after_reply};
+ghost use Rattle.web_http1.specs.BegunAnswers.{after_turn, answered_after, begun_left};
+ghost use Rattle.web_http1.specs.BegunAnswers.{end_after, moved, turned_answer};
 ghost use Rattle.web_http1.specs.DueBodies.{cut};
 ghost use Rattle.web_http1.specs.Connections.{Finishes, IsOwnEnd, StepsFrom, WaitsForMore};
 ghost use Rattle.web_http1.specs.Connections.{bytes_open, ended_at};
 ghost use Rattle.web_http1.specs.Expecting.{AwaitsContinue, Continues};
 ghost use Rattle.web_http1.specs.Keeping.{KeepsFew};
 ghost use Rattle.web_http1.specs.OneAnswer.{IsAnswered, WaitsWhere};
-ghost use Rattle.web_http1.specs.RefusalReplies.{FinishesWhere};
 
 use crate::answered::Answered;
 use crate::answering::{Left, Rooms, Turned, answer_rest, finish_rest, serve_next};
@@ -23,7 +21,6 @@ use crate::begun::Begun;
 use crate::due_body::DueBody;
 use crate::ended::Ended;
 use crate::expecting::{awaits_continue, put_continue};
-use crate::refusing::finish_rest_as;
 use crate::settings::ReplySettings;
 use std::alloc::Global;
 use std::marker::Model;
@@ -130,11 +127,9 @@ impl Connection {
         self.ended
     }
 
-    /// How many bytes are kept: those that came after the last message that was answered. Of empty
-    /// lines alone they are no more than a head may have, and of chunks no more than a head and a
-    /// body of the greatest size, a sixteenth of this size, and 20,738 bytes: the lines of chunks
-    /// that were read are dropped, so that they may be fewer bytes than came. A loop may end a
-    /// connection that keeps too many by `finish`.
+    /// How many bytes are kept: those that came after the last message that was answered, of empty
+    /// lines alone no more than a head may have. Those of a message that is not whole are kept as
+    /// they came. A loop may end a connection that keeps too many by `finish`.
     pub fn kept(&self) -> usize
         ensures { result ≡ length self.now.left }
     {
@@ -206,10 +201,10 @@ impl Connection {
     }
 
     /// Writes the reply to each message that is whole, in their order, and the reply of a refusal
-    /// that no byte that follows can lift; that of a head once its empty line is there, or as many
-    /// bytes as it may have. It ends after a reply that closes, and after a refusal. Where an
-    /// allocation failed it ends too, with `Ended::NoMemory`. Of empty lines before a head no more
-    /// are kept than a head may have.
+    /// that no byte that follows can lift; that of a head may come later, at the latest by
+    /// `finish`. It ends after a reply that closes, and after a refusal. Where an allocation
+    /// failed it ends too, with `Ended::NoMemory`. Of empty lines before a head no more are kept
+    /// than a head may have.
     pub fn answer<A: App, Args, H: Service<A, Args>>(
         &mut self,
         alloc: Global,
@@ -249,9 +244,7 @@ impl Connection {
         );
         self.start = answered.place;
         match answered.left {
-            Left::Open(progress) => {
-                self.wait(alloc, 0, progress);
-            }
+            Left::Open(progress) => put_in(&mut self.progress, progress),
             Left::Ended(ended) => self.ended = Some(ended),
         }
     }
@@ -301,7 +294,11 @@ impl Connection {
                 self.start += used;
                 Answered::Replied
             }
-            Turned::Waits(skipped, progress) => self.wait(alloc, skipped, progress),
+            Turned::Waits(skipped, progress) => {
+                self.start += skipped;
+                put_in(&mut self.progress, progress);
+                Answered::Waits
+            }
             Turned::Ended(ended) => {
                 self.ended = Some(ended);
                 Answered::Ended(ended)
@@ -369,7 +366,7 @@ impl Connection {
         }
         match connection.begin(alloc, worker, handler, settings, out) {
             BegunTurn::Begun(used, reply) => connection.after_reply(used, reply),
-            BegunTurn::Turned(turned) => connection.after_turn(alloc, turned),
+            BegunTurn::Turned(turned) => connection.after_turn(turned),
         }
     }
 
@@ -419,30 +416,14 @@ impl Connection {
         self.ended = end_after(closes);
     }
 
-    /// Waits for more bytes, after so many that are no more needed. Of chunks that were read the
-    /// lines are dropped, where they are many.
-    fn wait(&mut self, alloc: Global, skipped: usize, progress: Progress) -> Answered
+    /// Goes on after so many bytes that are no more needed.
+    fn skip(&mut self, skipped: usize, progress: Progress)
         requires unended { self.old.ended ≡ None }
-        requires behind { WaitsBehind self.old.limits self.old.left
-            (Turned.Waits skipped progress) }
-        ensures { WaitsAfter (moved self.old skipped false) self.new result }
+        requires inside { IsInside self.old (Turned.Waits skipped progress) }
+        ensures { self.new ≡ moved self.old skipped false }
     {
         self.start += skipped;
-        let mut progress = progress;
-        let joined = progress.join_chunks(alloc, &self.limits, &self.buffer[self.start..]);
         put_in(&mut self.progress, progress);
-        match joined {
-            Ok(Some(joined)) => {
-                self.buffer = joined;
-                self.start = 0;
-                Answered::Waits
-            }
-            Ok(None) => Answered::Waits,
-            Err(NoMemory) => {
-                self.ended = Some(Ended::NoMemory);
-                Answered::Ended(Ended::NoMemory)
-            }
-        }
     }
 
     /// Ends so.
@@ -466,16 +447,17 @@ impl Connection {
     }
 
     /// After a step that began no reply.
-    fn after_turn<S>(self, alloc: Global, turned: Turned) -> Begun<S>
+    fn after_turn<S>(self, turned: Turned) -> Begun<S>
         requires unended { self.ended ≡ None }
+        requires none { BeginsNone turned }
         requires inside { IsInside self turned }
-        ensures { TurnsTo self turned result }
+        ensures { result ≡ Begun.Answered (after_turn self turned) (turned_answer turned) }
     {
         let mut connection = self;
         match turned {
             Turned::Waits(skipped, progress) => {
-                let answered = connection.wait(alloc, skipped, progress);
-                Begun::Answered(connection, answered)
+                connection.skip(skipped, progress);
+                Begun::Answered(connection, Answered::Waits)
             }
             Turned::Ended(ended) => {
                 connection.end(ended);
@@ -507,30 +489,6 @@ impl Connection {
         let progress = mem::replace(&mut self.progress, Progress::start());
         let rest = &self.buffer[self.start..];
         let ended = finish_rest(alloc, &self.limits, rest, progress, &mut self.rooms, out);
-        self.ended = Some(ended);
-        ended
-    }
-
-    /// Ends as `finish` does, after `begin_next`: the reply of a refusal is as the settings say.
-    pub fn finish_with(
-        &mut self,
-        alloc: Global,
-        settings: &ReplySettings,
-        out: &mut Vec<u8>,
-    ) -> Ended
-        requires waits { WaitsForMore self.old }
-        ensures ended { self.new.ended ≡ Some result }
-        ensures finishes { FinishesWhere settings.now self.old result out.old.items out.new.items }
-        ensures same { AddsNothing settings.now
-            → Finishes self.old result out.old.items out.new.items }
-    {
-        if let Some(ended) = self.ended {
-            return ended;
-        }
-        let progress = mem::replace(&mut self.progress, Progress::start());
-        let rest = &self.buffer[self.start..];
-        let rooms = &mut self.rooms;
-        let ended = finish_rest_as(alloc, &self.limits, rest, progress, rooms, settings, out);
         self.ended = Some(ended);
         ended
     }

@@ -4,7 +4,6 @@ ghost use Rattle.web_request.specs.Pool.{Pool};
 ghost use Rattle.web_messages.specs.declared.limits.Limits.{Limits as LimitsOf};
 ghost use Rattle.web_http1.specs.ConnectionPieces.{AnswersWhole, Fed, FinishedWith};
 ghost use Rattle.web_http1.specs.ConnectionPieces.{IsPrefixOfAnswers, joined};
-ghost use Rattle.web_http1.specs.BegunCalls.{CalledOrBegun};
 ghost use Rattle.web_http1.specs.ConnectionCalls.{Call, Called, fed};
 ghost use Rattle.web_http1.specs.Connections.{ConnectionView, WaitsForMore, open_at};
 ghost use Rattle.web_http1.specs.Serving.{AnswersAll};
@@ -60,34 +59,6 @@ pub fn calls_law<A: App, Args, H: Service<A, Args>>()
     ensures all { (handler : H) (pool : Pool A.Layer) (limits : LimitsOf)
         (calls : List Call) (new : ConnectionView) (given tail : List ℕ) (end : EndedAs)
         → Called (⟦<H as Serves<A, Args>>⟧.setting handler pool) (open_at limits []) calls new given
-        → WaitsForMore new → FinishedWith new end tail
-        → AnswersAll (⟦<H as Serves<A, Args>>⟧.setting handler pool) limits
-        (fed calls) end [] (given ++ tail) }
-{}
-
-/// As `calls_law`, where `Connection::begin_next` was called too, with no settings, and each body
-/// that was due was written to its end before the next call. So a reply that is sent piece by piece
-/// has the bytes of one that is collected, where each body has the length that it states.
-///
-/// The contract is a law, over the clauses of these calls; there is nothing to call it for.
-pub fn begun_calls_law<A: App, Args, H: Service<A, Args>>()
-    ensures prefix { (handler : H) (pool : Pool A.Layer) (limits : LimitsOf)
-        (calls : List Call) (new : ConnectionView) (given : List ℕ)
-        → CalledOrBegun (⟦<H as Serves<A, Args>>⟧.setting handler pool) (open_at limits [])
-        calls new given
-        → IsPrefixOfAnswers (⟦<H as Serves<A, Args>>⟧.setting handler pool) limits
-        (fed calls) given }
-    ensures whole { (handler : H) (pool : Pool A.Layer) (limits : LimitsOf)
-        (calls : List Call) (new : ConnectionView) (given : List ℕ)
-        → CalledOrBegun (⟦<H as Serves<A, Args>>⟧.setting handler pool) (open_at limits [])
-        calls new given
-        → WaitsForMore new
-        → AnswersWhole (⟦<H as Serves<A, Args>>⟧.setting handler pool) limits
-        (fed calls) new.ended given }
-    ensures all { (handler : H) (pool : Pool A.Layer) (limits : LimitsOf)
-        (calls : List Call) (new : ConnectionView) (given tail : List ℕ) (end : EndedAs)
-        → CalledOrBegun (⟦<H as Serves<A, Args>>⟧.setting handler pool) (open_at limits [])
-        calls new given
         → WaitsForMore new → FinishedWith new end tail
         → AnswersAll (⟦<H as Serves<A, Args>>⟧.setting handler pool) limits
         (fed calls) end [] (given ++ tail) }

@@ -23,13 +23,13 @@ use Rattle.web_messages.specs.declared.progress.MessageRead.TheVariants as step
 use Rattle.web_messages.specs.declared.trailers.Trailers.{Trailers}
 use Rattle.web_messages.specs.Chunking.{EndRead, HasChunks, IsChunked, IsSoFar, IsSoFarAt, LineRead}
 use Rattle.web_messages.specs.ChunkedBody.{print_size_line}
-use Rattle.web_messages.specs.EmptyLines.{BlankFront, HasNoEmptyLine, is_blank}
+use Rattle.web_messages.specs.EmptyLines.{BlankFront, is_blank}
 use Rattle.web_messages.specs.HeadFaults.{find_fault, head_fault}
 use Rattle.web_messages.specs.HeadReadings.{NeverHasHead}
 use Rattle.web_messages.specs.Heads as heads
 use Rattle.web_messages.specs.Lines.{BeginsText}
 use Rattle.web_messages.specs.NextMessage.{BodyIs, ChunkedBodyIs, IsFinal, IsNext, framing_in, message_of}
-use Rattle.web_messages.specs.Progress.{HeadFound, IsProgress, IsSearch, IsSettled, IsShort, MayBecomeHead, ReadsOn, next_at_end, stopped}
+use Rattle.web_messages.specs.Progress.{HeadFound, IsProgress, IsSearch, IsSettled, IsShort, ReadsOn, next_at_end, stopped}
 use Rattle.web_messages.proofs.ChunkLemmas.{so_far_more, at_start}
 use Rattle.web_messages.proofs.LineLemmas.{text_longer}
 use Rattle.web_messages.proofs.BlankLemmas.{blank_more}
@@ -179,26 +179,26 @@ module _ (limits : Limits) (bytes : List ℕ) (n : ℕ) (f : BlankFront bytes n)
   -- there is nothing but CR and LF
   pub blank_step : n ≡ length bytes → ReadsOn limits bytes (step.Unfinished (progress.Head (record { blank = n; searched = length bytes })))
   blank_step all = (
-    searched_all bytes n f.begins (blank_no_head bytes n f.begins all) (λ e a b. absurd (omega (arith, all, a, b))),
+    searched_all bytes n f.begins (blank_no_head bytes n f.begins all),
     subst (IsNext limits bytes) (sym (if_true (n == length bytes) next.Closed (next.Refused (wrong.Head (head_fault limits bytes))) (same_test n (length bytes) all))) (all_blank bytes n f all),
     λ some. absurd (blank_some (is_blank bytes) (all_blank bytes n f all) some),
   )
 
   -- there is no head yet
   pub open_at : (k : ℕ) → IsSearch bytes (record { blank = n; searched = k }) → n < length bytes → heads.HasNoHead limits bytes
-      → length bytes < limits.head → MayBecomeHead limits bytes → ReadsOn limits bytes (step.Unfinished (progress.Head (record { blank = n; searched = k })))
-  open_at k search some none short may = (
+      → length bytes < limits.head → ReadsOn limits bytes (step.Unfinished (progress.Head (record { blank = n; searched = k })))
+  open_at k search some none short = (
     search,
     subst (IsNext limits bytes)
         (sym (if_false (n == length bytes) next.Closed (next.Refused (wrong.Head (head_fault limits bytes))) (other_test n (length bytes) some)))
         (none_at_end limits bytes (some_behind bytes n f some) none),
-    λ is. (short, may),
+    λ is. short,
   )
 
-  pub open_step : n < length bytes → HasNoRequest bytes → HasNoEmptyLine bytes n → length bytes < limits.head
+  pub open_step : n < length bytes → HasNoRequest bytes → length bytes < limits.head
       → ReadsOn limits bytes (step.Unfinished (progress.Head (record { blank = n; searched = length bytes })))
-  open_step some none line short =
-      open_at (length bytes) (searched_all bytes n f.begins none line) some (λ tree rest has takes. none tree rest has.reads) short (inl (n, f, line))
+  open_step some none short =
+      open_at (length bytes) (searched_all bytes n f.begins none) some (λ tree rest has takes. none tree rest has.reads) short
 
 -- ---- a body in chunks
 

@@ -16,7 +16,7 @@ use Rattle.web_messages.specs.EmptyLines.{BeginsBlank, is_blank, is_line_byte}
 use Rattle.web_messages.specs.HeadFaults.{head_fault}
 use Rattle.web_messages.specs.Heads as heads
 use Rattle.web_messages.specs.NextMessage.{IsNext}
-use Rattle.web_messages.specs.Progress.{IsSearch, IsShort, MayBecomeHead, Skips, next_at_end}
+use Rattle.web_messages.specs.Progress.{IsSearch, IsShort, Skips, next_at_end}
 use Rattle.web_messages.specs.Sameness.{SameAhead}
 use Rattle.web_messages.proofs.HeadFaultLemmas.{blank_fault}
 use Rattle.web_messages.proofs.SearchLemmas.{behind_blank, blank_longer, blank_true}
@@ -126,7 +126,6 @@ skips_head limits bytes s n size search h =
         blank = back;
         inside = back.inside;
         behind = λ tree rest reads. behind_blank (drop n bytes) limits.head tree rest back reads;
-        no_line = λ e a b. absurd (omega (arith, a, b));
       };
       same = λ more.
           subst (SameAhead limits (bytes ++ more)) (drop-append-le n bytes more (omega (arith, b.inside)))
@@ -149,12 +148,9 @@ skips_short limits bytes s n size search h short some = of (is_blank bytes) refl
     kept : Skips limits bytes (progress.Head (record { blank = limits.head; searched = limits.head })) n
     kept = skips_head limits bytes s n size search h
 
-    of : (b : Bool) → is_blank bytes ≡ b → (length (drop n bytes) < limits.head) × MayBecomeHead limits (drop n bytes)
+    of : (b : Bool) → is_blank bytes ≡ b → length (drop n bytes) < limits.head
     of true e =
         let whole = subst (λ (t : List ℕ). is_blank t ≡ true) (sym (append-nil bytes)) e in
         let rest = subst (λ (t : List ℕ). is_blank t ≡ true) (append-nil (drop n bytes)) ((kept.same []).there next.Closed whole) in
         absurd (not_both (is_blank (drop n bytes)) rest some)
-    of false e =
-        let less = (short e).0 in
-        let inside = search.blank.inside in
-        absurd (omega (arith, less, inside, size))
+    of false e = let less = short e in omega (arith, less, length-drop n bytes)

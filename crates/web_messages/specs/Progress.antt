@@ -1,7 +1,7 @@
 -- How far the next message was read, and what is known of it then.
 use Rattle.std.specs.Prelude.{◌≡◌, ℕ, ◌+◌, ◌<◌, ◌≤◌, ◌==◌, true, false, List, ◌++◌, length, drop}
-use Rattle.std.specs.Prelude.{if◌then◌else◌, take, None, ◌⊎◌, ⊤}
-use Rattle.httparse.specs.Grammar.{MayBecomeRequest, RequestHead, print_request, ReadsRequest}
+use Rattle.std.specs.Prelude.{if◌then◌else◌, ⊤}
+use Rattle.httparse.specs.Grammar.{RequestHead, print_request, ReadsRequest}
 use Rattle.web_messages.specs.declared.framing.Framing.TheVariants as framing
 use Rattle.web_messages.specs.declared.head.Head.{Head}
 use Rattle.web_messages.specs.declared.limits.Limits.{Limits}
@@ -15,21 +15,18 @@ use Rattle.web_messages.specs.declared.progress.Search.{Search}
 use Rattle.web_messages.specs.declared.progress.MessageRead.{MessageRead}
 use Rattle.web_messages.specs.declared.progress.MessageRead.TheVariants as step
 use Rattle.web_messages.specs.Chunking.{EndRead, IsSoFarAt, LineRead}
-use Rattle.web_messages.specs.EmptyLines.{BeginsBlank, BlankFront, EndsInEmptyLine}
-use Rattle.web_messages.specs.EmptyLines.{HasNoEmptyLine, is_blank}
-use Rattle.web_messages.specs.HeadFaults.{find_fault, head_fault}
+use Rattle.web_messages.specs.EmptyLines.{BeginsBlank, is_blank}
+use Rattle.web_messages.specs.HeadFaults.{head_fault}
 use Rattle.web_messages.specs.Heads.{Begins}
 use Rattle.web_messages.specs.NextMessage.{IsNext, framing_in, message_of}
 use Rattle.web_messages.specs.Sameness.{SameAhead}
 
--- The first bytes are CR or LF, each head in the bytes ends after those that were searched, and so
--- does each empty line after the first bytes.
+-- the first bytes are CR or LF, and each head in the bytes ends after those that were searched
 pub record IsSearch (bytes : List ℕ) (s : Search) : Type 0 where
   pub blank : BeginsBlank bytes s.blank
   pub inside : s.searched ≤ length bytes
   pub behind : (tree : RequestHead) (rest : List ℕ) → ReadsRequest bytes tree rest
       → s.searched < length (print_request tree)
-  pub no_line : (e : ℕ) → s.blank < e → e ≤ s.searched → ¬ (EndsInEmptyLine (take e bytes))
 
 -- the bytes begin with this head
 pub record HeadFound (limits : Limits) (bytes : List ℕ) (head : Head) : Type 0 where
@@ -70,24 +67,13 @@ MayStand (next.Refused wrong.TooLarge) = ⊤
 MayStand (next.Refused wrong.Chunk) = ⊤
 MayStand (next.Refused wrong.Cut) = ⊥
 
--- The bytes may still become a head, or are to say why they do not: no empty line ends after the
--- first that is no CR or LF; or some bytes can follow that make them a head of httparse's grammar;
--- or it is not decided yet why they are none.
-abbrev pub MayBecomeHead : Limits → List ℕ → Type 0
-MayBecomeHead limits bytes =
-    ((n : ℕ) × BlankFront bytes n × HasNoEmptyLine bytes n)
-    ⊎ (MayBecomeRequest bytes ⊎ (find_fault limits bytes ≡ None))
-
--- A head that is looked for has fewer bytes than it may have, and may still come of them. A body
--- that is read to a length has fewer than that, which it may have. After the chunks that were read
--- there is a part of one chunk, or of the trailers.
+-- a head that is looked for has fewer bytes than it may have, and a body that is read to a length
+-- fewer than that, which it may have
 abbrev pub IsShort : Limits → List ℕ → Progress → Type 0
-IsShort limits bytes (progress.Head s) =
-    is_blank bytes ≡ false → (length bytes < limits.head) × MayBecomeHead limits bytes
+IsShort limits bytes (progress.Head s) = is_blank bytes ≡ false → length bytes < limits.head
 IsShort limits bytes (progress.Sized head n) =
     (n ≤ limits.body) × (length bytes < head.value.length + n)
-IsShort limits bytes (progress.Chunked head place body) =
-    length bytes ≤ head.value.length + (place.at + (place.left + 16642))
+IsShort limits bytes (progress.Chunked head place body) = ⊤
 
 -- what is known: the next message whatever follows; or how far it was read, and what it is where
 -- nothing follows, which is no message and no refusal that stands

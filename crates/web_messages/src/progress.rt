@@ -1,7 +1,7 @@
 //! The next message of bytes that come in pieces.
 ghost use Rattle.std.specs.Prelude.{◌≡◌, ◌<◌, IfOk, List, ℕ, drop, length, true};
 ghost use Rattle.httparse.specs.Grammar.{HasNoRequest};
-ghost use Rattle.web_messages.specs.EmptyLines.{BlankFront, HasNoEmptyLine};
+ghost use Rattle.web_messages.specs.EmptyLines.{BlankFront};
 ghost use Rattle.web_messages.specs.HeadReadings.{NeverHasHead};
 ghost use Rattle.web_messages.specs.NextMessage.{IsNext};
 ghost use Rattle.web_messages.specs.Progress.{HeadFound, IsProgress, IsSearch, IsShort, ReadsOn};
@@ -27,7 +27,7 @@ use web_texts::NoMemory;
 pub struct Search {
     /// So many bytes at the front are CR or LF.
     pub blank: usize,
-    /// No head ends within so many bytes, and no empty line after the first that are CR or LF.
+    /// No head ends within so many bytes.
     pub searched: usize,
 }
 
@@ -186,7 +186,6 @@ fn has_no_head(limits: &Limits, bytes: &[u8], blank: usize, searched: usize) -> 
     requires blank { BlankFront bytes.now blank }
     requires searched { IsSearch bytes.now (record { blank = blank; searched = searched }) }
     ensures none { result ≡ true → HasNoRequest bytes.now }
-    ensures line { result ≡ true → HasNoEmptyLine bytes.now blank }
     ensures short { result ≡ true → length bytes.now < limits.now.head }
 {
     if searched == 0 {
@@ -240,23 +239,20 @@ fn read_head_on(
     ensures keys { room.new.keys ≡ room.old.keys }
 {
     let blank = blank_front(bytes, search.blank);
-    let searched = bytes.len();
-    if blank == searched {
-        let progress = Progress::Head(Search { blank, searched });
+    let progress = Progress::Head(Search {
+        blank,
+        searched: bytes.len(),
+    });
+    if blank == bytes.len() {
         return Ok(MessageRead::Unfinished(progress));
     }
     if has_no_head(limits, bytes, blank, search.searched) {
-        let progress = Progress::Head(Search { blank, searched });
         return Ok(MessageRead::Unfinished(progress));
     }
     match read_head(alloc, limits, bytes, room)? {
         HeadRead::Head(head) => read_body(alloc, limits, bytes, head),
         HeadRead::Refused => Ok(refuse_head(limits, bytes, blank, search)),
-        HeadRead::Unfinished => {
-            let searched = searched_to(bytes, blank, search);
-            let progress = Progress::Head(Search { blank, searched });
-            Ok(MessageRead::Unfinished(progress))
-        }
+        HeadRead::Unfinished => Ok(MessageRead::Unfinished(progress)),
     }
 }
 

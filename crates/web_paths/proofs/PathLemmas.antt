@@ -16,7 +16,7 @@ use Rattle.web_paths.specs.FileNames.{allows_hidden, begins_with_dot, is_dots, i
 use Rattle.web_paths.specs.PathsBelow.{NamesBelow, begins_with_slash, below_of, ends_in_slash, joined, names_in, names_of, one_more, segments, slashed, without_last_slash}
 
 -- a name that may stand below a root may stand there too where more are allowed
-pub is_file_name-Allowed : (hidden : HiddenNames) (name : List ℕ) → is_file_name hidden name ≡ true → is_file_name Allowed name ≡ true
+is_file_name-Allowed : (hidden : HiddenNames) (name : List ℕ) → is_file_name hidden name ≡ true → is_file_name Allowed name ≡ true
 is_file_name-Allowed hidden name h =
     let parts = and_parts (not (is_dots name) && (allows_hidden hidden || not (begins_with_dot name))) (list_all is_name_byte name) h in
     let front = and_parts (not (is_dots name)) (allows_hidden hidden || not (begins_with_dot name)) parts.0 in

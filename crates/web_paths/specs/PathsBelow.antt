@@ -1,12 +1,11 @@
 -- What the path of a request target names below a root.
-use Rattle.std.specs.Prelude.{ℕ, ◌-◌, ◌==◌, ◌&&◌, Bool, false, List, [], ◌∷◌, ◌++◌}
+use Rattle.std.specs.Prelude.{ℕ, ◌-◌, ◌==◌, ◌&&◌, Bool, List, [], ◌∷◌, ◌++◌}
 use Rattle.std.specs.Prelude.{length, take, drop, map, slice_index}
 use Rattle.std.specs.Prelude.{Option, None, Some, if◌then◌else◌}
 use Rattle.std.specs.List.{flat_map, join_with_byte, list_all, slice_split}
 use Rattle.std.specs.Str.{is_utf8}
 use Rattle.percent_encoding.specs.Percent.{percent_decode}
 use Rattle.web_paths.specs.declared.names.HiddenNames.{HiddenNames}
-use Rattle.web_paths.specs.declared.names.HiddenNames.TheVariants.{Allowed}
 use Rattle.web_paths.specs.FileNames.{is_file_name}
 
 -- the names below a root, and whether a slash ended the path
@@ -61,28 +60,3 @@ names_in (b ∷ rest) = segments (b ∷ rest)
 abbrev pub one_more : List ℕ → List ℕ → List ℕ
 one_more [] name = name
 one_more (b ∷ rest) name = b ∷ rest ++ 47 ∷ name
-
--- a name more, as a file in a folder; nothing where it may be no name
-abbrev pub child_of : HiddenNames → NamesBelow → List ℕ → Option NamesBelow
-child_of hidden below name =
-    if is_file_name hidden name
-    then Some (record { names = below.names ++ name ∷ []; ends_in_slash = false })
-    else None
-
--- the names, with a text after the last one
-abbrev pub with_ending : List (List ℕ) → List ℕ → List (List ℕ)
-with_ending [] ending = []
-with_ending (name ∷ []) ending = (name ++ ending) ∷ []
-with_ending (name ∷ next ∷ more) ending = name ∷ with_ending (next ∷ more) ending
-
--- each may be a name, and there is one
-abbrev pub are_some_names : List (List ℕ) → Bool
-are_some_names [] = false
-are_some_names (name ∷ more) = list_all (is_file_name Allowed) (name ∷ more)
-
--- the file beside the last one, with a text after its name; nothing where that may be no name
-abbrev pub sibling_of : NamesBelow → List ℕ → Option NamesBelow
-sibling_of below ending =
-    if are_some_names (with_ending below.names ending)
-    then Some (record { names = with_ending below.names ending; ends_in_slash = false })
-    else None

@@ -7,12 +7,11 @@ ghost use Rattle.percent_encoding.specs.Percent.{percent_decode};
 ghost use Rattle.web_paths.specs.FileNames.{is_file_name as is_file_name_lem};
 ghost use Rattle.std.specs.Str.{is_utf8};
 ghost use Rattle.web_paths.specs.PathsBelow.{begins_with_slash as begins_with_slash_lem, below_of};
-ghost use Rattle.web_paths.specs.PathsBelow.{child_of, names_in, sibling_of};
 ghost use Rattle.web_paths.specs.PathsBelow.{ends_in_slash as ends_in_slash_lem, joined, one_more};
 ghost use Rattle.web_paths.specs.PathsBelow.{in_folder as in_folder_lem, segments};
 ghost use Rattle.web_paths.specs.PathsBelow.{without_last_slash as without_last_slash_lem};
 
-use crate::names::{HiddenNames, has_name_bytes, is_file_name};
+use crate::names::{HiddenNames, is_file_name};
 use http_uri::Uri;
 use percent_encoding::percent_decode;
 use std::alloc::Global;
@@ -118,31 +117,6 @@ fn text_of(bytes: Vec<u8>) -> Option<String>
     }
 }
 
-/// The text of names with one more.
-fn with_name(alloc: Global, names: &str, name: &str) -> Result<String, NoMemory>
-    ensures { IfOk result (λ text. string_bytes text ≡ one_more names.now name.now) }
-{
-    let mut text = String::from_str(alloc, names)?;
-    if names.is_empty() {
-        text.push_str(name)?;
-    } else {
-        push_slashed(&mut text, name)?;
-    }
-    Ok(text)
-}
-
-/// Whether each name in a text may be one, at least where more are allowed.
-fn are_names(text: &str) -> bool
-    ensures { result ≡ list_all (is_file_name_lem HiddenNames.Allowed) (segments text.now) }
-{
-    for name in text.split('/') {
-        if !is_file_name(name.as_bytes(), HiddenNames::Allowed) {
-            return false;
-        }
-    }
-    true
-}
-
 impl Below {
     /// What a path names below a root: the path of a target, or what is left of it behind the path
     /// at which a folder is served. It has to come as it was sent, since each segment is
@@ -195,7 +169,6 @@ impl Below {
     {
         self.ends_in_slash
     }
-
     /// The path in a folder: that of the folder with each name behind it, a slash before each. The
     /// folder itself where there are no names. Returns `NoMemory` where allocation failed.
     pub fn in_folder(&self, alloc: Global, root: &str) -> Result<String, NoMemory>
@@ -209,44 +182,5 @@ impl Below {
             push_slashed(&mut path, below)?;
         }
         Ok(path)
-    }
-
-    /// The path of what has this name in the folder of this path. `None` if it may be no name.
-    /// Returns `NoMemory` if an allocation failed.
-    pub fn child(
-        &self,
-        alloc: Global,
-        name: &str,
-        hidden: HiddenNames,
-    ) -> Result<Option<Below>, NoMemory>
-        ensures { IfOk result (λ found. found ≡ child_of hidden self.now name.now) }
-    {
-        if !hidden.allow(name) {
-            return Ok(None);
-        }
-        let path = with_name(alloc, self.path.as_str(), name)?;
-        Ok(Some(Below {
-            path,
-            ends_in_slash: false,
-        }))
-    }
-
-    /// The path of the file beside this one whose name has `ending` after it, as `.gz`. `None` if
-    /// that may be no name, and at the root. Returns `NoMemory` if an allocation failed.
-    pub fn sibling(&self, alloc: Global, ending: &str) -> Result<Option<Below>, NoMemory>
-        ensures { IfOk result (λ found. found ≡ sibling_of self.now ending.now) }
-    {
-        if self.path.is_empty() || !has_name_bytes(ending.as_bytes()) {
-            return Ok(None);
-        }
-        let mut path = String::from_str(alloc, self.path.as_str())?;
-        path.push_str(ending)?;
-        if !are_names(path.as_str()) {
-            return Ok(None);
-        }
-        Ok(Some(Below {
-            path,
-            ends_in_slash: false,
-        }))
     }
 }

@@ -24,14 +24,6 @@ impl HiddenNames {
             HiddenNames::Allowed => true,
         }
     }
-
-    /// Whether a text may be a name: it is not empty, `.` or `..`, and has no slash and no NUL, and
-    /// begins with a dot only if such names are allowed.
-    pub fn allow(self, name: &str) -> bool
-        ensures { result ≡ is_file_name_lem self name.now }
-    {
-        is_file_name(name.as_bytes(), self)
-    }
 }
 
 fn is_dots(name: &[u8]) -> bool
@@ -49,7 +41,7 @@ fn begins_with_dot(name: &[u8]) -> bool
     }
 }
 
-pub(crate) fn has_name_bytes(name: &[u8]) -> bool
+fn has_name_bytes(name: &[u8]) -> bool
     ensures { result ≡ list_all is_name_byte_lem name.now }
 {
     name.iter().all(|b| *b != b'/' && *b != 0)

@@ -1,32 +1,25 @@
 -- Routes of tables: their names and the parts of paths are ASCII.
-use Rattle.std.proofs.Common.{◌≡◌, ℕ, zero, suc, ◌-◌, ◌<◌, ◌≤◌, ap, refl, arith, inl, inr, length}
-use Rattle.std.proofs.Common.{take, drop}
-use Rattle.std.specs.Prelude.{Bool, true, false, cond, List, [], ◌∷◌, ◌++◌, ltb, leb, ◌&&◌, ◌==◌, ◌||◌, ◌⊎◌}
-use Rattle.std.specs.Prelude.{Option, None, Some, Result, Ok, Err, IfSome, slice_get, slice_index}
-use Rattle.std.specs.Prelude.{⊤}
-use Rattle.std.specs.List.{All}
-use Rattle.std.specs.Str.{IsAscii, IsNotAscii}
+use Rattle.std.proofs.Common.{◌≡◌, ℕ, zero, suc, ◌+◌, ◌-◌, ◌<◌, ◌≤◌, refl, arith, length, take, drop}
+use Rattle.std.specs.Prelude.{Bool, true, false, cond, List, [], ◌∷◌, ◌++◌, ltb, leb, ◌&&◌, ◌==◌, ◌||◌}
+use Rattle.std.specs.Prelude.{Option, None, Some, Result, Ok, Err, IfSome, slice_index, ⊤}
+use Rattle.std.specs.List.{list_all}
+use Rattle.std.specs.Str.{IsAscii, IsNotAscii, IsUtf8}
 use Rattle.std.proofs.lemmas.Bool.Decides.{nat_tests}
-use Rattle.std.proofs.lemmas.List.{take_all}
-use Rattle.std.proofs.lemmas.Str.{IsAscii-drop, IsAscii-take, IsUtf8-from_ascii}
-use Rattle.std.proofs.lemmas.Str.Ascii.{IsAscii-nil, IsAscii-push}
+use Rattle.std.proofs.lemmas.Str.{IsAscii-append, IsAscii-drop, IsAscii-take, IsUtf8-from_ascii}
+use Rattle.std.proofs.lemmas.Str.Ascii.{IsAscii-cons, IsAscii-nil, IsAscii-push}
 use Rattle.matchit.specs.Order.{placed}
-use Rattle.matchit.specs.Params.{AllText, part_of, walk, wild_from, wild_stop}
-use Rattle.matchit.specs.Route.{Scan, add_name_byte, close_brace, close_name, feed}
-use Rattle.matchit.specs.Route.{feed_named}
+use Rattle.matchit.specs.Params.{AllText, after_token, part_of, walk, wild_from, wild_stop}
+use Rattle.matchit.specs.Route.{Scan, add_name_byte, close_brace, close_name, closed_scan, feed}
+use Rattle.matchit.specs.Route.{feed_closed, feed_named, feed_name_closed, feed_name_opened}
 use Rattle.matchit.specs.Route.{feed_opened, feed_outside, finish, after_close, after_feed}
-use Rattle.matchit.specs.Route.{after_shape, on_shape, open_brace, open_text, parse_route}
-use Rattle.matchit.specs.Route.{scan, scan_start, shape_error, star}
+use Rattle.matchit.specs.Route.{after_shape, on_shape, open_brace, open_name, open_text, parse_route}
+use Rattle.matchit.specs.Route.{push_byte, scan, scan_start, shape_error, star, wild_token}
 use Rattle.matchit.specs.Router.{InsertsRead, RouteOf, route_from}
 use Rattle.matchit.specs.Rows.{RowsOf, catch_all_token, comes_before, param_token}
 use Rattle.matchit.specs.Seek.{first, has_slash, longest_suffix, or_else, own, param_step, seek}
 use Rattle.matchit.specs.Seek.{same_text, segment, step, with_suffix}
 use Rattle.matchit.specs.declared.error.InsertError.{InsertError}
-use Rattle.matchit.specs.declared.error.InsertError.TheVariants.{OutOfMemory}
-use Rattle.web_texts.specs.Pairs.{Pair}
-use Rattle.web_routing.specs.RoutedPaths.{IsFound, ResourceView, TableView, found_for, is_ascii}
-use Rattle.web_routing.specs.RoutedPaths.{parameters, routes_in, served_by}
-use Rattle.web_routing.specs.declared.route_table.Found.TheVariants as found
+use Rattle.web_routing.specs.RoutedPaths.{is_ascii}
 use Rattle.web_routing.specs.RouteTables.{AreAsciiRows, EachRow}
 
 -- ---- ASCII
@@ -96,7 +89,7 @@ module _ {K : Type 0} (P : K → Type 0) where
   or_in (Some x) b h k = h
 
   stepped : (b c : Bool) (n m : ℕ) (x y : RowsOf K) → Each x → Each y
-      → Each (cond {A = ℕ × RowsOf K} b (n, x) (cond c (0, []) (m, y))).1
+      → Each (cond b (n, x) (cond c (0, []) (m, y))).1
   stepped true c n m x y h k = h
   stepped false true n m x y h k = tt
   stepped false false n m x y h k = k
@@ -203,15 +196,12 @@ finish_ascii s h =
 scan_ascii : (s : Scan) (bs : List ℕ) → IsAscii s.text → IsAscii bs → AsciiScan (scan s bs)
 unfolding scan
 scan_ascii s [] h a = finish_ascii s h
-scan_ascii s (b ∷ rest) h a =
-    on (feed s b) (feed_ascii s b h (a 0))
-    (λ next k. scan_ascii next rest k (λ i. a (suc i)))
+scan_ascii s (b ∷ rest) h a = on (feed s b) (feed_ascii s b h (a 0))
   where
     on : (r : Result Scan InsertError) → AsciiScan r
-        → ((next : Scan) → IsAscii next.text → AsciiScan (scan next rest))
         → AsciiScan (after_feed r (λ next. scan next rest))
-    on (Ok next) k f = f next k
-    on (Err e) k f = tt
+    on (Ok next) k = scan_ascii next rest k (λ i. a (suc i))
+    on (Err e) k = tt
 
 shaped_ascii : (o : Option InsertError) (s : Scan) → IsAscii s.text → AsciiScan (on_shape o s)
 shaped_ascii None s h = h
@@ -223,11 +213,6 @@ parsed_ascii pattern a = on (scan scan_start pattern) (scan_ascii scan_start pat
     on : (r : Result Scan InsertError) → AsciiScan r → AsciiScan (after_shape r)
     on (Err e) k = tt
     on (Ok s) k = shaped_ascii (shape_error s.pattern) s k
-
-not_both : (e f : InsertError) → ◌≡◌ {A = Result (Unit {0}) InsertError} (Ok tt) (Err e)
-    ⊎ ◌≡◌ {A = Result (Unit {0}) InsertError} (Ok tt) (Err f) → ⊥
-not_both e f (inl same) = cc
-not_both e f (inr same) = cc
 
 -- an insert of an ASCII pattern leaves rows whose names are ASCII
 pub inserted_ascii : (pattern : List ℕ) (value : ℕ) (old new : RowsOf (RouteOf ℕ))
@@ -241,26 +226,4 @@ inserted_ascii pattern value old new a h i =
     on (Ok s) k j =
         rw j.1 (placed_in (λ (x : RouteOf ℕ). IsAscii x.text)
         (s.pattern, route_from s value) old k h)
-    on (Err e) k j = absurd (not_both e OutOfMemory j.1)
-
--- ---- what is found
-
-pub finds_route : (t : TableView) (method path : List ℕ) (r : RouteOf ℕ) (s : ResourceView) (n : ℕ)
-    (params : List Pair) → IsAscii path → first t.patterns path ≡ Some r
-    → slice_get t.resources r.value ≡ Some s → served_by s.routes method ≡ Some n
-    → params ≡ parameters r path
-    → IsFound t (found_for t method path) (found.Route n) params
-finds_route t method path r s n params a f g h e =
-    rw (ascii_is path a, f, g, h) (refl, e)
-
-pub finds_methods : (t : TableView) (method path : List ℕ) (r : RouteOf ℕ) (s : ResourceView)
-    (params : List Pair) → IsAscii path → first t.patterns path ≡ Some r
-    → slice_get t.resources r.value ≡ Some s → served_by s.routes method ≡ None
-    → IsFound t (found_for t method path) (found.OtherMethods r.value) params
-finds_methods t method path r s params a f g h =
-    rw (ascii_is path a, f, g, h) (ap routes_in g)
-
--- all of a list, where as many are taken
-pub all_taken : {X : Type 0} (P : X → Type 0) (xs : List X) (n : ℕ) → length xs ≤ n
-    → All P (take n xs) → All P xs
-all_taken P xs n l h = rw (take_all n xs l) at h
+    on (Err e) k j = absurd (let no = j.1 in search)

@@ -1,6 +1,6 @@
 -- Calls of routers.
 use Rattle.std.proofs.Common.{◌≡◌, ℕ, refl, inl, inr}
-use Rattle.std.specs.Prelude.{List, Option}
+use Rattle.std.specs.Prelude.{List, Option, None, Some, ⊤}
 use Rattle.web_request.specs.Request.{Request}
 use Rattle.web_reply.specs.ResponseBodies.{Plain}
 use Rattle.web_reply.specs.Replies.{Reply}
@@ -75,12 +75,10 @@ module _ {S T L E X : Type 0} (a : States S (Request L E X)) (b : States T (Requ
       on c d f z q r w (inr (inl h)) = inr (inl (f z.1 q r w.1 h.0, h.1))
       on c d f z q r w (inr (inr h)) = inr (inr h)
 
-  both : (x y : a.State) (z : b.State) → y ≡ x
-      → ◌≡◌ {A = a.State × b.State} (y, z) (x, z)
+  both : (x y : a.State) (z : b.State) → y ≡ x → (y, z) ≡ (x, z)
   both x y z e = rw e refl
 
-  both_other : (x : a.State) (z w : b.State) → w ≡ z
-      → ◌≡◌ {A = a.State × b.State} (x, w) (x, z)
+  both_other : (x : a.State) (z w : b.State) → w ≡ z → (x, w) ≡ (x, z)
   both_other x z w e = rw e refl
 
   pub route_moves : (q : Request L E X) (out : OutcomeView) (x y : S) (o : T)

@@ -1,6 +1,6 @@
 -- One exchange over some polls, up to its reply.
 use Rattle.std.proofs.Common.{◌≡◌, ◌∙◌, ℕ, suc, ◌+◌, ◌<◌, ◌≤◌, refl, sym, ap, subst, arith, inl, inr}
-use Rattle.std.specs.Prelude.{Option, None, Some, List, [], ◌∷◌, true, false, nat_lt, Bool, cond}
+use Rattle.std.specs.Prelude.{Option, None, Some, List, true, false, nat_lt, Bool, cond}
 use Rattle.std.proofs.lemmas.Bool.{ltb-true}
 use Rattle.std.proofs.lemmas.Bool.Decides.{nat_tests}
 use Rattle.web_request.specs.declared.source.Mark.{Mark}

@@ -16,7 +16,7 @@ use Rattle.web_worker.specs.Setting.{Setting}
 use Rattle.web_routing.specs.ReplyFunctions.{AnswersOnly, LeadsTo, RepliesOnly, RespondsOnly}
 use Rattle.web_worker.specs.HandlerServices.{request_promise}
 use Rattle.web_worker.specs.ServicePromises.{Once, Promise}
-use Rattle.web_routing.specs.ServiceRoutes.{changed, chosen_promise, whole_promise}
+use Rattle.web_routing.specs.ServiceRoutes.{changed, chosen_promise}
 
 seen_itself : {T : Type 0} (M : Meaning T) (m rest : List Mark) (v : DelayedResult T)
     → Exactly M m rest v → SeenAs (λ x. x) M m rest v
@@ -146,8 +146,3 @@ pub member_seen : {T U : Type 0} (view : T → U) (M : Meaning T) (m rest : List
 member_seen view M m rest v seen left n (Ok x) h = seen left n (Ok x) h
 member_seen view M m rest v seen left n (Err x) h =
     seen left n (Err x) (subst (λ (z : Fault). M m left n (Err z)) (sym h.2) h.1)
-
--- a service of whole requests promises the same replies
-pub once_whole : {V : Type 0} (p : Promise V) (d : ℕ) (r : Reply Plain) → Once p d r
-    → Once (whole_promise p) d r
-once_whole p d r o = record { once = o.once; comes = o.comes }

@@ -1,5 +1,5 @@
 -- The states of a route and of a service whose replies are changed.
-use Rattle.std.proofs.Common.{refl, inl, inr}
+use Rattle.std.proofs.Common.{◌≡◌, refl, inl, inr}
 use Rattle.std.specs.Prelude.{Option, None, Some, Result, Ok}
 use Rattle.web_texts.specs.declared.memory.NoMemory.{NoMemory as Wanting}
 use Rattle.web_reply.specs.ResponseBodies.{Plain}
@@ -42,21 +42,42 @@ pub state_lost : {H Q : Type 0} (steps : H → Q → Option (Reply Plain) → H 
 state_lost steps a b q s =
     inr (s, record { kept = λ x p r y h. h; same = λ x p r y h. h })
 
-module _ {S H V Y Q E : Type 0} (place : S → H) (replies : H → V → Result Y Wanting → H → Type 0)
-    (converts : E → Fault → Type 0) (responds : Y → Q → Reply Plain → Type 0) where
-  abbrev kept : States S Q
-  kept = kept_states place (StateSteps replies converts responds)
+-- a service without a reply to change
+pub changed_moves : {S Q : Type 0} (states : States S Q)
+    (changes : Q → Reply Plain → Reply Plain → Type 0) (a b : S) (q : Q) (o : OutcomeView)
+    → ((r : Reply Plain) → o ≡ Replied r → ⊥) → MovesTo states q o a b
+    → MovesTo (changed_states (λ s. s) (λ s. changes) states) q o a b
+changed_moves states changes a b q (Replied r) none m = absurd (none r refl)
+changed_moves states changes a b q Unfinished none m =
+    (m.0, same_changed changes (states.steps a) (states.steps b) m.1)
+changed_moves states changes a b q NoMemory none (inl m) =
+    inl (m.0, same_changed changes (states.steps a) (states.steps b) m.1)
+changed_moves states changes a b q NoMemory none (inr m) =
+    inr (inl m.0, same_changed changes (states.steps a) (states.steps b) m.1)
 
-  always : (a b : S) → SameSteps (kept.steps a) (kept.steps b)
+-- a service whose reply was changed
+pub changed_steps : {S Q : Type 0} (states : States S Q)
+    (changes : Q → Reply Plain → Reply Plain → Type 0) (a b : S) (q : Q) (r s : Reply Plain)
+    → Steps states q (Some r) a b → changes q r s
+    → Steps (changed_states (λ s. s) (λ s. changes) states) q (Some s) a b
+changed_steps states changes a b q r s m c =
+    ((r, m.0, c), same_changed changes (states.steps a) (states.steps b) m.1)
+
+module _ {H V Y Q E : Type 0} (replies : H → V → Result Y Wanting → H → Type 0)
+    (converts : E → Fault → Type 0) (responds : Y → Q → Reply Plain → Type 0) where
+  kept : States H Q
+  kept = kept_states (λ h. h) (StateSteps replies converts responds)
+
+  always : (a b : H) → SameSteps (kept.steps a) (kept.steps b)
   always a b = record { kept = λ x p r y h. h; same = λ x p r y h. h }
 
-  pub state_replied : (a b : S) (q : Q) (v : V) (y : Y) → replies (place a) v (Ok y) (place b)
-      → (o : OutcomeView) → OutcomeMeets (λ r. responds y q r) o → MovesTo kept q o a b
+  pub state_replied : (a b : H) (q : Q) (v : V) (y : Y) → replies a v (Ok y) b → (o : OutcomeView)
+      → OutcomeMeets (λ r. responds y q r) o → MovesTo kept q o a b
   state_replied a b q v y h (Replied r) m = (inr (v, y, h, m), always a b)
   state_replied a b q v y h Unfinished m = absurd m
   state_replied a b q v y h NoMemory m = inr ((v, Ok y, h), always a b)
 
-  pub state_refused : (a : S) (q : Q) (e : E) (o : OutcomeView)
+  pub state_refused : (a : H) (q : Q) (e : E) (o : OutcomeView)
       → OutcomeMeets (λ r. Refuses converts e r) o → MovesTo kept q o a a
   state_refused a q e (Replied r) m = (inl (refl, e, m), always a a)
   state_refused a q e Unfinished m = absurd m

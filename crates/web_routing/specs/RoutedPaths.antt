@@ -1,7 +1,7 @@
 -- Which route serves a request: that of the pattern that `matchit` gives for its path, and of its
 -- method.
 use Rattle.std.proofs.Common.{arith, refl}
-use Rattle.std.specs.Prelude.{◌≡◌, ◌⊎◌, ℕ, ◌<◌, List, [], ◌∷◌, ◌++◌, Option, None, Some, Bool}
+use Rattle.std.specs.Prelude.{◌≡◌, ◌⊎◌, ℕ, ◌<◌, List, [], ◌∷◌, ◌++◌, Option, None, Some, Bool, true}
 use Rattle.std.specs.Prelude.{false, codes, slice_get, if◌then◌else◌, map, nat_lt, ⊤}
 use Rattle.std.specs.List.{list_all}
 use Rattle.std.specs.Str.{bytes_eq}

@@ -1,5 +1,5 @@
 -- What some polls make of one exchange over a service.
-use Rattle.std.specs.Prelude.{◌≡◌, ℕ, ◌<◌, ◌≤◌, true, ◌⊎◌}
+use Rattle.std.specs.Prelude.{◌≡◌, ℕ, ◌+◌, ◌<◌, ◌≤◌, true, ◌⊎◌}
 use Rattle.web_request.specs.Pool.{Pool, after_give_back, after_start, next_serial}
 use Rattle.web_request.specs.Request.{Request}
 use Rattle.web_worker.specs.Exchanges.{ExchangeView, FlightView}

@@ -42,15 +42,9 @@ pub struct Router<S, T> {
 }
 
 impl<S, T> Router<S, T> {
-    ghost use Rattle.std.specs.Prelude.{◌≡◌};
-
     /// The router of these routes, whose services stand in the order of their numbers, and of a
     /// service of all other paths.
-    pub fn new(table: RouteTable, services: S, other: T) -> Router<S, T>
-        ensures table { result.table ≡ table }
-        ensures services { result.services ≡ services }
-        ensures other { result.other ≡ other }
-    {
+    pub fn new(table: RouteTable, services: S, other: T) -> Router<S, T> {
         Router {
             table,
             services,

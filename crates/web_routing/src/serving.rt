@@ -1,5 +1,5 @@
 //! One exchange over a service, up to its reply.
-ghost use Rattle.std.specs.Prelude.{◌≡◌, ◌+◌, ◌<◌, ◌^◌};
+ghost use Rattle.std.specs.Prelude.{◌+◌, ◌<◌, ◌^◌};
 ghost use Rattle.web_worker.specs.Exchanges.{ExchangeView, FlightView, IsWaiting, request_of};
 ghost use Rattle.web_worker.specs.Flights.{exchange_promise};
 ghost use Rattle.web_worker.specs.Outcomes.{outcome_view};

@@ -1,5 +1,5 @@
 -- The worker of a test, and its plan.
-use Rattle.std.specs.Prelude.{ℕ, List, replicate}
+use Rattle.std.specs.Prelude.{ℕ, List, [], ◌∷◌, replicate, false, codes}
 use Rattle.web_request.specs.Pool.{Pool, new_pool}
 use Rattle.web_request.specs.LocalConfigs.{local_config}
 

@@ -1,4 +1,3 @@
-use Rattle.std.specs.Prelude.{ℕ}
 use Rattle.example_handlers.specs.Relays.{relayed_reply}
 use Rattle.web_body.specs.Payload.{payload_feed}
 use Rattle.example_handlers.proofs.RelayLemmas.{relayed}
@@ -11,5 +10,5 @@ returns g c =
     on_ok c.serve_all.result _ _
     (λ os functions. each_answered _ (λ x. 0)
     (λ x. relayed_reply x.parts.head.headers (payload_feed feed x.body).marks)
-    (λ x told. relayed feed (λ (u : ℕ) n a. ⊥) (λ (w : ℕ) n y. ⊥) c.args.worker.now x told) _ _ _ functions)
+    (λ x told. relayed feed _ _ c.args.worker.now x told) _ _ _ functions)
     c.serve_all.ensures.functions

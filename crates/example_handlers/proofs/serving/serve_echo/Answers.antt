@@ -12,7 +12,7 @@ returns-clause-answered g c =
     let worker = c.args.worker.now in
     on_ok c.serve_all.result _ _
     (λ os functions. each_answered _ (λ x. body_delay feed of_layer worker x) (λ x. body_reply feed of_layer worker x)
-    (λ x told. listed (λ e f. f ≡ e) (λ e f h. h) NeverGives of_layer (λ e f. f ≡ e) (λ e f h. h) feed (λ (u : ℕ) n a. ⊥) (λ (w : ℕ) n y. ⊥) worker x told) _ _ _ functions)
+    (λ x told. listed (λ e f. f ≡ e) (λ e f h. h) NeverGives of_layer (λ e f. f ≡ e) (λ e f h. h) feed _ _ worker x told) _ _ _ functions)
     c.serve_all.ensures.functions
 
 pub returns-clause-called : goal.returns-clause-called

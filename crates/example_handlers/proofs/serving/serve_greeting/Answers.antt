@@ -1,4 +1,3 @@
-use Rattle.std.specs.Prelude.{ℕ}
 use Rattle.std.proofs.Common.{codes}
 use Rattle.web_extract.specs.Never.{NeverGives}
 use Rattle.web_reply.specs.Responders.{text_reply}
@@ -10,5 +9,5 @@ pub returns : goal.returns
 returns g c =
     on_ok c.serve_all.result _ _
     (λ os functions. each_answered _ (λ x. 1) (λ x. text_reply (codes "hello"))
-    (λ x told. greeted NeverGives g.A.Source.Source.feed (λ (u : ℕ) n a. ⊥) (λ (w : ℕ) n y. ⊥) c.args.worker.now x told) _ _ _ functions)
+    (λ x told. greeted NeverGives g.A.Source.Source.feed _ _ c.args.worker.now x told) _ _ _ functions)
     c.serve_all.ensures.functions

@@ -1,12 +1,13 @@
 use Rattle.std.proofs.Common.{ℕ, ◌+◌, ◌-◌, ◌∙◌, List, length, take, drop, refl, sym, ap, subst, arith, length-drop}
 use Rattle.std.proofs.lemmas.List.{drop-drop, take_rest}
 use Rattle.std.specs.Prelude.{None}
-use Rattle.web_messages.specs.Progress.{HasFewBlank, IsProgress, IsShort}
+use Rattle.web_messages.specs.Progress.{HasFewBlank, IsProgress}
 use Rattle.web_request.specs.Pool.{Pool}
 use Rattle.web_worker.specs.PlanPools.{with_records}
 use Rattle.web_worker.specs.Exchanges.{request_of}
 use Rattle.web_worker.specs.Setting.{setting_of}
 use Rattle.web_http1.specs.Connections.{AllOpen, ended_at, open_at}
+use Rattle.web_http1.specs.Keeping.{KeepsFew}
 use Rattle.web_http1.proofs.ConnectionLemmas.{end_steps, rest_steps, steps_as, waits_steps}
 use Rattle.web_http1.proofs.answering.answer_rest.Goals as goal
 
@@ -89,7 +90,7 @@ returns-in-Waits g c =
         subst (λ (t : List ℕ). IsProgress c.args.limits.now t c.in-Waits.progress) there turned.0.0.is_progress,
         subst (AllOpen c.args.limits.now) there turned.0.1,
         subst (HasFewBlank c.args.limits.now) there turned.0.0.few,
-        subst (λ (t : List ℕ). IsShort c.args.limits.now t c.in-Waits.progress) there turned.0.2,
+        subst (KeepsFew c.args.limits.now) there turned.0.2,
         rest_steps s c.args.limits.now c.args.buffer.now (drop c.args.start c.args.buffer.now) c.messages.place c.in-Waits.skipped rest None c.args.out.now.items c.messages.out.items c.serve_next.new.out.items
             (take_rest c.args.buffer.now c.messages.place) c.messages.invariant.steps step,
       );

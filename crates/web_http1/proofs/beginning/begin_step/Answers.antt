@@ -2,9 +2,9 @@ use Rattle.std.proofs.Common.{refl, arith}
 use Rattle.web_messages.specs.NextMessage.{message_of}
 use Rattle.web_messages.specs.declared.message.Next.TheVariants as next
 use Rattle.web_worker.specs.Setting.{setting_of}
-use Rattle.web_http1.proofs.BegunLemmas.{message_begins, message_made, refused_none, refused_unbegun, waits_none, waits_unbegun}
+use Rattle.web_http1.proofs.BegunLemmas.{message_begins, message_made, refused_none, waits_none}
 use Rattle.web_http1.proofs.ConnectionLemmas.{refused_steps, some_rest, waits_made, waits_turns}
-use Rattle.web_http1.proofs.RefusalLemmas.{as_refused}
+use Rattle.web_http1.proofs.OneLemmas.{refused_one, waits_one}
 use Rattle.web_http1.proofs.beginning.begin_step.Goals as goal
 
 pub begin_turn-requires-clause-room : goal.begin_turn-requires-clause-room
@@ -32,10 +32,9 @@ pub returns-in-Refused-clause-one : goal.returns-in-Refused-clause-one
 returns-in-Refused-clause-one g c =
     let s = setting_of (g.H.Service.completed c.args.handler.now) (g.H.Service.promise c.args.handler.now) (g.H.Service.left c.args.handler.now) g.A.Source.Source.feed c.args.worker.now in
     let known = rw c.in-Refused.is at c.in-Ok.ensures.next in (
-      refused_none s c.args.settings.now c.in-Refused.wrong c.refuse_as.result c.args.out.now.items c.refuse_as.new.out.items c.refuse_as.ensures,
-      λ off. refused_steps s c.args.limits.now c.args.rest.now c.in-Refused.wrong c.refuse_as.result c.args.out.now.items c.refuse_as.new.out.items known.0 known.1
-          (as_refused c.args.settings.now off c.in-Refused.wrong c.refuse_as.result c.args.out.now.items c.refuse_as.new.out.items c.refuse_as.ensures),
-      refused_unbegun s c.args.settings.now c.args.limits.now c.args.rest.now c.in-Refused.wrong c.refuse_as.result c.args.out.now.items c.refuse_as.new.out.items known.1 c.refuse_as.ensures,
+      refused_none s c.args.settings.now c.in-Refused.wrong c.refuse.result c.args.out.now.items c.refuse.new.out.items c.refuse.ensures,
+      refused_steps s c.args.limits.now c.args.rest.now c.in-Refused.wrong c.refuse.result c.args.out.now.items c.refuse.new.out.items known.0 known.1 c.refuse.ensures,
+      refused_one s c.args.limits.now c.args.rest.now c.in-Refused.wrong c.refuse.result c.args.out.now.items c.refuse.new.out.items known.1 c.refuse.ensures,
     )
 
 pub returns-in-Unfinished-clause-made : goal.returns-in-Unfinished-clause-made
@@ -49,6 +48,6 @@ returns-in-Unfinished-clause-one g c =
     let waits = rw c.in-Unfinished.is at c.in-Ok.ensures.next in
     let behind = c.wait.ensures c.args.rest.now waits.0 waits.1 waits.2 in (
       waits_none s c.args.settings.now c.args.limits.now c.args.rest.now c.wait.result behind,
-      λ off. waits_turns s c.args.limits.now c.args.rest.now c.args.out.now.items c.args.out.now.items c.wait.result behind refl,
-      waits_unbegun s c.args.settings.now c.args.limits.now c.args.rest.now c.args.out.now.items c.args.out.now.items c.wait.result behind refl,
+      waits_turns s c.args.limits.now c.args.rest.now c.args.out.now.items c.args.out.now.items c.wait.result behind refl,
+      waits_one s c.args.limits.now c.args.rest.now c.args.out.now.items c.args.out.now.items c.wait.result behind refl,
     )

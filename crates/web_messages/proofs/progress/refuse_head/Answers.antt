@@ -1,4 +1,4 @@
-use Rattle.std.proofs.Common.{inr, sym, ◌∙◌}
+use Rattle.std.proofs.Common.{sym, ◌∙◌}
 use Rattle.web_messages.proofs.HeadFaultLemmas.{open_short}
 use Rattle.web_messages.proofs.ProgressLemmas.{head_refused, none_so_far, open_at}
 use Rattle.web_messages.proofs.SearchLemmas.{some_behind}
@@ -15,4 +15,3 @@ returns-in-None c =
     open_at c.args.limits.now c.args.bytes.now c.args.blank c.requires.blank c.searched_to-searched.result c.searched_to-searched.ensures
     c.requires.some (none_so_far c.args.limits.now c.args.bytes.now c.requires.never)
     (open_short c.args.limits.now c.args.bytes.now (sym c.find_fault.ensures ∙ c.in-None.is))
-    (inr (inr (sym c.find_fault.ensures ∙ c.in-None.is)))

@@ -1,6 +1,7 @@
 use Rattle.std.proofs.Common.{◌+◌, ◌≤◌, ap, ◌∙◌, length, subst, sym}
 use Rattle.web_worker.specs.Setting.{setting_of}
-use Rattle.web_http1.specs.BegunAnswers.{BeginsNext, BegunSteps, BegunWaits, IsInside, TurnsTo, after_begun, after_reply}
+use Rattle.web_http1.specs.BegunAnswers.{BeginsNext, BegunSteps, BegunWaits, IsInside, after_begun, after_reply, after_turn, turned_answer}
+use Rattle.web_http1.specs.declared.begun.Begun.TheVariants as begun
 use Rattle.web_http1.specs.Connections.{ConnectionView, bytes_open}
 use Rattle.web_http1.proofs.BegunLemmas as of
 use Rattle.web_http1.proofs.connection.Connection.begin_next.Goals as goal
@@ -21,11 +22,15 @@ pub after_turn-requires-clause-unended : goal.after_turn-requires-clause-unended
 after_turn-requires-clause-unended g c =
     ap (λ (v : ConnectionView). v.ended) c.in-Turned.ensures.same ∙ sym c.in_default.ensures
 
+pub after_turn-requires-clause-none : goal.after_turn-requires-clause-none
+after_turn-requires-clause-none g c =
+    c.in-Turned.ensures.one.0
+
 pub after_turn-requires-clause-inside : goal.after_turn-requires-clause-inside
 after_turn-requires-clause-inside g c =
     let s = setting_of (g.H.Service.completed c.args.handler.now) (g.H.Service.promise c.args.handler.now) (g.H.Service.left c.args.handler.now) g.A.Source.Source.feed c.args.worker.now in
     subst (λ (v : ConnectionView). IsInside v c.in-Turned.turned) (sym c.in-Turned.ensures.same)
-    (of.turn_inside s c.args.settings.now c.args.self c.args.out.now.items c.begin.new.out.items c.in-Turned.turned c.in-Turned.ensures.one.0 c.in-Turned.ensures.one.2)
+    (of.turn_inside s c.args.settings.now c.args.self c.args.out.now.items c.begin.new.out.items c.in-Turned.turned c.in-Turned.ensures.one.0 c.in-Turned.ensures.one.1)
 
 pub returns-in-Begun-clause-made : goal.returns-in-Begun-clause-made
 returns-in-Begun-clause-made g c =
@@ -91,8 +96,9 @@ returns-in-Turned-clause-made g c =
     let unended = sym c.in_default.ensures in
     let turned = c.in-Turned.turned in
     let one = c.in-Turned.ensures.one in
-    let to = subst (λ (v : ConnectionView). TurnsTo v turned c.after_turn.result) c.in-Turned.ensures.same c.after_turn.ensures in
-    of.turn_made c.args.self turned c.after_turn.result c.args.worker.now.made c.begin.new.worker.made unended to c.in-Turned.ensures.made
+    let is = c.after_turn.ensures ∙ ap (λ (v : ConnectionView). begun.Answered (after_turn v turned) (turned_answer turned)) c.in-Turned.ensures.same in
+    subst (λ r. c.begin.new.worker.made + bytes_open (after_begun r) ≤ c.args.worker.now.made + bytes_open c.args.self) (sym is)
+    (of.turn_made c.args.self turned c.args.worker.now.made c.begin.new.worker.made unended c.in-Turned.ensures.made)
 
 pub returns-in-Turned-clause-limits : goal.returns-in-Turned-clause-limits
 returns-in-Turned-clause-limits g c =
@@ -100,8 +106,8 @@ returns-in-Turned-clause-limits g c =
     let unended = sym c.in_default.ensures in
     let turned = c.in-Turned.turned in
     let one = c.in-Turned.ensures.one in
-    let to = subst (λ (v : ConnectionView). TurnsTo v turned c.after_turn.result) c.in-Turned.ensures.same c.after_turn.ensures in
-    of.turn_limits c.args.self turned c.after_turn.result to
+    let is = c.after_turn.ensures ∙ ap (λ (v : ConnectionView). begun.Answered (after_turn v turned) (turned_answer turned)) c.in-Turned.ensures.same in
+    ap (λ r. (after_begun r).limits) is ∙ of.turn_limits c.args.self turned
 
 pub returns-in-Turned-clause-waits : goal.returns-in-Turned-clause-waits
 returns-in-Turned-clause-waits g c =
@@ -109,8 +115,8 @@ returns-in-Turned-clause-waits g c =
     let unended = sym c.in_default.ensures in
     let turned = c.in-Turned.turned in
     let one = c.in-Turned.ensures.one in
-    let to = subst (λ (v : ConnectionView). TurnsTo v turned c.after_turn.result) c.in-Turned.ensures.same c.after_turn.ensures in
-    of.turn_waits s c.args.settings.now c.args.self c.args.out.now.items c.begin.new.out.items turned c.after_turn.result to
+    let is = c.after_turn.ensures ∙ ap (λ (v : ConnectionView). begun.Answered (after_turn v turned) (turned_answer turned)) c.in-Turned.ensures.same in
+    subst (λ r. BegunWaits r) (sym is) (of.turn_waits s c.args.settings.now c.args.self c.args.out.now.items c.begin.new.out.items turned one.0 one.1)
 
 pub returns-in-Turned-clause-begun : goal.returns-in-Turned-clause-begun
 returns-in-Turned-clause-begun g c =
@@ -118,8 +124,9 @@ returns-in-Turned-clause-begun g c =
     let unended = sym c.in_default.ensures in
     let turned = c.in-Turned.turned in
     let one = c.in-Turned.ensures.one in
-    let to = subst (λ (v : ConnectionView). TurnsTo v turned c.after_turn.result) c.in-Turned.ensures.same c.after_turn.ensures in
-    of.turn_next s c.args.settings.now c.args.self c.args.out.now.items c.begin.new.out.items turned c.after_turn.result unended one.0 one.2 to
+    let is = c.after_turn.ensures ∙ ap (λ (v : ConnectionView). begun.Answered (after_turn v turned) (turned_answer turned)) c.in-Turned.ensures.same in
+    subst (λ r. BeginsNext s c.args.settings.now c.args.self c.args.out.now.items c.begin.new.out.items r) (sym is)
+    (of.turn_next s c.args.settings.now c.args.self c.args.out.now.items c.begin.new.out.items turned unended one.0 one.2)
 
 pub returns-in-Turned-clause-steps : goal.returns-in-Turned-clause-steps
 returns-in-Turned-clause-steps g c =
@@ -127,5 +134,6 @@ returns-in-Turned-clause-steps g c =
     let unended = sym c.in_default.ensures in
     let turned = c.in-Turned.turned in
     let one = c.in-Turned.ensures.one in
-    let to = subst (λ (v : ConnectionView). TurnsTo v turned c.after_turn.result) c.in-Turned.ensures.same c.after_turn.ensures in
-    λ off all. of.turn_goes s c.args.settings.now c.args.self c.args.out.now.items c.begin.new.out.items turned c.after_turn.result unended one.0 (one.1 off) to
+    let is = c.after_turn.ensures ∙ ap (λ (v : ConnectionView). begun.Answered (after_turn v turned) (turned_answer turned)) c.in-Turned.ensures.same in
+    λ off all. subst (λ r. BegunSteps s c.args.self c.args.out.now.items c.begin.new.out.items r) (sym is)
+    (of.turn_goes s c.args.settings.now c.args.self c.args.out.now.items c.begin.new.out.items turned unended one.0 one.1)

@@ -1,2 +1,0 @@
-mod OpenedPathLemmas
-mod PiecesLemmas

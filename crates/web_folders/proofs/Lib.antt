@@ -1,4 +1,0 @@
-mod FileTagLemmas
-mod FolderLemmas
-mod HeaderLemmas
-mod MediaTypeLemmas
