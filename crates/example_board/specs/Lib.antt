@@ -1,2 +1,3 @@
 pub mod BoardReplies
+pub mod BoardStatuses
 pub mod Position

@@ -1,4 +1,7 @@
 //! What a refused request is answered with: `{"error":TEXT}`.
+ghost use Rattle.std.specs.Prelude.{◌≡◌, IfOk};
+ghost use Rattle.example_board.specs.BoardStatuses.{refusal_status};
+
 use crate::route::Route;
 use board_store::BoardError;
 use http::StatusCode;
@@ -9,7 +12,9 @@ use web_status::json_error_reply;
 use web_texts::{NoMemory, Text};
 
 /// The status of what the board did not do.
-pub fn status_of(error: BoardError) -> StatusCode {
+pub fn status_of(error: BoardError) -> StatusCode
+    ensures { result ≡ refusal_status error }
+{
     match error {
         BoardError::NotFound => StatusCode::NOT_FOUND,
         BoardError::TitleTaken => StatusCode::CONFLICT,
@@ -27,7 +32,9 @@ pub fn insert<B>(
     reply: &mut HttpResponse<B>,
     name: HeaderName,
     value: HeaderValue,
-) -> Result<(), NoMemory> {
+) -> Result<(), NoMemory>
+    ensures { reply.new.head.status ≡ reply.old.head.status }
+{
     match reply.headers_mut().insert(name, value) {
         Ok(_) => Ok(()),
         Err(_) => Err(NoMemory),
@@ -35,7 +42,9 @@ pub fn insert<B>(
 }
 
 /// The response to what the board did not do.
-pub fn refused(alloc: Global, error: BoardError) -> Result<HttpResponse<WholeBody>, NoMemory> {
+pub fn refused(alloc: Global, error: BoardError) -> Result<HttpResponse<WholeBody>, NoMemory>
+    ensures { IfOk result (λ reply. reply.head.status ≡ refusal_status error) }
+{
     let text = format!(in alloc; "{error}")?;
     json_error_reply(alloc, status_of(error), text.as_str())
 }
