@@ -1,3 +1,4 @@
+mod AsciiLemmas
 mod FileTagLemmas
 mod FolderLemmas
 mod HeaderLemmas
