@@ -22,6 +22,9 @@ const LINK_ESCAPES: AsciiSet = ascii_set!(
         .remove(b'~')
 );
 
+// A bit for each of these bytes.
+const _: () = prove!(LINK_ESCAPES.mask == 0xB800_0001_7800_0001_FC00_9FFF_FFFF_FFFF);
+
 /// A character as it stands in HTML, also within the quotes of an attribute, or `None` if it
 /// stands for itself.
 fn escape_of(c: char) -> Option<&'static str>
