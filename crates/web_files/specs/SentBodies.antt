@@ -61,8 +61,8 @@ MayBeRefused (body.Page page) = ⊥
 MayBeRefused (body.File part) = (0 < part.first) ⊎ (2 ^ 63 ≤ part.count)
 MayBeRefused (body.Omitted count) = ⊥
 
--- The reply with its body as it is sent, and all else as it was; or an empty 500, if its part may be
--- refused.
+-- The reply with its body as it is sent, and all else as it was; or an empty 500, if its body may
+-- be refused.
 abbrev pub Streams : {F : Type 0} → Known F → Reply (FolderBody F) → Reply (BoxBody PiecesLeft)
     → Type 0
 Streams known reply sent =

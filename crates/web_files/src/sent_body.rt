@@ -93,8 +93,8 @@ fn sent_body<F: Read + Seek + Drop>(
 /// The reply with its file as a body that is read as it is sent. Its length is the one that was
 /// stated, also if the file grows; if the file was cut, the body breaks off.
 ///
-/// An empty 500 only for a part that begins after the first byte, if the file cannot be moved there,
-/// and for one of 2^63 bytes or more. Returns `NoMemory` if an allocation failed.
+/// An empty 500 only for a part that begins after the first byte, if the file cannot be moved
+/// there, and for one of 2^63 bytes or more. Returns `NoMemory` if an allocation failed.
 pub fn streamed<F: Read + Seek + Drop>(
     alloc: Global,
     reply: HttpResponse<FolderBody<F>>,

@@ -1,4 +1,3 @@
-mod AsciiLemmas
 mod FileTagLemmas
 mod FolderLemmas
 mod HeaderLemmas

@@ -1,8 +1,10 @@
 //! The headers of a reply with a file beside those of its description.
 ghost use Rattle.std.specs.Prelude.{◌≡◌, ◌&&◌, IfOk, OnOk};
-ghost use Rattle.web_folders.specs.FileDispositions.{disposition_value};
-ghost use Rattle.web_folders.specs.FileReplies.{added_headers, content_headers, has_content};
-ghost use Rattle.web_folders.specs.FileReplies.{if_allowed, is_kept, with_header};
+ghost use Rattle.web_folders.specs.FileDispositions.{disposition_value as disposition_value_lem};
+ghost use Rattle.web_folders.specs.FileReplies.{added_headers, content_headers};
+ghost use Rattle.web_folders.specs.FileReplies.{has_content as has_content_lem};
+ghost use Rattle.web_folders.specs.FileReplies.{if_allowed as if_allowed_lem, with_header};
+ghost use Rattle.web_folders.specs.FileReplies.{is_kept as is_kept_lem};
 
 use crate::coding::FileCoding;
 use crate::disposition::disposition_value;
@@ -34,21 +36,21 @@ pub(crate) fn put(
 }
 
 fn if_allowed(allowed: bool, value: Option<HeaderValue>) -> Option<HeaderValue>
-    ensures { result ≡ if_allowed allowed value }
+    ensures { result ≡ if_allowed_lem allowed value }
 {
     if allowed { value } else { None }
 }
 
 /// Whether a reply of this status has content of a file.
 fn has_content(status: StatusCode) -> bool
-    ensures { result ≡ has_content status }
+    ensures { result ≡ has_content_lem status }
 {
     status == StatusCode::OK || status == StatusCode::PARTIAL_CONTENT
 }
 
 /// Whether a cache stores what a reply of this status says.
 fn is_kept(status: StatusCode) -> bool
-    ensures { result ≡ is_kept status }
+    ensures { result ≡ is_kept_lem status }
 {
     has_content(status) || status == StatusCode::NOT_MODIFIED
 }
@@ -60,7 +62,7 @@ fn disposition(
     path: &str,
 ) -> Result<Option<HeaderValue>, NoMemory>
     ensures { IfOk result (λ value.
-        value ≡ if_allowed (content && wanted) (disposition_value path.now)) }
+        value ≡ if_allowed_lem (content && wanted) (disposition_value_lem path.now)) }
 {
     if content && wanted {
         return disposition_value(alloc, path);
@@ -69,7 +71,7 @@ fn disposition(
 }
 
 fn cache_control(wanted: bool, settings: &FolderSettings) -> Result<Option<HeaderValue>, NoMemory>
-    ensures { IfOk result (λ value. value ≡ if_allowed wanted settings.now.cache_control) }
+    ensures { IfOk result (λ value. value ≡ if_allowed_lem wanted settings.now.cache_control) }
 {
     match &settings.cache_control {
         Some(value) if wanted => Ok(Some(value.clone()?)),

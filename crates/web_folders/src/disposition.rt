@@ -1,8 +1,14 @@
 //! How a file is to be shown or saved.
 ghost use Rattle.std.specs.Prelude.{◌≡◌, ◌∷◌, [], IfOk};
-ghost use Rattle.web_folders.specs.FileDispositions.{disposition_type, disposition_value};
-ghost use Rattle.web_folders.specs.FileDispositions.{file_disposition, file_name, filename_params};
-ghost use Rattle.web_folders.specs.FileDispositions.{is_shown, is_shown_type, utf8_value};
+ghost use Rattle.std.specs.List.{list_all};
+ghost use Rattle.std.specs.Char.{is_ascii};
+ghost use Rattle.web_folders.specs.FileDispositions.{disposition_value as disposition_value_lem};
+ghost use Rattle.web_folders.specs.FileDispositions.{file_disposition as file_disposition_lem};
+ghost use Rattle.web_folders.specs.FileDispositions.{file_name as file_name_lem};
+ghost use Rattle.web_folders.specs.FileDispositions.{is_shown as is_shown_lem, is_shown_type};
+ghost use Rattle.web_folders.specs.FileDispositions.{filename_params as filename_params_lem};
+ghost use Rattle.web_folders.specs.FileDispositions.{disposition_type as disposition_type_lem};
+ghost use Rattle.web_folders.specs.FileDispositions.{utf8_value as utf8_value_lem};
 ghost use Rattle.web_docs.specs.Documents.{field_value_of};
 ghost use Rattle.web_entities.specs.DispositionTexts.{disposition_text};
 
@@ -15,7 +21,7 @@ use web_texts::{Charset, ExtendedValue, Fail, Items, NoMemory, Text, cut_at, cut
 
 /// The last name of a path.
 fn file_name(path: &str) -> &str
-    ensures { result.now ≡ file_name path.now }
+    ensures { result.now ≡ file_name_lem path.now }
 {
     match cut_at_last(path, b'/') {
         Some((_, name)) => name,
@@ -36,7 +42,7 @@ fn is_shown_type(type_: &str, media_type: &str) -> bool
 
 /// Whether a browser shows content of this type, and does not save it.
 fn is_shown(media_type: &str) -> bool
-    ensures { result ≡ is_shown media_type.now }
+    ensures { result ≡ is_shown_lem media_type.now }
 {
     match cut_at(media_type, b'/') {
         Some((type_, _)) => is_shown_type(type_, media_type),
@@ -45,7 +51,7 @@ fn is_shown(media_type: &str) -> bool
 }
 
 fn disposition_type(media_type: &str) -> DispositionType
-    ensures { result ≡ disposition_type media_type.now }
+    ensures { result ≡ disposition_type_lem media_type.now }
 {
     if is_shown(media_type) {
         DispositionType::Inline
@@ -54,8 +60,14 @@ fn disposition_type(media_type: &str) -> DispositionType
     }
 }
 
+fn is_ascii_text(name: &str) -> bool
+    ensures { result ≡ list_all is_ascii name.now }
+{
+    name.as_bytes().iter().all(|b| *b < 128)
+}
+
 fn utf8_value(alloc: Global, name: &str) -> Result<ExtendedValue, NoMemory>
-    ensures { IfOk result (λ value. value ≡ utf8_value name.now) }
+    ensures { IfOk result (λ value. value ≡ utf8_value_lem name.now) }
 {
     let value = Items::of(Vec::from_slice(alloc, name.as_bytes())?);
     match Charset::parse(alloc, "UTF-8") {
@@ -70,11 +82,11 @@ fn utf8_value(alloc: Global, name: &str) -> Result<ExtendedValue, NoMemory>
 
 /// The name as `filename`, and beside it as `filename*` if it is not ASCII.
 fn filename_params(alloc: Global, name: &str) -> Result<Items<DispositionParam>, NoMemory>
-    ensures { IfOk result (λ params. params ≡ filename_params name.now) }
+    ensures { IfOk result (λ params. params ≡ filename_params_lem name.now) }
 {
     let mut params = Items::of(Vec::new(alloc));
     params.push(DispositionParam::Filename(Text::of(alloc, name)?))?;
-    if !name.is_ascii() {
+    if !is_ascii_text(name) {
         params.push(DispositionParam::FilenameExt(utf8_value(alloc, name)?))?;
     }
     Ok(params)
@@ -82,7 +94,7 @@ fn filename_params(alloc: Global, name: &str) -> Result<Items<DispositionParam>,
 
 /// The disposition of the file at this path.
 fn file_disposition(alloc: Global, path: &str) -> Result<ContentDisposition, NoMemory>
-    ensures { IfOk result (λ d. d ≡ file_disposition path.now) }
+    ensures { IfOk result (λ d. d ≡ file_disposition_lem path.now) }
 {
     let parameters = filename_params(alloc, file_name(path))?;
     Ok(ContentDisposition {
@@ -109,7 +121,7 @@ fn printed(alloc: Global, disposition: &ContentDisposition) -> Result<Option<Hea
 /// The value of Content-Disposition (RFC 6266) for the file at this path. None if its name can be
 /// in no header, as one with a line break.
 pub(crate) fn disposition_value(alloc: Global, path: &str) -> Result<Option<HeaderValue>, NoMemory>
-    ensures { IfOk result (λ value. value ≡ disposition_value path.now) }
+    ensures { IfOk result (λ value. value ≡ disposition_value_lem path.now) }
 {
     let disposition = file_disposition(alloc, path)?;
     let value = printed(alloc, &disposition)?;

@@ -1,7 +1,8 @@
 //! What is known of a file before it is read.
 ghost use Rattle.std.specs.Prelude.{◌≡◌, IfOk};
 ghost use Rattle.web_folders.specs.FileDescriptions.{DescribesFile, IsLastChange, file_tag};
-ghost use Rattle.web_folders.specs.FileDescriptions.{file_tag_text, time_text};
+ghost use Rattle.web_folders.specs.FileDescriptions.{file_tag_text};
+ghost use Rattle.web_folders.specs.FileDescriptions.{time_text};
 
 use crate::media_type::media_type_of;
 use http_header::HeaderValue;

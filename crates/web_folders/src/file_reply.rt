@@ -1,7 +1,7 @@
 //! The reply with an open file.
 ghost use Rattle.std.specs.Prelude.{◌≡◌, IfOk};
 ghost use Rattle.web_docs.specs.DescribedReplies.{IsWithin};
-ghost use Rattle.web_folders.specs.FileReplies.{IsFileReply, file_body};
+ghost use Rattle.web_folders.specs.FileReplies.{IsFileReply, file_body as file_body_lem};
 
 use crate::added_headers::add_headers;
 use crate::body::{FilePart, FolderBody};
@@ -18,7 +18,7 @@ use web_texts::NoMemory;
 /// The bytes of a file of this size that are sent.
 fn file_body<F: Drop>(file: F, size: u64, status: StatusCode, sends: Sends) -> FolderBody<F>
     requires { IsWithin size sends }
-    ensures { result ≡ file_body file size status sends }
+    ensures { result ≡ file_body_lem file size status sends }
 {
     match sends {
         Sends::All => FolderBody::File(FilePart {

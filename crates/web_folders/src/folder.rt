@@ -3,8 +3,9 @@ ghost use Rattle.std.specs.Prelude.{◌≡◌, IfOk};
 ghost use Rattle.web_request.specs.Head.{head_path, head_query};
 ghost use Rattle.std.specs.Option.{option_map};
 ghost use Rattle.web_folders.specs.FolderReplies.{IsFolderReply, ListsEntries, ListsFolder};
-ghost use Rattle.web_folders.specs.FolderReplies.{RepliesWithFolder, RepliesWithIndex, SendsBelow};
-ghost use Rattle.web_folders.specs.FolderReplies.{SendsFileAt, SendsFound, index_of, is_read};
+ghost use Rattle.web_folders.specs.FolderReplies.{RepliesWithFolder};
+ghost use Rattle.web_folders.specs.FolderReplies.{RepliesWithIndex, SendsBelow, SendsFileAt};
+ghost use Rattle.web_folders.specs.FolderReplies.{SendsFound, index_of, is_read as is_read_lem};
 
 use crate::body::FolderBody;
 use crate::entry::FolderEntry;
@@ -172,7 +173,7 @@ impl<F: FolderFiles + Drop> Folder<F> {
             (F.lists self.now.files) self.now.settings
             (record { path = target.now; query = query.now })
             (record { method = method.now; headers = headers.now }) path.now folder.now
-            (is_read method.now) reply) }
+            (is_read_lem method.now) reply) }
     {
         if !is_read(method) {
             return no_such_method(alloc);

@@ -2,9 +2,11 @@
 ghost use Rattle.std.specs.Prelude.{◌≡◌, ◌++◌, IfOk, OnOk, flat_map, string_bytes};
 ghost use Rattle.std.specs.Option.{option_map};
 ghost use Rattle.std.specs.Str.{chars};
-ghost use Rattle.web_folders.specs.Listings.{IsSortedFolder, allowed_line, entry_line, escape_of};
-ghost use Rattle.web_folders.specs.Listings.{escaped_char, folder_title, listing_page, page_head};
-ghost use Rattle.web_folders.specs.Listings.{parent_line, slash_if};
+ghost use Rattle.web_folders.specs.Listings.{entry_line, escape_of as escape_of_lem, escaped_char};
+ghost use Rattle.web_folders.specs.Listings.{IsSortedFolder, allowed_line, folder_title};
+ghost use Rattle.web_folders.specs.Listings.{listing_page as listing_page_lem, page_head};
+ghost use Rattle.web_folders.specs.Listings.{parent_line as parent_line_lem};
+ghost use Rattle.web_folders.specs.Listings.{slash_if as slash_if_lem};
 
 use crate::entry::FolderEntry;
 use percent_encoding::{AsciiSet, NON_ALPHANUMERIC, ascii_set, utf8_percent_encode};
@@ -22,13 +24,10 @@ const LINK_ESCAPES: AsciiSet = ascii_set!(
         .remove(b'~')
 );
 
-// A bit for each of these bytes.
-const _: () = prove!(LINK_ESCAPES.mask == 0xB800_0001_7800_0001_FC00_9FFF_FFFF_FFFF);
-
 /// A character as it stands in HTML, also within the quotes of an attribute, or `None` if it
 /// stands for itself.
 fn escape_of(c: char) -> Option<&'static str>
-    ensures { option_map (λ text. text.now) result ≡ escape_of c }
+    ensures { option_map (λ text. text.now) result ≡ escape_of_lem c }
 {
     match c {
         '&' => Some("&amp;"),
@@ -62,7 +61,7 @@ fn push_escaped(page: &mut String, text: &str) -> Result<(), NoMemory>
 }
 
 fn slash_if(is_folder: bool) -> &'static str
-    ensures { result.now ≡ slash_if is_folder }
+    ensures { result.now ≡ slash_if_lem is_folder }
 {
     if is_folder { "/" } else { "" }
 }
@@ -129,7 +128,7 @@ fn push_head(page: &mut String, path: &str) -> Result<(), NoMemory>
 }
 
 fn parent_line(path: &str) -> &'static str
-    ensures { result.now ≡ parent_line path.now }
+    ensures { result.now ≡ parent_line_lem path.now }
 {
     if path.is_empty() {
         ""
@@ -147,7 +146,7 @@ pub(crate) fn listing_page(
     entries: &[FolderEntry],
 ) -> Result<String, NoMemory>
     ensures { IfOk result (λ page.
-        string_bytes page ≡ listing_page path.now hidden entries.now) }
+        string_bytes page ≡ listing_page_lem path.now hidden entries.now) }
 {
     let mut page = String::new(alloc);
     push_head(&mut page, path)?;

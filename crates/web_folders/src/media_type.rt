@@ -1,8 +1,9 @@
 //! Media types by the ends of names.
 ghost use Rattle.std.specs.Prelude.{◌≡◌, IsTrue, true};
 ghost use Rattle.http_header.specs.FieldValue.{is_visible_text};
-ghost use Rattle.web_folders.specs.FileMediaTypes.{are_visible, extension_of, media_type_in};
-ghost use Rattle.web_folders.specs.FileMediaTypes.{media_type_of, plain_rows};
+ghost use Rattle.web_folders.specs.FileMediaTypes.{are_visible, extension_of as extension_of_lem};
+ghost use Rattle.web_folders.specs.FileMediaTypes.{media_type_in, media_type_of as media_type_lem};
+ghost use Rattle.web_folders.specs.FileMediaTypes.{plain_rows};
 ghost use Rattle.std.specs.Str.{str_eq_ignore_ascii_case};
 
 use web_texts::cut_at_last;
@@ -61,7 +62,7 @@ pub const MEDIA_TYPES: [(&str, &str); 46] = [
 
 /// The text after the last dot, or none.
 fn extension_of(path: &str) -> &str
-    ensures { result.now ≡ extension_of path.now }
+    ensures { result.now ≡ extension_of_lem path.now }
 {
     match cut_at_last(path, b'.') {
         Some((_, extension)) => extension,
@@ -94,7 +95,7 @@ fn media_type_in(rows: &[(&'static str, &'static str)], extension: &str) -> &'st
 /// is none.
 #[tactic(auto, unfolding(crate::specs::FileMediaTypes::media_type_of))]
 pub fn media_type_of(path: &str) -> &'static str
-    ensures value { result.now ≡ media_type_of path.now }
+    ensures value { result.now ≡ media_type_lem path.now }
     ensures visible { IsTrue (is_visible_text result.now) }
 {
     media_type_in(&MEDIA_TYPES, extension_of(path))

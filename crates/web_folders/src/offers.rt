@@ -2,8 +2,8 @@
 ghost use Rattle.std.specs.Prelude.{◌≡◌, IfOk, map, slice_get, unwrap_or};
 ghost use Rattle.std.specs.Option.{option_and_then};
 ghost use Rattle.http_header.specs.HeaderMap.{remove};
-ghost use Rattle.web_folders.specs.FileCodings.{IsCodingFor, SendsCoding, coding_headers};
-ghost use Rattle.web_folders.specs.FileCodings.{encoding_of};
+ghost use Rattle.web_folders.specs.FileCodings.{IsCodingFor, SendsCoding, encoding_of};
+ghost use Rattle.web_folders.specs.FileCodings.{coding_headers as coding_headers_lem};
 
 use crate::coding::FileCoding;
 use bytes::Bytes;
@@ -80,7 +80,7 @@ fn without(headers: HeaderMap<HeaderValue>, name: HeaderName) -> HeaderMap<Heade
 
 /// The request's headers without those that ask for a media type or a language.
 fn coding_headers(headers: &HeaderMap<HeaderValue>) -> Result<HeaderMap<HeaderValue>, NoMemory>
-    ensures { IfOk result (λ rest. rest ≡ coding_headers headers.now) }
+    ensures { IfOk result (λ rest. rest ≡ coding_headers_lem headers.now) }
 {
     let copy = copy_headers(headers)?;
     Ok(without(without(copy, ACCEPT), ACCEPT_LANGUAGE))

@@ -1,10 +1,14 @@
 //! Replies without a file.
 ghost use Rattle.std.specs.Prelude.{◌≡◌, IfOk, Some, string_bytes};
 ghost use Rattle.web_docs.specs.DescribedReplies.{reply_with};
-ghost use Rattle.web_folders.specs.FolderReplies.{failed, is_read, listing_reply, moved_reply};
-ghost use Rattle.web_folders.specs.FolderReplies.{moved_to, no_such_method, not_found, page_body};
-ghost use Rattle.web_folders.specs.FolderReplies.{with_slash};
+ghost use Rattle.web_folders.specs.FolderReplies.{failed as failed_lem, is_read as is_read_lem};
+ghost use Rattle.web_folders.specs.FolderReplies.{listing_reply};
 ghost use Rattle.web_docs.specs.Documents.{field_value_of};
+ghost use Rattle.web_folders.specs.FolderReplies.{moved_reply, not_found as not_found_lem};
+ghost use Rattle.web_folders.specs.FolderReplies.{moved_to as moved_to_lem};
+ghost use Rattle.web_folders.specs.FolderReplies.{no_such_method as no_such_method_lem};
+ghost use Rattle.web_folders.specs.FolderReplies.{page_body as page_body_lem};
+ghost use Rattle.web_folders.specs.FolderReplies.{with_slash as with_slash_lem};
 
 use crate::added_headers::put;
 use crate::body::FolderBody;
@@ -40,21 +44,21 @@ fn response<F: Drop>(
 
 /// An empty 404.
 pub(crate) fn not_found<F: Drop>(alloc: Global) -> HttpResponse<FolderBody<F>>
-    ensures { result ≡ not_found }
+    ensures { result ≡ not_found_lem }
 {
     HttpResponse::with_body(alloc, StatusCode::NOT_FOUND, FolderBody::Empty)
 }
 
 /// An empty 500.
 pub(crate) fn failed<F: Drop>(alloc: Global) -> HttpResponse<FolderBody<F>>
-    ensures { result ≡ failed }
+    ensures { result ≡ failed_lem }
 {
     HttpResponse::with_body(alloc, StatusCode::INTERNAL_SERVER_ERROR, FolderBody::Empty)
 }
 
 /// Whether a method reads: GET and HEAD do.
 pub(crate) fn is_read(method: &Method) -> bool
-    ensures { result ≡ is_read method.now }
+    ensures { result ≡ is_read_lem method.now }
 {
     *method == Method::GET || *method == Method::HEAD
 }
@@ -63,7 +67,7 @@ pub(crate) fn is_read(method: &Method) -> bool
 pub(crate) fn no_such_method<F: Drop>(
     alloc: Global,
 ) -> Result<HttpResponse<FolderBody<F>>, NoMemory>
-    ensures { IfOk result (λ reply. reply ≡ no_such_method) }
+    ensures { IfOk result (λ reply. reply ≡ no_such_method_lem) }
 {
     let mut headers = HeaderMap::empty(alloc);
     put(
@@ -81,7 +85,7 @@ pub(crate) fn no_such_method<F: Drop>(
 
 /// The path with a slash after it, and the query.
 fn with_slash(alloc: Global, path: &str, query: &str) -> Result<String, NoMemory>
-    ensures { IfOk result (λ text. string_bytes text ≡ with_slash path.now query.now) }
+    ensures { IfOk result (λ text. string_bytes text ≡ with_slash_lem path.now query.now) }
 {
     let mut text = String::from_str(alloc, path)?;
     text.push_str("/")?;
@@ -111,7 +115,7 @@ fn moved_to<F: Drop>(
     alloc: Global,
     location: HeaderValue,
 ) -> Result<HttpResponse<FolderBody<F>>, NoMemory>
-    ensures { IfOk result (λ reply. reply ≡ moved_to (Some location)) }
+    ensures { IfOk result (λ reply. reply ≡ moved_to_lem (Some location)) }
 {
     let mut headers = HeaderMap::empty(alloc);
     put(&mut headers, LOCATION, Some(location))?;
@@ -137,7 +141,7 @@ pub(crate) fn moved<F: Drop>(
 
 /// What the reply to this method sends of a page.
 fn page_body<F: Drop>(method: &Method, page: Bytes) -> FolderBody<F>
-    ensures { result ≡ page_body method.now page }
+    ensures { result ≡ page_body_lem method.now page }
 {
     if *method == Method::HEAD {
         FolderBody::Omitted(page.len() as u64)

@@ -20,11 +20,6 @@ pub struct FolderSettings {
 }
 
 impl Default for FolderSettings {
-    ghost use Rattle.std.specs.Prelude.{◌≡◌};
-    ghost use Rattle.web_folders.specs.ServedFolders.{default_settings};
-
-    ghost is_default = { λ s. s ≡ default_settings };
-
     fn default() -> FolderSettings {
         FolderSettings {
             hidden: HiddenNames::Refused,

@@ -1,7 +1,9 @@
 //! A file, and the codings of it that stand beside it.
 ghost use Rattle.std.specs.Prelude.{◌≡◌, IfOk};
 ghost use Rattle.web_folders.specs.FolderReplies.{FindsFile, IsVariantReply, SendsFile};
-ghost use Rattle.web_folders.specs.FolderReplies.{asks_for_coding, file_in, sent_file};
+ghost use Rattle.web_folders.specs.FolderReplies.{asks_for_coding as asks_for_coding_lem};
+ghost use Rattle.web_folders.specs.FolderReplies.{file_in as file_in_lem};
+ghost use Rattle.web_folders.specs.FolderReplies.{sent_file as sent_file_lem};
 ghost use Rattle.web_paths.specs.PathsBelow.{sibling_of};
 
 use crate::body::FolderBody;
@@ -19,7 +21,7 @@ use web_texts::NoMemory;
 
 /// A file that was found, and nothing of a folder.
 pub(crate) fn file_in<F: Drop, D: Drop>(found: Found<F, D>) -> Option<OpenedFile<F>>
-    ensures { result ≡ file_in found }
+    ensures { result ≡ file_in_lem found }
 {
     match found {
         Found::File(opened) => Some(opened),
@@ -65,7 +67,7 @@ fn sent_file<F: Drop>(
     brotli: Option<OpenedFile<F>>,
     gzip: Option<OpenedFile<F>>,
 ) -> (FileCoding, OpenedFile<F>)
-    ensures { result ≡ sent_file coding plain brotli gzip }
+    ensures { result ≡ sent_file_lem coding plain brotli gzip }
 {
     match (coding, brotli, gzip) {
         (FileCoding::Brotli, Some(coded), _) => (FileCoding::Brotli, coded),
@@ -103,7 +105,7 @@ fn variant_reply<F: FolderFiles>(
 }
 
 fn asks_for_coding(headers: &HeaderMap<HeaderValue>) -> bool
-    ensures { result ≡ asks_for_coding headers.now }
+    ensures { result ≡ asks_for_coding_lem headers.now }
 {
     headers.get(&ACCEPT_ENCODING).is_some()
 }

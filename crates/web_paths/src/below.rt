@@ -4,11 +4,13 @@ ghost use Rattle.std.specs.Prelude.{string_bytes, true};
 ghost use Rattle.std.specs.List.{list_all};
 ghost use Rattle.http_uri.specs.Uri.{uri_path};
 ghost use Rattle.percent_encoding.specs.Percent.{percent_decode};
-ghost use Rattle.web_paths.specs.FileNames.{is_file_name};
+ghost use Rattle.web_paths.specs.FileNames.{is_file_name as is_file_name_lem};
 ghost use Rattle.std.specs.Str.{is_utf8};
-ghost use Rattle.web_paths.specs.PathsBelow.{begins_with_slash, below_of, child_of, ends_in_slash};
-ghost use Rattle.web_paths.specs.PathsBelow.{in_folder, joined, names_in, one_more, segments};
-ghost use Rattle.web_paths.specs.PathsBelow.{sibling_of, without_last_slash};
+ghost use Rattle.web_paths.specs.PathsBelow.{begins_with_slash as begins_with_slash_lem, below_of};
+ghost use Rattle.web_paths.specs.PathsBelow.{child_of, names_in, sibling_of};
+ghost use Rattle.web_paths.specs.PathsBelow.{ends_in_slash as ends_in_slash_lem, joined, one_more};
+ghost use Rattle.web_paths.specs.PathsBelow.{in_folder as in_folder_lem, segments};
+ghost use Rattle.web_paths.specs.PathsBelow.{without_last_slash as without_last_slash_lem};
 
 use crate::names::{HiddenNames, has_name_bytes, is_file_name};
 use http_uri::Uri;
@@ -45,19 +47,19 @@ impl Model for Below {
 }
 
 fn begins_with_slash(path: &str) -> bool
-    ensures { result ≡ begins_with_slash path.now }
+    ensures { result ≡ begins_with_slash_lem path.now }
 {
     path.starts_with('/')
 }
 
 fn ends_in_slash(path: &str) -> bool
-    ensures { result ≡ ends_in_slash path.now }
+    ensures { result ≡ ends_in_slash_lem path.now }
 {
     path.ends_with('/')
 }
 
 fn without_last_slash(path: &str) -> &str
-    ensures { result.now ≡ without_last_slash path.now }
+    ensures { result.now ≡ without_last_slash_lem path.now }
 {
     if ends_in_slash(path) {
         &path[..path.len() - 1]
@@ -68,7 +70,7 @@ fn without_last_slash(path: &str) -> &str
 
 /// Puts a segment, percent-decoded, behind names. Returns whether it may be a name.
 fn push_name(names: &mut Vec<u8>, segment: &str, hidden: HiddenNames) -> Result<bool, NoMemory>
-    ensures name { IfOk result (λ put. put ≡ is_file_name hidden (percent_decode segment.now)) }
+    ensures name { IfOk result (λ put. put ≡ is_file_name_lem hidden (percent_decode segment.now)) }
     ensures names { IfOk result (λ put.
         names.new.items ≡ one_more names.old.items (percent_decode segment.now)) }
 {
@@ -85,8 +87,8 @@ fn push_name(names: &mut Vec<u8>, segment: &str, hidden: HiddenNames) -> Result<
 fn joined_names(alloc: Global, path: &str, hidden: HiddenNames) -> Result<Option<Vec<u8>>, NoMemory>
     ensures { let names = map percent_decode (drop 1 (segments path.now)) in
         IfOk result (λ found. MatchOption found
-        (list_all (is_file_name hidden) names ≡ false)
-        (λ v. (list_all (is_file_name hidden) names ≡ true) × (v.items ≡ joined names))) }
+        (list_all (is_file_name_lem hidden) names ≡ false)
+        (λ v. (list_all (is_file_name_lem hidden) names ≡ true) × (v.items ≡ joined names))) }
 {
     let mut names = Vec::new(alloc);
     for segment in path.split('/').skip(1) {
@@ -131,7 +133,7 @@ fn with_name(alloc: Global, names: &str, name: &str) -> Result<String, NoMemory>
 
 /// Whether each name in a text may be one, at least where more are allowed.
 fn are_names(text: &str) -> bool
-    ensures { result ≡ list_all (is_file_name HiddenNames.Allowed) (segments text.now) }
+    ensures { result ≡ list_all (is_file_name_lem HiddenNames.Allowed) (segments text.now) }
 {
     for name in text.split('/') {
         if !is_file_name(name.as_bytes(), HiddenNames::Allowed) {
@@ -182,7 +184,7 @@ impl Below {
     /// The names with a slash between each two: empty at the root, and never with a slash in front.
     pub fn as_str(&self) -> &str
         ensures text { result.now ≡ joined self.now.names }
-        ensures names { list_all (is_file_name HiddenNames.Allowed) self.now.names ≡ true }
+        ensures names { list_all (is_file_name_lem HiddenNames.Allowed) self.now.names ≡ true }
     {
         self.path.as_str()
     }
@@ -198,8 +200,8 @@ impl Below {
     /// folder itself where there are no names. Returns `NoMemory` where allocation failed.
     pub fn in_folder(&self, alloc: Global, root: &str) -> Result<String, NoMemory>
         ensures path { IfOk result (λ path.
-            string_bytes path ≡ in_folder root.now self.now.names) }
-        ensures names { list_all (is_file_name HiddenNames.Allowed) self.now.names ≡ true }
+            string_bytes path ≡ in_folder_lem root.now self.now.names) }
+        ensures names { list_all (is_file_name_lem HiddenNames.Allowed) self.now.names ≡ true }
     {
         let below = self.path.as_str();
         let mut path = String::from_str(alloc, root)?;
