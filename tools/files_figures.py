@@ -17,7 +17,7 @@ import time
 import served_folder
 
 # Requests of a round for 1 kB, for 100 kB and for 100 MB, and how many rounds there are.
-SMALL, MIDDLE, LARGE, ROUNDS = 2_000, 500, 2, 9
+SMALL, MIDDLE, LARGE, ROUNDS = 1_500, 500, 2, 7
 LARGE_SIZE = 100_000_000
 SECONDS = 20
 TARGETS = {"1 kB": ("/1k.txt", SMALL), "100 kB": ("/100k.js", MIDDLE), "100 MB": ("/large.bin", LARGE)}
