@@ -1,0 +1,38 @@
+-- The status of each reply of the board.
+use Rattle.std.specs.Prelude.{ℕ, Result, Ok, Err}
+use Rattle.board_store.specs.declared.ask.Ask.{Ask}
+use Rattle.board_store.specs.declared.ask.Ask.TheVariants.{Add}
+use Rattle.board_store.specs.declared.ask.Told.{Told}
+use Rattle.board_store.specs.declared.ask.Told.TheVariants as told
+use Rattle.board_store.specs.declared.board_error.BoardError.{BoardError}
+use Rattle.board_store.specs.declared.board_error.BoardError.TheVariants as board
+use Rattle.example_board.specs.declared.asked.Asked.{Asked}
+use Rattle.example_board.specs.declared.route.Route.{Route}
+use Rattle.example_board.specs.declared.route.Route.TheVariants.{Form}
+
+abbrev pub refusal_status : BoardError → ℕ
+refusal_status board.NotFound = 404
+refusal_status board.TitleTaken = 409
+refusal_status board.TitleMissing = 422
+refusal_status board.OutOfBounds = 422
+refusal_status board.BoardFull = 507
+refusal_status board.DiskFull = 507
+refusal_status board.Busy = 503
+refusal_status board.CannotOpen = 500
+refusal_status board.NotABoard = 500
+refusal_status board.Failed = 500
+
+-- an item that was added by the form is shown by the page, to which the client is sent
+abbrev pub item_status : Route → Ask → ℕ
+item_status Form (Add draft) = 303
+item_status _ (Add draft) = 201
+item_status _ _ = 200
+
+abbrev pub told_status : Asked → Told → ℕ
+told_status asked told.Deleted = 204
+told_status asked (told.Listing page) = 200
+told_status asked (told.Item item) = item_status asked.route asked.ask
+
+abbrev pub status_shown : Asked → Result Told BoardError → ℕ
+status_shown asked (Ok told) = told_status asked told
+status_shown asked (Err error) = refusal_status error

@@ -1,0 +1,3 @@
+pub mod BoardReplies
+pub mod BoardStatuses
+pub mod Position
