@@ -5,17 +5,8 @@
 //! `example_board FILE --each-time`: it is opened for each request.
 #![tactic(auto)]
 
-mod asked;
-mod board_handler;
 mod command;
-mod extracted;
-mod page;
-mod position;
-mod refusals;
-mod route;
 mod serving;
-mod shown;
-mod site;
 
 use crate::command::read_command;
 use crate::serving::serve_connection;

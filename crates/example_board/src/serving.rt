@@ -1,15 +1,16 @@
 //! The connection that standard input and output are.
 ghost use Rattle.std.specs.Prelude.{◌≡◌, IfOk};
 
-use crate::board_handler::BoardHandler;
 use crate::command::Command;
-use crate::site::Site;
 use anyhow::Result;
 use board_file::BoardFile;
+use board_service::{Asked, BoardHandler, Site};
 use std::alloc::Global;
 use std::rc::Rc;
-use web_request::{AppConfig, NoData, NoMemory};
+use web_request::{AppConfig, NoData};
+use web_routing::StateService;
 use web_stdio::serve;
+use web_texts::NoMemory;
 use web_worker::Worker;
 
 /// A worker, which keeps the record of one request for the next.
@@ -33,7 +34,8 @@ pub fn serve_connection(rt: &HostRuntime, command: Command) -> Result<()> {
         settings,
     } = command;
     let mut worker = new_worker(alloc)?;
-    let mut board = BoardHandler::new(BoardFile::new(*rt, path, opening));
+    let board = BoardHandler::new(BoardFile::new(*rt, path, opening));
+    let mut board = StateService::<Asked, _>::new(board);
     serve(
         alloc,
         rt,

@@ -1,7 +1,5 @@
 //! Requests one after the other, over a board in memory.
-use crate::asked::Asked;
-use crate::board_handler::BoardHandler;
-use crate::site::Site;
+use board_service::{Asked, BoardHandler, Site};
 use board_store::Board;
 use http::Method;
 use sqlite::Connection;

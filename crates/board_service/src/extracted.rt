@@ -13,7 +13,7 @@ use web_texts::Fail;
 
 /// An argument of a request whose body is complete, as each body of a connection is: it comes at
 /// the first poll. A refusal is JSON.
-pub fn extracted<T: FromRequest<Site>>(
+pub(crate) fn extracted<T: FromRequest<Site>>(
     alloc: Global,
     request: &HttpRequest<Site>,
     payload: &mut Payload<Marks>,

@@ -16,7 +16,7 @@ pub struct Position {
 }
 
 impl ReadData for Position {
-    ghost use Rattle.example_board.specs.Position.{position_of};
+    ghost use Rattle.board_service.specs.Position.{position_of};
 
     ghost read = { position_of };
 
@@ -29,7 +29,7 @@ impl ReadData for Position {
 }
 
 impl WriteData for Position {
-    ghost use Rattle.example_board.specs.Position.{data_of_position, position_no_float};
+    ghost use Rattle.board_service.specs.Position.{data_of_position, position_no_float};
 
     ghost written = { data_of_position };
 
@@ -44,7 +44,7 @@ impl WriteData for Position {
 
 impl ReadPairs for Position {
     ghost use Rattle.std.specs.Prelude.{◌≡◌};
-    ghost use Rattle.example_board.specs.Position.{position_of_pairs};
+    ghost use Rattle.board_service.specs.Position.{position_of_pairs};
 
     ghost reads_pairs = { λ pairs x. x ≡ position_of_pairs pairs };
 
@@ -57,7 +57,7 @@ impl ReadPairs for Position {
 
 impl WritePairs for Position {
     ghost use Rattle.std.specs.Prelude.{◌≡◌, Ok};
-    ghost use Rattle.example_board.specs.Position.{pairs_of_position};
+    ghost use Rattle.board_service.specs.Position.{pairs_of_position};
 
     ghost writes_pairs = { λ x y. y ≡ Ok (pairs_of_position x) };
 

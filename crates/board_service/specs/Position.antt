@@ -10,7 +10,7 @@ use Rattle.web_codec.specs.FieldReaders.{field_or}
 use Rattle.web_codec.specs.FieldWriters.{named_pairs, texts_of_signed}
 use Rattle.web_codec.specs.WholeNumbers.{i64_of, i64_field}
 use Rattle.web_codec.specs.declared.faults.ReadFault.{ReadFault}
-use Rattle.example_board.specs.declared.position.Position.{Position}
+use Rattle.board_service.specs.declared.position.Position.{Position}
 
 abbrev pub position_of : Data → Result Position ReadFault
 position_of d =

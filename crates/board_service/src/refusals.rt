@@ -1,18 +1,20 @@
 //! What a refused request is answered with: `{"error":TEXT}`.
-ghost use Rattle.std.specs.Prelude.{◌≡◌, IfOk};
-ghost use Rattle.example_board.specs.BoardStatuses.{refusal_status};
+ghost use Rattle.std.specs.Prelude.{◌≡◌, IfOk, OnOk};
+ghost use Rattle.board_service.specs.BoardStatuses.{refusal_status};
+ghost use Rattle.board_service.specs.BoardResponses.{refusal_response, retried, with_header};
 
 use crate::route::Route;
+use crate::site::Reply;
 use board_store::BoardError;
 use http::StatusCode;
-use http_header::{ALLOW, HeaderName, HeaderValue};
+use http_header::{ALLOW, HeaderName, HeaderValue, RETRY_AFTER};
 use std::alloc::Global;
-use web_reply::{Error, HttpResponse, InternalError, WholeBody};
+use web_reply::{Error, HttpResponse, InternalError};
 use web_status::json_error_reply;
 use web_texts::{NoMemory, Text};
 
 /// The status of what the board did not do.
-pub fn status_of(error: BoardError) -> StatusCode
+pub(crate) fn status_of(error: BoardError) -> StatusCode
     ensures { result ≡ refusal_status error }
 {
     match error {
@@ -27,13 +29,13 @@ pub fn status_of(error: BoardError) -> StatusCode
     }
 }
 
-/// Adds a header to a response.
-pub fn insert<B>(
-    reply: &mut HttpResponse<B>,
+/// Puts a header in place of those of its name.
+pub(crate) fn insert(
+    reply: &mut Reply,
     name: HeaderName,
     value: HeaderValue,
 ) -> Result<(), NoMemory>
-    ensures { reply.new.head.status ≡ reply.old.head.status }
+    ensures { OnOk result (reply.new ≡ with_header name value reply.old) }
 {
     match reply.headers_mut().insert(name, value) {
         Ok(_) => Ok(()),
@@ -41,23 +43,36 @@ pub fn insert<B>(
     }
 }
 
-/// The response to what the board did not do.
-pub fn refused(alloc: Global, error: BoardError) -> Result<HttpResponse<WholeBody>, NoMemory>
-    ensures { IfOk result (λ reply. reply.head.status ≡ refusal_status error) }
+/// The response to what the board did not do, where no form is sent back.
+pub(crate) fn refused(alloc: Global, error: BoardError) -> Result<Reply, NoMemory>
+    ensures { IfOk result (λ reply. reply ≡ refusal_response error) }
 {
-    let text = format!(in alloc; "{error}")?;
-    json_error_reply(alloc, status_of(error), text.as_str())
+    json_error_reply(alloc, status_of(error), error.as_str())
+}
+
+/// Tells a client that found the board busy to ask again in a second.
+pub(crate) fn retried(error: BoardError, reply: Reply) -> Result<Reply, NoMemory>
+    ensures { IfOk result (λ after. after ≡ retried error reply) }
+{
+    match error {
+        BoardError::Busy => {
+            let mut reply = reply;
+            insert(&mut reply, RETRY_AFTER, HeaderValue::from_static("1"))?;
+            Ok(reply)
+        }
+        _ => Ok(reply),
+    }
 }
 
 /// 404.
-pub fn no_such_path(alloc: Global) -> Result<Error, NoMemory> {
+pub(crate) fn no_such_path(alloc: Global) -> Result<Error, NoMemory> {
     let text = "there is no such path";
     let reply = json_error_reply(alloc, StatusCode::NOT_FOUND, text)?;
     InternalError::from_response(Text::of(alloc, text)?, reply).into_error(alloc)
 }
 
 /// 405, with the methods that the route takes.
-pub fn no_such_method(alloc: Global, route: Route) -> Result<Error, NoMemory> {
+pub(crate) fn no_such_method(alloc: Global, route: Route) -> Result<Error, NoMemory> {
     let text = "the path does not take this method";
     let mut reply = json_error_reply(alloc, StatusCode::METHOD_NOT_ALLOWED, text)?;
     insert(&mut reply, ALLOW, route.allowed())?;
@@ -65,7 +80,7 @@ pub fn no_such_method(alloc: Global, route: Route) -> Result<Error, NoMemory> {
 }
 
 /// The error with its status and text, as JSON.
-pub fn as_json(alloc: Global, error: Error) -> Result<Error, NoMemory> {
+pub(crate) fn as_json(alloc: Global, error: Error) -> Result<Error, NoMemory> {
     let text = Text::from(format!(in alloc; "{error}")?);
     let status = HttpResponse::from_error(alloc, error)?.status();
     let reply = json_error_reply(alloc, status, text.as_str())?;

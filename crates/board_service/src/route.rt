@@ -1,4 +1,7 @@
 //! What the board has under which path.
+ghost use Rattle.std.specs.Prelude.{IfSome};
+ghost use Rattle.board_service.specs.BoardAsks.{IsItemPath, LeadsTo};
+
 use http_header::HeaderValue;
 
 /// What is there under a path.
@@ -11,17 +14,29 @@ pub enum Route {
     Item(i64),
 }
 
+/// The number of the item whose path this is.
+fn item_of(path: &str) -> Option<i64>
+    ensures { IfSome result (IsItemPath path.now) }
+{
+    match path.strip_prefix("/items/")?.parse() {
+        Ok(id) => Some(id),
+        Err(_) => None,
+    }
+}
+
 impl Route {
     /// The route of a path, or `None`.
-    pub fn of(path: &str) -> Option<Route> {
+    pub fn of(path: &str) -> Option<Route>
+        ensures { IfSome result (LeadsTo path.now) }
+    {
         match path {
             "/" => Some(Route::Home),
             "/form" => Some(Route::Form),
             "/items" => Some(Route::Items),
-            _ => {
-                let id = path.strip_prefix("/items/")?.parse::<i64>().ok()?;
-                Some(Route::Item(id))
-            }
+            _ => match item_of(path) {
+                Some(id) => Some(Route::Item(id)),
+                None => None,
+            },
         }
     }
 

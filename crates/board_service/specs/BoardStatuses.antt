@@ -6,9 +6,9 @@ use Rattle.board_store.specs.declared.ask.Told.{Told}
 use Rattle.board_store.specs.declared.ask.Told.TheVariants as told
 use Rattle.board_store.specs.declared.board_error.BoardError.{BoardError}
 use Rattle.board_store.specs.declared.board_error.BoardError.TheVariants as board
-use Rattle.example_board.specs.declared.asked.Asked.{Asked}
-use Rattle.example_board.specs.declared.route.Route.{Route}
-use Rattle.example_board.specs.declared.route.Route.TheVariants.{Form}
+use Rattle.board_service.specs.declared.asked.Asked.{Asked}
+use Rattle.board_service.specs.declared.route.Route.{Route}
+use Rattle.board_service.specs.declared.route.Route.TheVariants.{Form}
 
 abbrev pub refusal_status : BoardError → ℕ
 refusal_status board.NotFound = 404
@@ -23,10 +23,13 @@ refusal_status board.NotABoard = 500
 refusal_status board.Failed = 500
 
 -- an item that was added by the form is shown by the page, to which the client is sent
+abbrev pub added_status : Route → ℕ
+added_status Form = 303
+added_status _ = 201
+
 abbrev pub item_status : Route → Ask → ℕ
-item_status Form (Add draft) = 303
-item_status _ (Add draft) = 201
-item_status _ _ = 200
+item_status route (Add draft) = added_status route
+item_status route _ = 200
 
 abbrev pub told_status : Asked → Told → ℕ
 told_status asked told.Deleted = 204

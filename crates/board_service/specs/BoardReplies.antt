@@ -6,8 +6,8 @@ use Rattle.web_texts.specs.declared.memory.NoMemory.{NoMemory}
 use Rattle.board_store.specs.declared.ask.Ask.{Ask}
 use Rattle.board_store.specs.declared.ask.Told.{Told}
 use Rattle.board_store.specs.declared.board_error.BoardError.{BoardError}
-use Rattle.example_board.specs.declared.asked.Asked.{Asked}
-use Rattle.example_board.specs.declared.shown.Shown.{Shown}
+use Rattle.board_service.specs.declared.asked.Asked.{Asked}
+use Rattle.board_service.specs.declared.shown.Shown.{Shown}
 
 -- what the board answered, where memory did not fail
 abbrev pub answered : Result Told BoardError → Result Told (Fail BoardError)

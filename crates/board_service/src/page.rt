@@ -82,7 +82,7 @@ impl Page {
 }
 
 /// The page of some items, with a form for another one and a link to those after them.
-pub fn listing_page(alloc: Global, listing: &Listing) -> Result<Text, NoMemory> {
+pub(crate) fn listing_page(alloc: Global, listing: &Listing) -> Result<Text, NoMemory> {
     let mut page = Page::new(alloc)?;
     page.push_form("", 1)?;
     page.push("<ol>\n")?;
@@ -99,7 +99,7 @@ pub fn listing_page(alloc: Global, listing: &Listing) -> Result<Text, NoMemory> 
 }
 
 /// The form as it was sent, and what is refused of it.
-pub fn form_page(alloc: Global, draft: &Draft, refusal: &str) -> Result<Text, NoMemory> {
+pub(crate) fn form_page(alloc: Global, draft: &Draft, refusal: &str) -> Result<Text, NoMemory> {
     let mut page = Page::new(alloc)?;
     page.push("<p>")?;
     page.push_text(refusal)?;

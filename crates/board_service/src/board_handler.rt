@@ -3,10 +3,8 @@ use crate::asked::Asked;
 use crate::shown::Shown;
 use board_file::BoardAccess;
 use std::alloc::Global;
-use web_extract::Ready;
 use web_routing::StateHandler;
 use web_texts::{Fail, NoMemory};
-use web_worker::Handler;
 
 /// A board that replies to what requests ask of it.
 #[derive(Drop)]
@@ -22,7 +20,7 @@ impl<B> BoardHandler<B> {
 }
 
 impl<B: BoardAccess> StateHandler<Asked> for BoardHandler<B> {
-    ghost use Rattle.example_board.specs.BoardReplies.{Replies};
+    ghost use Rattle.board_service.specs.BoardReplies.{Replies};
 
     type Output = Shown;
 
@@ -40,16 +38,5 @@ impl<B: BoardAccess> StateHandler<Asked> for BoardHandler<B> {
             }),
             Err(Fail::NoMemory) => Err(NoMemory),
         }
-    }
-}
-
-/// For the worker of a connection.
-impl<B: BoardAccess> Handler<Asked> for BoardHandler<B> {
-    type Output = Shown;
-
-    type Future = Ready<Shown>;
-
-    fn call(&mut self, alloc: Global, asked: Asked) -> Result<Ready<Shown>, NoMemory> {
-        Ok(Ready::new(self.reply(alloc, asked)?))
     }
 }
