@@ -12,7 +12,6 @@ use Rattle.web_reply.specs.declared.body.WholeBody.TheVariants as whole
 use Rattle.web_status.specs.JsonErrors.{json_error_reply}
 use Rattle.board_store.specs.Item.{data_of_item}
 use Rattle.board_store.specs.Listing.{data_of_listing}
-use Rattle.board_store.specs.Refusals.{error_text}
 use Rattle.board_store.specs.declared.ask.Ask.{Ask}
 use Rattle.board_store.specs.declared.ask.Ask.TheVariants.{Add}
 use Rattle.board_store.specs.declared.ask.Told.{Told}
@@ -21,7 +20,7 @@ use Rattle.board_store.specs.declared.board_error.BoardError.{BoardError}
 use Rattle.board_store.specs.declared.board_error.BoardError.TheVariants as board
 use Rattle.board_store.specs.declared.item.Item.{Item}
 use Rattle.board_store.specs.declared.listing.Listing.{Listing}
-use Rattle.board_service.specs.BoardStatuses.{refusal_status}
+use Rattle.board_service.specs.BoardStatuses.{refusal_status, refusal_text}
 use Rattle.board_service.specs.declared.asked.Asked.{Asked}
 use Rattle.board_service.specs.declared.route.Route.{Route}
 use Rattle.board_service.specs.declared.route.Route.TheVariants.{Form, Home}
@@ -84,7 +83,7 @@ retried _ r = r
 
 -- the text of the error as JSON, and nothing of the error of SQL
 abbrev pub refusal_response : BoardError → Reply WholeBody
-refusal_response error = json_error_reply (refusal_status error) (error_text error)
+refusal_response error = json_error_reply (refusal_status error) (refusal_text error)
 
 -- a form comes back as a page
 abbrev pub RefusesDraft : Route → BoardError → Reply WholeBody → Type 0

@@ -1,5 +1,5 @@
--- The status of each reply of the board.
-use Rattle.std.specs.Prelude.{ℕ, Result, Ok, Err}
+-- The status of each reply of the board, and the text of a refusal.
+use Rattle.std.specs.Prelude.{ℕ, List, Result, Ok, Err, codes}
 use Rattle.board_store.specs.declared.ask.Ask.{Ask}
 use Rattle.board_store.specs.declared.ask.Ask.TheVariants.{Add}
 use Rattle.board_store.specs.declared.ask.Told.{Told}
@@ -21,6 +21,19 @@ refusal_status board.Busy = 503
 refusal_status board.CannotOpen = 500
 refusal_status board.NotABoard = 500
 refusal_status board.Failed = 500
+
+-- what a client reads
+abbrev pub refusal_text : BoardError → List ℕ
+refusal_text board.NotFound = codes "there is no such item"
+refusal_text board.TitleTaken = codes "title: another item has it"
+refusal_text board.TitleMissing = codes "title: missing"
+refusal_text board.OutOfBounds = codes "title: 1 to 80 characters, seats: 1 to 8"
+refusal_text board.BoardFull = codes "the board is full"
+refusal_text board.Busy = codes "the board is busy"
+refusal_text board.DiskFull = codes "the disk is full"
+refusal_text board.CannotOpen = codes "the board's file cannot be opened"
+refusal_text board.NotABoard = codes "the board's file holds no board"
+refusal_text board.Failed = codes "the board's file cannot be used"
 
 -- an item that was added by the form is shown by the page, to which the client is sent
 abbrev pub added_status : Route → ℕ

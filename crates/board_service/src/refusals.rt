@@ -1,6 +1,6 @@
 //! What a refused request is answered with: `{"error":TEXT}`.
 ghost use Rattle.std.specs.Prelude.{◌≡◌, IfOk, OnOk};
-ghost use Rattle.board_service.specs.BoardStatuses.{refusal_status};
+ghost use Rattle.board_service.specs.BoardStatuses.{refusal_status, refusal_text};
 ghost use Rattle.board_service.specs.BoardResponses.{refusal_response, retried, with_header};
 
 use crate::route::Route;
@@ -29,6 +29,24 @@ pub(crate) fn status_of(error: BoardError) -> StatusCode
     }
 }
 
+/// The text of what the board did not do.
+pub(crate) fn text_of(error: BoardError) -> &'static str
+    ensures { result.now ≡ refusal_text error }
+{
+    match error {
+        BoardError::NotFound => "there is no such item",
+        BoardError::TitleTaken => "title: another item has it",
+        BoardError::TitleMissing => "title: missing",
+        BoardError::OutOfBounds => "title: 1 to 80 characters, seats: 1 to 8",
+        BoardError::BoardFull => "the board is full",
+        BoardError::Busy => "the board is busy",
+        BoardError::DiskFull => "the disk is full",
+        BoardError::CannotOpen => "the board's file cannot be opened",
+        BoardError::NotABoard => "the board's file holds no board",
+        BoardError::Failed => "the board's file cannot be used",
+    }
+}
+
 /// Puts a header in place of those of its name.
 pub(crate) fn insert(
     reply: &mut Reply,
@@ -47,7 +65,7 @@ pub(crate) fn insert(
 pub(crate) fn refused(alloc: Global, error: BoardError) -> Result<Reply, NoMemory>
     ensures { IfOk result (λ reply. reply ≡ refusal_response error) }
 {
-    json_error_reply(alloc, status_of(error), error.as_str())
+    json_error_reply(alloc, status_of(error), text_of(error))
 }
 
 /// Tells a client that found the board busy to ask again in a second.

@@ -14,12 +14,11 @@ ghost use Rattle.board_service.specs.BoardResponses.{
   see_other_response,
 };
 ghost use Rattle.serde_json.specs.Written.{compact_text};
-ghost use Rattle.web_reply.specs.declared.body.WholeBody.TheVariants.{Bytes as whole_bytes};
 ghost use Rattle.board_service.specs.BoardStatuses.{refusal_status, told_status};
 
 use crate::asked::Asked;
 use crate::page::{form_page, listing_page};
-use crate::refusals::{insert, refused, retried, status_of};
+use crate::refusals::{insert, refused, retried, status_of, text_of};
 use crate::route::Route;
 use crate::site::{Reply, Site};
 use board_store::{Ask, BoardError, Draft, Item, Listing, Told};
@@ -60,7 +59,7 @@ fn page(alloc: Global, status: StatusCode, html: Text) -> Result<Reply, NoMemory
 
 /// The JSON of a value.
 fn json_body<T: WriteData>(alloc: Global, value: &T) -> Result<WholeBody, NoMemory>
-    ensures { IfOk result (λ body. body ≡ whole_bytes (compact_text (T.written value.now))) }
+    ensures { IfOk result (λ body. body ≡ WholeBody.Bytes (compact_text (T.written value.now))) }
 {
     let text = value.write_data(alloc)?.to_string(alloc)?;
     Ok(WholeBody::Bytes(Bytes::from_string(text)?))
@@ -146,7 +145,7 @@ fn done(alloc: Global, asked: &Asked, told: &Told) -> Result<Reply, NoMemory>
 fn form_again(alloc: Global, draft: &Draft, error: BoardError) -> Result<Reply, NoMemory>
     ensures { IfOk result (λ reply. IsPage (refusal_status error) reply) }
 {
-    let html = form_page(alloc, draft, error.as_str())?;
+    let html = form_page(alloc, draft, text_of(error))?;
     page(alloc, status_of(error), html)
 }
 
@@ -183,7 +182,7 @@ fn not_done(alloc: Global, asked: &Asked, error: BoardError) -> Result<Reply, No
 }
 
 impl Responder<Site> for Shown {
-    ghost use Rattle.std.specs.Prelude.{◌≡◌, ◌×◌};
+    ghost use Rattle.std.specs.Prelude.{◌≡◌};
     ghost use Rattle.board_service.specs.BoardResponses.{Shows};
     ghost use Rattle.board_service.specs.BoardStatuses.{status_shown};
 
@@ -192,6 +191,7 @@ impl Responder<Site> for Shown {
     ghost responds = { λ v q r.
         (r.head.status ≡ status_shown v.asked v.told) × Shows v.asked v.told r };
 
+    #[tactic(auto, using(crate::proofs::ReplyLemmas::shown))]
     fn respond_to(self, alloc: Global, _req: &HttpRequest<Site>) -> Result<Reply, NoMemory> {
         match &self.told {
             Ok(told) => done(alloc, &self.asked, told),

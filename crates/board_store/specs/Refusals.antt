@@ -1,5 +1,4 @@
 -- What errors of SQL are to the board's clients.
-use Rattle.std.specs.Prelude.{ℕ, List, codes}
 use Rattle.web_texts.specs.declared.memory.Fail.{Fail}
 use Rattle.web_texts.specs.declared.memory.Fail.TheVariants.{NoMemory, Of}
 use Rattle.sqlite.specs.declared.Constraint.{Constraint}
@@ -31,16 +30,3 @@ abbrev pub failure : Error → Fail BoardError
 failure (SqliteFailure code) = by_code code
 failure QueryReturnedNoRows = Of board.NotFound
 failure _ = Of board.Failed
-
--- the text that clients see
-abbrev pub error_text : BoardError → List ℕ
-error_text board.NotFound = codes "there is no such item"
-error_text board.TitleTaken = codes "title: another item has it"
-error_text board.TitleMissing = codes "title: missing"
-error_text board.OutOfBounds = codes "title: 1 to 80 characters, seats: 1 to 8"
-error_text board.BoardFull = codes "the board is full"
-error_text board.Busy = codes "the board is busy"
-error_text board.DiskFull = codes "the disk is full"
-error_text board.CannotOpen = codes "the board's file cannot be opened"
-error_text board.NotABoard = codes "the board's file holds no board"
-error_text board.Failed = codes "the board's file cannot be used"

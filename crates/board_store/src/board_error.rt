@@ -1,6 +1,6 @@
 //! Why the board did not do what it was asked.
 ghost use Rattle.std.specs.Prelude.{◌≡◌};
-ghost use Rattle.board_store.specs.Refusals.{by_code, constraint, error_text, failure};
+ghost use Rattle.board_store.specs.Refusals.{by_code, constraint, failure};
 
 use sqlite::{Constraint, Error, ErrorCode};
 use std::fmt;
@@ -31,12 +31,9 @@ pub enum BoardError {
     Failed,
 }
 
-impl BoardError {
-    /// The text that clients see.
-    pub fn as_str(self) -> &'static str
-        ensures { result.now ≡ error_text self }
-    {
-        match self {
+impl fmt::Display for BoardError {
+    fn fmt<W: fmt::Write>(&self, f: &mut fmt::Formatter<W>) -> fmt::Result {
+        f.write_str(match self {
             BoardError::NotFound => "there is no such item",
             BoardError::TitleTaken => "title: another item has it",
             BoardError::TitleMissing => "title: missing",
@@ -47,13 +44,7 @@ impl BoardError {
             BoardError::CannotOpen => "the board's file cannot be opened",
             BoardError::NotABoard => "the board's file holds no board",
             BoardError::Failed => "the board's file cannot be used",
-        }
-    }
-}
-
-impl fmt::Display for BoardError {
-    fn fmt<W: fmt::Write>(&self, f: &mut fmt::Formatter<W>) -> fmt::Result {
-        f.write_str(self.as_str())
+        })
     }
 }
 
