@@ -17,6 +17,7 @@ mod missing;
 mod moved;
 mod page;
 mod posted;
+mod refusals;
 mod reply;
 mod routes;
 mod serving;

@@ -9,7 +9,7 @@ use web_reply::{Error, HttpResponse};
 use web_texts::NoMemory;
 
 /// The page of a status: its reason phrase, and a text.
-fn status_page(alloc: Global, status: StatusCode, text: &str) -> Result<Reply, NoMemory> {
+pub fn written_page(alloc: Global, status: StatusCode, text: &str) -> Result<Page, NoMemory> {
     let reason = status.canonical_reason().unwrap_or("Refused");
     let mut page = Page::new(alloc, reason)?;
     page.push("<h1>")?;
@@ -17,7 +17,12 @@ fn status_page(alloc: Global, status: StatusCode, text: &str) -> Result<Reply, N
     page.push("</h1>\n<p>")?;
     page.push_text(text)?;
     page.push("</p>\n<p><a href=\"/\">The first page</a></p>\n")?;
-    page.reply(alloc, status)
+    Ok(page)
+}
+
+/// The reply with the page of a status.
+fn status_page(alloc: Global, status: StatusCode, text: &str) -> Result<Reply, NoMemory> {
+    written_page(alloc, status, text)?.reply(alloc, status)
 }
 
 /// 404.

@@ -65,10 +65,16 @@ impl Page {
         Ok(write!(self.html, "{number}")?)
     }
 
-    /// The response of this page.
-    pub fn reply(self, alloc: Global, status: StatusCode) -> Result<Reply, NoMemory> {
+    /// The HTML of this page, to its end.
+    pub fn into_html(self) -> Result<String, NoMemory> {
         let mut html = self.html;
         html.push_str("</html>\n")?;
+        Ok(html)
+    }
+
+    /// The response of this page.
+    pub fn reply(self, alloc: Global, status: StatusCode) -> Result<Reply, NoMemory> {
+        let html = self.into_html()?;
         let mut builder = HttpResponse::build(alloc, status);
         builder.content_type("text/html; charset=utf-8")?;
         builder.take().body(html)

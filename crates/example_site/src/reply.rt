@@ -1,7 +1,7 @@
 //! Replies of the site.
 use crate::missing::error_page;
 use http_header::{
-    CACHE_CONTROL, CONTENT_SECURITY_POLICY, CONTENT_TYPE, HeaderName, HeaderValue,
+    CACHE_CONTROL, CONTENT_SECURITY_POLICY, CONTENT_TYPE, HeaderMap, HeaderName, HeaderValue,
     X_CONTENT_TYPE_OPTIONS,
 };
 use std::alloc::Global;
@@ -32,34 +32,41 @@ pub fn replied(alloc: Global, answer: Answer) -> Result<Reply, NoMemory> {
 const POLICY: &str = "default-src 'none'; img-src 'self'; form-action 'self'; base-uri 'none'; \
     frame-ancestors 'none'";
 
-fn is_page(reply: &Reply) -> bool {
-    match reply.headers().get(CONTENT_TYPE) {
+fn is_page(headers: &HeaderMap<HeaderValue>) -> bool {
+    match headers.get(CONTENT_TYPE) {
         Some(value) => value.as_bytes().starts_with(b"text/html"),
         None => false,
     }
 }
 
-fn insert(reply: &mut Reply, name: HeaderName, value: HeaderValue) -> Result<(), NoMemory> {
-    match reply.headers_mut().insert(name, value) {
+fn insert(
+    headers: &mut HeaderMap<HeaderValue>,
+    name: HeaderName,
+    value: HeaderValue,
+) -> Result<(), NoMemory> {
+    match headers.insert(name, value) {
         Ok(_) => Ok(()),
         Err(_) => Err(NoMemory),
     }
 }
 
-/// The reply with the headers that each one has, and those that each page has. A client asks again
-/// before it shows what it kept.
+/// Puts the headers that each reply has, and those that each page has. A client asks again before
+/// it shows what it kept.
+pub fn put_headers(headers: &mut HeaderMap<HeaderValue>) -> Result<(), NoMemory> {
+    let asked_again = HeaderValue::from_static("no-cache");
+    insert(headers, CACHE_CONTROL, asked_again)?;
+    let as_said = HeaderValue::from_static("nosniff");
+    insert(headers, X_CONTENT_TYPE_OPTIONS, as_said)?;
+    if is_page(headers) {
+        let policy = HeaderValue::from_static(POLICY);
+        insert(headers, CONTENT_SECURITY_POLICY, policy)?;
+    }
+    Ok(())
+}
+
+/// The reply with these headers.
 pub fn with_headers(reply: Reply) -> Result<Reply, NoMemory> {
     let mut reply = reply;
-    let asked_again = HeaderValue::from_static("no-cache");
-    insert(&mut reply, CACHE_CONTROL, asked_again)?;
-    let as_said = HeaderValue::from_static("nosniff");
-    insert(&mut reply, X_CONTENT_TYPE_OPTIONS, as_said)?;
-    if is_page(&reply) {
-        insert(
-            &mut reply,
-            CONTENT_SECURITY_POLICY,
-            HeaderValue::from_static(POLICY),
-        )?;
-    }
+    put_headers(reply.headers_mut())?;
     Ok(reply)
 }

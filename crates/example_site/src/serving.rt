@@ -34,7 +34,7 @@ pub fn serve_connection(rt: &HostRuntime) -> Result<()> {
         rt,
         &mut worker,
         &mut site,
-        &settings,
+        settings,
         &mut rt.stdin(),
         &mut rt.stdout(),
     )?;
