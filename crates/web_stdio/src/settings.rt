@@ -1,6 +1,7 @@
 //! What a program sets of the connection that it serves.
 
 use bytes::Bytes;
+use std::{env, io};
 use web_messages::Limits;
 use web_reply::HttpResponse;
 
@@ -53,6 +54,20 @@ impl Default for ServeSettings {
 }
 
 impl ServeSettings {
+    /// The default, with the words of the command line as `take_word` takes them. A word of no
+    /// setting is passed over.
+    ///
+    /// # Errors
+    ///
+    /// If the words could not be read.
+    pub fn from_words(rt: &HostRuntime) -> io::Result<ServeSettings> {
+        let mut settings = ServeSettings::default();
+        for word in env::args(rt)? {
+            settings.take_word(word.as_str());
+        }
+        Ok(settings)
+    }
+
     /// Takes a word of the command line. `--no-date` leaves out Date, so that what is written is
     /// the same on each run. Returns whether it is a word of these settings.
     pub fn take_word(&mut self, word: &str) -> bool {
