@@ -27,3 +27,6 @@ returns-clause-to_come g c = whole_to_come
 
 pub returns-clause-same : goal.returns-clause-same
 returns-clause-same g c = ([], [], refl)
+
+pub returns-in_err-from_request-clause-same : goal.returns-in_err-from_request-clause-same
+returns-in_err-from_request-clause-same g c = ([], [], refl)
