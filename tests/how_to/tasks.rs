@@ -90,7 +90,10 @@ impl<A: App> Change<A> for Fresh {
         reply: &mut HttpResponse<BoxBody<A::Source>>,
     ) -> Result<(), NoMemory> {
         let value = HeaderValue::from_static("no-store");
-        reply.headers_mut().insert(CACHE_CONTROL, value).map_err(|_| NoMemory)?;
+        reply
+            .headers_mut()
+            .insert(CACHE_CONTROL, value)
+            .map_err(|_| NoMemory)?;
         Ok(())
     }
 }
@@ -116,7 +119,11 @@ fn table(rt: &impl Abort, alloc: Global) -> RouteTable {
 fn site(rt: &impl Abort, alloc: Global) -> impl Service<Site, Whole> {
     let services = two(
         2,
-        two(1, handler(|args| item(args)), handler(move |args| tagged(alloc, args))),
+        two(
+            1,
+            handler(|args| item(args)),
+            handler(move |args| tagged(alloc, args)),
+        ),
         two(
             1,
             handler(move |form| login(alloc, form)),

@@ -12,8 +12,8 @@ use std::process::ExitCode;
 use std::rc::Rc;
 use web::routing::RouteError;
 use web::{
-    AppConfig, ErrorsAsJson, HandlerService, Marks, Method, NoData, NoMemory, PlainApp, RouteTable, Router,
-    ServeSettings, Worker, Wrap, handler, serve, two,
+    AppConfig, ErrorsAsJson, HandlerService, Marks, Method, NoData, NoMemory, PlainApp, RouteTable,
+    Router, ServeSettings, Worker, Wrap, handler, serve, two,
 };
 
 /// An application without configuration or data of its own, whose bodies are in memory.
