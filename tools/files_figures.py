@@ -1,12 +1,14 @@
 """What the program that serves a folder takes for a request, beside other servers, for tools/try-files --figures.
 
-One client asks over one kept connection of 127.0.0.1. Processor time is that of the server's processes, by the system's
-own account (schedstat); memory is the most that one of them had."""
+All servers run side by side, and one client asks each of them in turn, over one kept connection of 127.0.0.1. Processor
+time is that of the server's processes, by the system's own account (schedstat), and the median of the rounds; memory is
+the most that one of them had."""
 import contextlib
 import os
 import re
 import shutil
 import socket
+import statistics
 import subprocess
 import sys
 import tempfile
@@ -14,11 +16,11 @@ import time
 
 import served_folder
 
-# Requests of one kB, and of 100 MB, of one measurement; the best of so many rounds counts.
-SMALL, LARGE, ROUNDS = 5_000, 3, 3
+# Requests of a round for 1 kB, for 100 kB and for 100 MB, and how many rounds there are.
+SMALL, MIDDLE, LARGE, ROUNDS = 1_500, 500, 2, 7
 LARGE_SIZE = 100_000_000
 SECONDS = 20
-TARGETS = {"1 kB": ("/1k.txt", SMALL), "100 kB": ("/100k.js", 1_000), "100 MB": ("/large.bin", LARGE)}
+TARGETS = {"1 kB": ("/1k.txt", SMALL), "100 kB": ("/100k.js", MIDDLE), "100 MB": ("/large.bin", LARGE)}
 NGINX = """worker_processes 1; daemon off; master_process off; pid {room}/nginx.pid; error_log {room}/nginx.log;
 events {{ worker_connections 64; }}
 http {{ include /etc/nginx/mime.types; access_log off; sendfile on; keepalive_requests 1000000;
@@ -146,27 +148,39 @@ def fetch(client, target, buffer):
         left -= client.recv_into(buffer)
 
 
-def measured(words, port):
-    """Microseconds of processor a request for each target, as the server's and socat's, and memory in kB."""
-    found = {}
+def started(stack, words, port):
+    """A server that was started, and a connection to it."""
+    process = stack.enter_context(subprocess.Popen(words, stdin=subprocess.DEVNULL, stdout=subprocess.DEVNULL,
+                                                   stderr=subprocess.DEVNULL))
+    stack.callback(process.terminate)
+    return process, stack.enter_context(connect(port))
+
+
+def round_of(process, client, target, count, buffer):
+    """Microseconds of processor a request: the server's and socat's."""
+    fetch(client, target, buffer)
+    before = times(process.pid)
+    for _ in range(count):
+        fetch(client, target, buffer)
+    after = times(process.pid)
+    return [(after[key] - before[key]) / count for key in ("server", "socat")]
+
+
+def measured(stack, program, top, room):
+    """Of each server by its name: the medians of its rounds for each target, and its memory in kB."""
+    running = {}
+    for name, words_for in servers(program, top, room):
+        port = free_port()
+        running[name] = started(stack, words_for(port), port)
     buffer = bytearray(1 << 20)
-    with subprocess.Popen(words, stdin=subprocess.DEVNULL, stdout=subprocess.DEVNULL, stderr=subprocess.DEVNULL) as process:
-        try:
-            with connect(port) as client:
-                for name, (target, count) in TARGETS.items():
-                    fetch(client, target, buffer)
-                    rounds = []
-                    for _ in range(ROUNDS):
-                        before = times(process.pid)
-                        for _ in range(count):
-                            fetch(client, target, buffer)
-                        after = times(process.pid)
-                        rounds.append(tuple((after[key] - before[key]) / count for key in ("server", "socat")))
-                    found[name] = min(rounds)
-                memory = most_memory(process.pid)
-        finally:
-            process.terminate()
-    return found, memory
+    rounds = {(name, it): [] for name in running for it in TARGETS}
+    for _ in range(ROUNDS):
+        for it, (target, count) in TARGETS.items():
+            for name, (process, client) in running.items():
+                rounds[name, it].append(round_of(process, client, target, count, buffer))
+    for name, (process, _) in running.items():
+        cells = [[statistics.median(parts) for parts in zip(*rounds[name, it])] for it in TARGETS]
+        yield name, cells, most_memory(process.pid)
 
 
 def system_calls(program, top, words, fields=""):
@@ -189,12 +203,11 @@ def system_calls(program, top, words, fields=""):
 def print_figures(program, top, room):
     served_folder.large(top, "large.bin", LARGE_SIZE)
     print(f"{'':30}" + "".join(f"{name:>22}" for name in TARGETS) + f"{'memory':>12}")
-    for name, words_for in servers(program, top, room):
-        port = free_port()
-        found, memory = measured(words_for(port), port)
-        cells = (f"{server:.1f}" + (f" + {socat:.1f}" if socat else "") for server, socat in found.values())
-        print(f"{name:30}" + "".join(f"{cell:>22}" for cell in cells) + f"{memory:>9} kB", flush=True)
-    print("microseconds of processor a request, socat's after a plus; the most memory of a process")
+    with contextlib.ExitStack() as stack:
+        for name, cells, memory in measured(stack, program, top, room):
+            shown = [f"{server:.1f}" + (f" + {socat:.1f}" if socat else "") for server, socat in cells]
+            print(f"{name:30}" + "".join(f"{cell:>22}" for cell in shown) + f"{memory:>9} kB", flush=True)
+    print(f"microseconds of processor a request, socat's after a plus, medians of {ROUNDS} rounds in turn; the most memory of a process")
     if shutil.which("strace"):
         for words in ([], ["--follow-links"]):
             calls = system_calls(program, top, words)

@@ -5,63 +5,22 @@ use std::alloc::Global;
 use std::process::Abort;
 use std::rc::Rc;
 use web_body::{Marks, PayloadConfig};
-use web_extract::{Configs, LayerConfigs, NoHandler, NoType};
 use web_reply::Error;
-use web_request::{App, AppLayer, NoData};
-use web_routing::{HandlerService, PathIs, Route, Scope};
+use web_request::NoData;
+use web_routing::{HandlerService, PathIs, PlainScope, Route, Scope, ScopedApp};
 use web_testing::TestRequest;
 use web_texts::Fail;
 
-/// A layer that may have a configuration of payloads.
-#[derive(Drop)]
-struct BodyLayer {
-    payload: Option<PayloadConfig>,
-}
+/// An application with scopes that hold no value of its own.
+type Limited = ScopedApp<NoData, Marks>;
 
-impl AppLayer for BodyLayer {}
-
-impl Configs for BodyLayer {
-    ghost use Rattle.web_extract.specs.LayerConfigurations.{holds_nothing};
-
-    type OnJson = NoHandler;
-
-    type OnForm = NoHandler;
-
-    type OnPath = NoHandler;
-
-    type OnQuery = NoHandler;
-
-    type JsonType = NoType;
-
-    ghost configurations = { λ layer. record (holds_nothing) { payload = layer.payload } };
-
-    fn configurations(
-        &self,
-    ) -> LayerConfigs<'_, NoHandler, NoHandler, NoHandler, NoHandler, NoType> {
-        LayerConfigs {
-            payload: self.payload.as_ref(),
-            ..LayerConfigs::none()
-        }
-    }
-}
-
-/// An application with these layers.
-struct Limited;
-
-impl App for Limited {
-    type Layer = BodyLayer;
-
-    type Local = NoData;
-
-    type Conn = NoData;
-
-    type Source = Marks;
-}
-
-/// A layer with this limit of bodies.
-fn limited(rt: &impl Abort, alloc: Global, limit: usize) -> Rc<BodyLayer> {
-    let payload = Some(PayloadConfig::new(limit));
-    Rc::new(alloc, BodyLayer { payload }).expect(rt, "memory")
+/// A scope with this limit of bodies.
+fn limited(rt: &impl Abort, alloc: Global, limit: usize) -> Rc<PlainScope<NoData>> {
+    let scope = PlainScope {
+        payload: Some(PayloadConfig::new(limit)),
+        ..PlainScope::new(NoData)
+    };
+    Rc::new(alloc, scope).expect(rt, "memory")
 }
 
 fn echo(text: String) -> Result<String, Fail<Error>> {
@@ -82,8 +41,8 @@ fn a_scope_has_a_limit_of_its_own(rt: HostRuntime) {
         TestRequest::post(alloc, "/small").body(b"abc"),
         TestRequest::post(alloc, "/large").body(b"abc"),
     ];
-    let root = BodyLayer { payload: None };
     let requests = requests.expect(&rt, "memory");
+    let root = PlainScope::new(NoData);
     let lines = replies::<Limited, _>(&rt, alloc, root, &mut site, requests);
     let expected = "\
         200 - ab\n\

@@ -5,7 +5,7 @@ use http_header::HeaderValue;
 use std::alloc::Global;
 use std::fs::File;
 use web_extract::Ready;
-use web_files::{DiskFiles, FilePieces, streamed};
+use web_files::{DiskFiles, FilePieces, SystemDisk, streamed};
 use web_folders::{Folder, FolderSettings};
 use web_reply::{BoxBody, HttpResponse};
 use web_request::{HttpRequest, PlainApp};
@@ -21,7 +21,7 @@ pub type Reply = HttpResponse<BoxBody<FilePieces<File>>>;
 /// A folder that is served.
 #[derive(Drop)]
 pub struct Site {
-    folder: Folder<DiskFiles<HostRuntime>>,
+    folder: Folder<DiskFiles<SystemDisk<HostRuntime>>>,
 }
 
 impl Site {

@@ -3,7 +3,6 @@ use Rattle.std.proofs.Common.{◌≡◌, ℕ, List, [], ◌∷◌, refl, inl, in
 use Rattle.std.specs.Prelude.{Option, None, Some, Result, Ok, Err, IfOk, IsErrAnd, MatchResult, codes, ◌⊎◌}
 use Rattle.web_request.specs.declared.source.Mark.{Mark}
 use Rattle.web_request.specs.declared.source.Mark.TheVariants.{Piece, Stall}
-use Rattle.web_request.specs.Feed.{Feed}
 use Rattle.web_request.specs.Pool.{Pool}
 use Rattle.web_request.specs.Reading.{reading}
 use Rattle.http_header.specs.FieldValue.{FieldValue}
@@ -11,22 +10,19 @@ use Rattle.http_header.specs.HeaderMap.{Entries}
 use Rattle.web_request.specs.Nearest.{nearest}
 use Rattle.web_body.specs.HeadTests.{refusal_by}
 use Rattle.web_body.specs.MessageBody.{answer_of, default_limit}
-use Rattle.web_body.specs.Payload.{payload_feed}
 use Rattle.web_body.specs.PayloadSettings.{PayloadSettings, default_payload_settings}
 use Rattle.web_reply.specs.ResponseBodies.{Plain}
-use Rattle.web_reply.specs.Replies.{Fault, Reply}
+use Rattle.web_reply.specs.Replies.{Reply}
 use Rattle.web_reply.specs.Responders.{bytes_reply}
 use Rattle.web_extract.specs.BytesArgument.{bytes_result}
 use Rattle.web_extract.specs.LayerConfigurations.{Configurations, holds_nothing, payload_settings}
+use Rattle.web_extract.specs.ListResults.{DelayedResult}
 use Rattle.web_worker.specs.Exchanges.{ExchangeView, request_of}
-use Rattle.web_worker.specs.OutcomeFunctions.{DeterministicOutcomes}
+use Rattle.web_worker.specs.AnsweredExchanges.{reply_or_error}
+use Rattle.web_worker.specs.OutcomeFunctions.{AnswersOnce, DeterministicOutcomes}
 use Rattle.web_worker.specs.Outcomes.{OutcomeView, OutcomeView.NoMemory}
 use Rattle.web_worker.specs.PlanOutcomes.{outcome_of, poll_count}
 use Rattle.web_worker.specs.Setting.{Setting}
-use Rattle.example_handlers.specs.Examples.{IsTold, body_argument}
-use Rattle.example_handlers.specs.Examples.{content_reply, marks_or_none}
-use Rattle.example_handlers.proofs.EchoLemmas.{echo, echoed}
-use Rattle.example_handlers.proofs.ToldBodiesLemmas.{HasOneAnswer}
 
 abbrev pub hello_marks : List Mark
 hello_marks = Piece (codes "he") ∷ Stall ∷ Piece (codes "llo") ∷ []
@@ -38,7 +34,7 @@ hello_bytes : answer_of (reading default_limit hello_marks).content ≡ Ok (code
 hello_bytes = unfold reading in refl
 
 module _ {S L D C V K : Type 0} (s : Setting S L D C V K) (x : ExchangeView S L D C)
-    (d : ℕ) (r : Reply Plain) (once : HasOneAnswer s x d r) (plan : List ℕ) where
+    (d : ℕ) (r : Reply Plain) (once : AnswersOnce s x d r) (plan : List ℕ) where
   named : (o : OutcomeView) → (o ≡ NoMemory) ⊎ (o ≡ outcome_of d r (poll_count plan 0))
       → (o ∷ [] ≡ outcome_of d r (poll_count plan 0) ∷ []) ⊎ (o ∷ [] ≡ NoMemory ∷ [])
   named o (inl e) = inr (ap (λ z. z ∷ []) e)
@@ -48,7 +44,7 @@ module _ {S L D C V K : Type 0} (s : Setting S L D C V K) (x : ExchangeView S L 
       → (os ≡ outcome_of d r (poll_count plan 0) ∷ []) ⊎ (os ≡ NoMemory ∷ [])
   only [] h = absurd h
   only (o ∷ p ∷ os) h = absurd h.1
-  only (o ∷ []) h = named o (h.0 d r once.once)
+  only (o ∷ []) h = named o (h.0 d r once)
 
   -- the one outcome of the one exchange
   pub only_outcome : (xs : List (ExchangeView S L D C)) → xs ≡ x ∷ [] → (os : List OutcomeView)
@@ -87,25 +83,22 @@ hello_body : (settings : PayloadSettings) → settings ≡ default_payload_setti
     → bytes_result settings headers marks ≡ record { delay = 1; result = Ok (codes "hello") }
 hello_body settings default headers unrefused marks are = rw (default, are, unrefused, one_stall, hello_bytes) refl
 
-module _ {S L D C U W J F P Q T : Type 0} (of_layer : L → Configurations J F P Q T)
-    (nothing : (l : L) → of_layer l ≡ holds_nothing)
-    (answers : List ℕ → ℕ → List ℕ → Type 0)
-    (only : (body : List ℕ) (n : ℕ) (y : List ℕ) → answers body n y → (n ≡ 0) × (y ≡ body))
-    (feed : S → Feed) (arguments : U → ℕ → Result (List ℕ) Fault → Type 0)
-    (handling : W → ℕ → List ℕ → Type 0) (pool : Pool L) (x : ExchangeView S L D C)
-    (told : (payload_feed feed x.body).marks ≡ Some hello_marks)
+module _ {S L D C V K J F P Q T : Type 0} (of_layer : L → Configurations J F P Q T)
+    (nothing : (l : L) → of_layer l ≡ holds_nothing) (pool : Pool L)
+    (s : Setting S L D C V K) (x : ExchangeView S L D C)
     (unrefused : refusal_by x.parts.head.headers default_limit ≡ None) where
-  body : body_argument feed of_layer pool x ≡ record { delay = 1; result = Ok (codes "hello") }
+  -- the body as an argument
+  abbrev argument : DelayedResult (List ℕ)
+  argument = bytes_result (payload_settings of_layer (request_of pool x).layers)
+      x.parts.head.headers hello_marks
+
+  body : argument ≡ record { delay = 1; result = Ok (codes "hello") }
   body =
       hello_body (payload_settings of_layer (request_of pool x).layers)
       (default_settings of_layer nothing (request_of pool x).layers)
-      x.parts.head.headers unrefused (marks_or_none (payload_feed feed x.body).marks) (ap marks_or_none told)
+      x.parts.head.headers unrefused hello_marks refl
 
-  is_told : IsTold feed x
-  is_told = rw told refl
-
-  pub hello_once : HasOneAnswer (echo of_layer answers only feed arguments handling pool) x 1
-      (bytes_reply (codes "hello"))
-  hello_once =
-      rw (← (ap (λ b. b.delay) body)) (rw (← (ap (λ b. content_reply b.result) body))
-      (echoed of_layer answers only feed arguments handling pool x is_told))
+  -- one delay, and the reply with the body
+  pub hello_once : AnswersOnce s x argument.delay (reply_or_error bytes_reply argument.result)
+      → AnswersOnce s x 1 (bytes_reply (codes "hello"))
+  hello_once once = rw body at once

@@ -27,16 +27,23 @@ use Rattle.web_extract.specs.LayerConfigurations.{Configurations, payload_settin
 use Rattle.web_extract.specs.ListMeanings.{Means2, Member}
 use Rattle.web_extract.specs.OptionArgument.{GivesOption, as_option}
 use Rattle.web_extract.specs.declared.never.Never.{Never}
-use Rattle.web_worker.specs.ExchangeRules.{Rules, Replies, RepliesBefore}
+use Rattle.web_worker.specs.AnsweredExchanges.{StatesMarks, marks_or_none, reply_or_error}
+use Rattle.web_worker.specs.ExchangeRules.{ComesBefore, Replies, RepliesBefore, Rules}
 use Rattle.web_worker.specs.PlanCalls.{ArgumentsOnce}
 use Rattle.web_worker.specs.Exchanges.{ExchangeView}
 use Rattle.web_worker.specs.declared.handler_service.Work.{Work}
-use Rattle.web_worker.specs.HandlerServices.{Come, Means, handler_setting, rules_of}
+use Rattle.web_worker.specs.HandlerServices.{Come, Means, handler_setting, request_promise}
+use Rattle.web_worker.specs.HandlerServices.{rules_of}
+use Rattle.web_worker.specs.ServicePromises.{Once}
 use Rattle.web_worker.specs.Setting.{Setting}
-use Rattle.example_handlers.specs.Examples.{IsTold, body_and_rest, body_delay, body_reply}
-use Rattle.example_handlers.specs.Examples.{content_reply, marks_or_none, with_rest}
-use Rattle.example_handlers.proofs.EchoLemmas.{body_in}
-use Rattle.example_handlers.proofs.ToldBodiesLemmas.{HasOneAnswer, comes_before, is_told, once_told}
+use Rattle.web_extract.specs.ListResults.{DelayedResult}
+use Rattle.web_worker.proofs.ExchangeLawLemmas.{marks_stated}
+use Rattle.example_handlers.specs.Examples.{body_and_rest, with_rest}
+
+-- the body of a request as an argument
+abbrev pub body_in : {L D C J F P Q T : Type 0} → (L → Configurations J F P Q T) → Request L D C
+    → List Mark → DelayedResult (List ℕ)
+body_in of_layer q m = bytes_result (payload_settings of_layer q.layers) q.head.headers m
 
 abbrev Arguments : Type 0
 Arguments = List ℕ × Option (List ℕ)
@@ -89,12 +96,12 @@ pub some_same : {T : Type 0} {a b : T} → Some a ≡ Some b → a ≡ b
 some_same e = cc
 
 value_reply : (b : Result (List ℕ) Fault) (v : Arguments) → AsArguments b (Ok v)
-    → content_reply b ≡ bytes_reply v.0
+    → reply_or_error bytes_reply b ≡ bytes_reply v.0
 value_reply (Ok c) v e = sym (ap (λ (a : Arguments). bytes_reply a.0) (ok_same e))
 value_reply (Err x) v e = absurd cc
 
 refusal_reply : (b : Result (List ℕ) Fault) (f : Fault) → AsArguments b (Err f)
-    → content_reply b ≡ plain_reply whole_plain (error_reply f)
+    → reply_or_error bytes_reply b ≡ plain_reply whole_plain (error_reply f)
 refusal_reply (Ok c) f e = absurd cc
 refusal_reply (Err x) f e =
     let same : f ≡ x = cc in
@@ -175,7 +182,7 @@ module _ (converts : Fault → Fault → Type 0)
 
     once : (q : Request L D C) (m : List Mark) (k : ℕ) (p : Reply Plain)
         → Replies listing_rules q m k p
-        → (k ≡ (body_in of_layer q m).delay) × (p ≡ content_reply (body_in of_layer q m).result)
+        → (k ≡ (body_in of_layer q m).delay) × (p ≡ reply_or_error bytes_reply (body_in of_layer q m).result)
     once q m k p (rest, n, Ok v, means, (j, y, (now, is), response, sum)) =
         let h = list_once (payload_settings of_layer q.layers) q.head.headers m rest n (Ok v) means in
         let delay = h.0 in (
@@ -189,21 +196,22 @@ module _ (converts : Fault → Fault → Type 0)
               ∙ sym (refusal_reply (body_in of_layer q m).result e h.1),
         )
 
+    comes_before : (polls n : ℕ) (x : Result Arguments Fault) → n < polls
+        → ComesBefore listing_rules polls n x
+    comes_before polls n (Ok v) more =
+        (more, λ k y answer. let at = answer.0 in omega (arith, at, more))
+    comes_before polls n (Err e) more = more
+
     before : (q : Request L D C) (m : List Mark) (polls : ℕ)
         → (body_in of_layer q m).delay < polls → RepliesBefore listing_rules q m polls
     before q m polls more rest n x means =
         let delay = (list_once (payload_settings of_layer q.layers) q.head.headers m rest n x means).0 in
-        comes_before listing_rules 0 (λ v k y answer. answer.0) polls n x
-        (omega (arith, delay, more))
+        comes_before polls n x (omega (arith, delay, more))
 
-    pub listed : (x : ExchangeView S L D C) → IsTold feed x
-        → HasOneAnswer listing x (body_delay feed of_layer pool x) (body_reply feed of_layer pool x)
-    listed x told =
-        let marks = (payload_feed feed x.body).marks in
-        once_told listing x (body_delay feed of_layer pool x) (body_reply feed of_layer pool x) (marks_or_none marks)
-        (is_told marks told)
-        (λ k p. once (listing.request x) (marks_or_none marks) k p)
-        (λ n. before (listing.request x) (marks_or_none marks) n)
+    pub listed : (q : Request L D C) (m : List Mark)
+        → Once (request_promise listing_rules q m) (body_in of_layer q m).delay
+        (reply_or_error bytes_reply (body_in of_layer q m).result)
+    listed q m = record { once = once q m; comes = before q m }
 
     arguments_told : (x : ExchangeView S L D C) (m : List Mark)
         → (payload_feed feed x.body).marks ≡ Some m
@@ -215,9 +223,9 @@ module _ (converts : Fault → Fault → Type 0)
         let h = list_once (payload_settings of_layer q.layers) q.head.headers m means.0 k z means.1 in
         (h.0, value_of (body_in of_layer q m).result z h.1)))
 
-    pub each_argued : (xs : List (ExchangeView S L D C)) → All (λ x. IsTold feed x) xs
+    pub each_argued : (xs : List (ExchangeView S L D C)) → All (λ x. StatesMarks feed x) xs
         → All (λ x. ArgumentsOnce listing x (body_and_rest feed of_layer pool x).0 (body_and_rest feed of_layer pool x).1) xs
     each_argued xs told k d l =
         let x = slice_index_or xs k d in
         let marks = (payload_feed feed x.body).marks in
-        arguments_told x (marks_or_none marks) (is_told marks (told k d l))
+        arguments_told x (marks_or_none marks) (marks_stated marks (told k d l))

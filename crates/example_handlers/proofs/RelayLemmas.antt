@@ -1,9 +1,8 @@
 -- The handler of a proxy.
-use Rattle.std.proofs.Common.{◌≡◌, ℕ, ◌<◌, List, arith, ap, sym, ◌∙◌, inl, inr}
+use Rattle.std.proofs.Common.{◌≡◌, ℕ, List, arith, ap, sym, ◌∙◌, inl, inr}
 use Rattle.std.specs.Prelude.{Option, Some, Result, Ok, Err, max}
 use Rattle.web_request.specs.declared.source.Mark.{Mark}
 use Rattle.web_request.specs.Feed.{Feed}
-use Rattle.web_request.specs.Pool.{Pool}
 use Rattle.web_request.specs.Request.{Record, Request}
 use Rattle.web_codec.specs.Answers.{OrAll}
 use Rattle.web_body.specs.declared.payload.Payload.{Payload}
@@ -15,14 +14,10 @@ use Rattle.web_extract.specs.CollectedResults.{collected2}
 use Rattle.web_extract.specs.HeadArguments.{AllowsNow, IsRequest}
 use Rattle.web_extract.specs.ListMeanings.{Means2, Member}
 use Rattle.web_extract.specs.PayloadArgument.{IsUnread, MeansPayload}
-use Rattle.web_worker.specs.Exchanges.{ExchangeView, request_of}
-use Rattle.web_worker.specs.declared.handler_service.Work.{Work}
-use Rattle.web_worker.specs.ExchangeRules.{Rules, Replies, RepliesBefore}
-use Rattle.web_worker.specs.HandlerServices.{handler_setting, rules_of}
-use Rattle.web_worker.specs.Setting.{Setting}
-use Rattle.example_handlers.specs.Examples.{IsTold, marks_or_none}
+use Rattle.web_worker.specs.ExchangeRules.{Rules}
+use Rattle.web_worker.specs.HandlerServices.{rules_of}
+use Rattle.web_worker.specs.ReplyFunctions.{LeadsTo}
 use Rattle.example_handlers.specs.Relays.{relayed_reply}
-use Rattle.example_handlers.proofs.ToldBodiesLemmas.{HasOneAnswer, comes_before, is_told, once_told}
 
 -- where some payload has the marks, what is allowed is a payload that has them
 unread : {S : Type 0} (feed : S → Feed) (m : List Mark) (p : Payload S) → (payload_feed feed p).marks ≡ Some m
@@ -30,9 +25,7 @@ unread : {S : Type 0} (feed : S → Feed) (m : List Mark) (p : Payload S) → (p
 unread feed m p has x (inl is) = is
 unread feed m p has x (inr none) = absurd (none (Ok p) has)
 
-module _ {S L D C U W : Type 0} (feed : S → Feed)
-    (arguments : U → ℕ → Result (Record L D C × Payload S) Fault → Type 0)
-    (handling : W → ℕ → Reply (BoxBody S) → Type 0) (pool : Pool L) where
+module _ {S L D C : Type 0} (feed : S → Feed) where
   abbrev pub Arguments : Request L D C → List Mark → List Mark → ℕ → Result (Record L D C × Payload S) Fault → Type 0
   Arguments q m rest n x =
       Means2 (Member (λ e f. f ≡ e) (AllowsNow (IsRequest q)))
@@ -43,13 +36,6 @@ module _ {S L D C U W : Type 0} (feed : S → Feed)
       (λ v n y. (n ≡ 0) × (plain_reply (λ b. box_plain feed b) y
       ≡ relayed_reply v.0.request.head.headers (payload_feed feed v.1).marks))
       (λ y q r. r ≡ plain_reply (λ b. box_plain feed b) y)
-
-  abbrev pub relay : Setting S L D C (Record L D C × Payload S) (Work U W)
-  relay = handler_setting Arguments (λ e f. f ≡ e)
-      (λ v n y. (n ≡ 0) × (plain_reply (λ b. box_plain feed b) y
-      ≡ relayed_reply v.0.request.head.headers (payload_feed feed v.1).marks))
-      (λ y q r. r ≡ plain_reply (λ b. box_plain feed b) y)
-      feed arguments handling pool
 
   -- the request, and a payload with these marks
   abbrev Came : Request L D C → List Mark → Result (Record L D C × Payload S) Fault → Type 0
@@ -76,34 +62,22 @@ module _ {S L D C U W : Type 0} (feed : S → Feed)
   came q m body has rest n x (left, j) =
       came_as q m body has rest left n x j.n1 j.x1 j.first_gives j.n2 j.x2 j.second_gives j.delay j.result
 
-  once : (q : Request L D C) (m : List Mark) (body : Payload S) → (payload_feed feed body).marks ≡ Some m
-      → (k : ℕ) (p : Reply Plain) → Replies relay_rules q m k p
-      → (k ≡ 0) × (p ≡ relayed_reply q.head.headers (Some m))
-  once q m body has k p (rest, n, Ok v, allowed, (j, y, answer, response, sum)) =
-      let c = came q m body has rest n (Ok v) allowed in
-      let at = c.0 in
-      let now = answer.0 in (
-        omega (arith, at, now, sum),
-        response ∙ (answer.1
-            ∙ (ap (λ (r : Request L D C). relayed_reply r.head.headers (payload_feed feed v.1).marks) c.1.0
-            ∙ ap (λ (o : Option (List Mark)). relayed_reply q.head.headers o) c.1.1)),
+  -- so the handler's value becomes the reply with these fields and marks
+  pub leads : (q : Request L D C) (m : List Mark) (body : Payload S)
+      → (payload_feed feed body).marks ≡ Some m → (r : Reply Plain)
+      → relayed_reply q.head.headers (Some m) ≡ r
+      → (rest : List Mark) (n : ℕ) (x : Result (Record L D C × Payload S) Fault)
+      → Arguments q m rest n x → LeadsTo relay_rules q 0 0 r n x
+  leads q m body has r e rest n (Ok v) allowed =
+      let c = came q m body has rest n (Ok v) allowed in (
+        c.0,
+        λ k y answer. (
+          answer.0,
+          λ s response. response
+              ∙ (answer.1
+              ∙ (ap (λ (t : Request L D C). relayed_reply t.head.headers (payload_feed feed v.1).marks) c.1.0
+              ∙ (ap (λ (o : Option (List Mark)). relayed_reply q.head.headers o) c.1.1 ∙ e))),
+        ),
       )
-  once q m body has k p (rest, n, Err e, allowed, after) = absurd (came q m body has rest n (Err e) allowed).1
-
-  before : (q : Request L D C) (m : List Mark) (body : Payload S) → (payload_feed feed body).marks ≡ Some m
-      → (polls : ℕ) → 0 < polls → RepliesBefore relay_rules q m polls
-  before q m body has polls more rest n x allowed =
-      let at = (came q m body has rest n x allowed).0 in
-      comes_before relay_rules 0 (λ v k y answer. answer.0) polls n x (omega (arith, at, more))
-
-  pub relayed : (x : ExchangeView S L D C) → IsTold feed x
-      → HasOneAnswer relay x 0 (relayed_reply x.parts.head.headers (payload_feed feed x.body).marks)
-  relayed x told =
-      let marks = (payload_feed feed x.body).marks in
-      let q = request_of pool x in
-      let m = marks_or_none marks in
-      let is = is_told marks told in
-      once_told relay x 0 (relayed_reply x.parts.head.headers marks) m is
-      (λ k p h. let one = once q m x.body is k p h in
-      (one.0, one.1 ∙ ap (λ (o : Option (List Mark)). relayed_reply x.parts.head.headers o) (sym is)))
-      (λ n. before q m x.body is n)
+  leads q m body has r e rest n (Err f) allowed =
+      absurd (came q m body has rest n (Err f) allowed).1

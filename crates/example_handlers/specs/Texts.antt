@@ -14,8 +14,8 @@ use Rattle.web_extract.specs.BytesArgument.{bytes_result}
 use Rattle.web_extract.specs.LayerConfigurations.{Configurations, payload_settings}
 use Rattle.web_extract.specs.ListResults.{DelayedResult, list2}
 use Rattle.web_extract.specs.StringArgument.{string_rest, string_result}
+use Rattle.web_worker.specs.AnsweredExchanges.{marks_or_none}
 use Rattle.web_worker.specs.Exchanges.{ExchangeView, request_of}
-use Rattle.example_handlers.specs.Examples.{marks_or_none}
 
 -- the bytes of the text, and those of the body that it leaves
 abbrev pub text_and_rest :

@@ -12,9 +12,9 @@ use bytes::Bytes;
 use std::alloc::Global;
 use std::rc::Rc;
 use web_body::{Mark, Marks, Payload};
-use web_extract::Ready;
+use web_extract::{Itself, Ready, seen_places_law};
 use web_request::{AppConfig, NoData, NoMemory, PlainApp, RequestHead, Source};
-use web_worker::{Exchange, FnHandler, Outcome, Worker, serve_all};
+use web_worker::{Exchange, FnHandler, Outcome, Worker, exchange_law, serve_all};
 
 /// An application without configuration or data of its own, whose bodies are in memory.
 pub type Site = PlainApp<Marks>;
@@ -66,5 +66,7 @@ pub fn serve_hello(alloc: Global, head: RequestHead) -> Result<Vec<Outcome<Site>
     let mut handler = FnHandler(|body: Bytes| -> Result<Ready<Bytes>, NoMemory> {
         Ok(Ready::new(body))
     });
+    seen_places_law::<Site>();
+    exchange_law::<Site, Bytes, Itself, _>(&handler);
     serve_all(alloc, &mut worker, exchanges, &[0, 0], &mut handler).map_err(|_| NoMemory)
 }

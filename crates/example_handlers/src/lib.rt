@@ -10,8 +10,9 @@
 //! (`rewritten_request`), and one that is a handler round a handler (`logged`); a body that is read
 //! piece by piece (`counted`), a request that was parsed elsewhere (`parsed_request`), exchanges
 //! that are told apart by their paths (`routes`), a handler whose reply is promised
-//! (`path_reply`), lists with a text (`texts`), forms with files (`upload`), the part of a file
-//! that is sent (`file_service`), and the coding that a proxy chooses (`compressing_proxy`).
+//! (`path_reply`), lists with a text (`texts`), a list that grows from one request to the next
+//! (`names`), forms with files (`upload`), the part of a file that is sent (`file_service`), and
+//! the coding that a proxy chooses (`compressing_proxy`).
 #![tactic(auto)]
 
 mod api_key;
@@ -23,6 +24,7 @@ mod file_service;
 mod flight_rounds;
 mod hello;
 mod logged;
+mod names;
 mod parsed_request;
 mod path_reply;
 mod relay;
@@ -46,6 +48,7 @@ pub use file_service::{Sent, part_to_send};
 pub use flight_rounds::poll_rounds;
 pub use hello::{Site, serve_hello};
 pub use logged::Logged;
+pub use names::{Names, names_law};
 pub use parsed_request::exchange_of;
 pub use path_reply::serve_path;
 pub use relay::{Relay, serve_relay};

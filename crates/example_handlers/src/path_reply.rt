@@ -7,10 +7,10 @@ ghost use Rattle.web_worker.specs.Outcomes.{OutcomeMeets, outcome_view};
 
 use crate::request_path::RequestPath;
 use std::alloc::Global;
-use web_extract::Ready;
+use web_extract::{Itself, Ready};
 use web_request::{App, NoMemory, Text};
-use web_testing::serve_request;
-use web_worker::{Exchange, FnHandler, Outcome};
+use web_testing::{reply_law, serve_request};
+use web_worker::{Exchange, FnHandler, Outcome, exchange_law};
 
 /// Serves one request by a handler that responds with its path. The source of its body must state
 /// its marks.
@@ -30,5 +30,7 @@ pub fn serve_path<A: App>(
     let mut handler = FnHandler(|path: RequestPath| -> Result<Ready<Text>, NoMemory> {
         Ok(Ready::new(path.0))
     });
+    exchange_law::<A, RequestPath, Itself, _>(&handler);
+    reply_law::<A, RequestPath, _>(&handler);
     serve_request(alloc, root, exchange, &mut handler)
 }

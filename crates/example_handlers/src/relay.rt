@@ -3,8 +3,8 @@ ghost use Rattle.std.specs.Prelude.{◌≡◌, ◌+◌, ◌<◌, ◌^◌, [], le
 ghost use Rattle.web_body.specs.Payload.{payload_feed};
 ghost use Rattle.web_reply.specs.ResponseBodies.{box_plain};
 ghost use Rattle.web_reply.specs.Replies.{plain_reply};
+ghost use Rattle.web_worker.specs.AnsweredExchanges.{AreAnswered};
 ghost use Rattle.web_worker.specs.Outcomes.{outcome_views};
-ghost use Rattle.example_handlers.specs.Examples.{AreAnswered};
 ghost use Rattle.example_handlers.specs.Relays.{body_fields, relayed_reply, with_field};
 
 use crate::serving::Outcomes;
@@ -14,10 +14,10 @@ use http_header::{
 };
 use std::alloc::Global;
 use web_body::Payload;
-use web_extract::Ready;
+use web_extract::{Itself, Ready};
 use web_reply::{BoxBody, HttpResponse};
 use web_request::{App, HttpRequest, NoMemory, Source};
-use web_worker::{Exchange, Handler, Worker, serve_all};
+use web_worker::{Exchange, Handler, Worker, exchange_law, plan_law, serve_all};
 
 /// Responds with the payload of a request as a body of unknown length, and with the two fields that
 /// say how it is read: the first Content-Type and the first Content-Encoding of the request, where
@@ -113,6 +113,8 @@ pub fn serve_relay<A: App>(
         (λ x. relayed_reply x.parts.head.headers (payload_feed A.Source.feed x.body).marks)
         plan.now exchanges.items (outcome_views A.Source.feed os.items)) }
 {
+    exchange_law::<A, (HttpRequest<A>, Payload<A::Source>), Itself, Relay>(&Relay);
+    plan_law::<A, (HttpRequest<A>, Payload<A::Source>), Relay>(&Relay);
     serve_all::<A, (HttpRequest<A>, Payload<A::Source>), Relay>(
         alloc, worker, exchanges, plan, &mut Relay,
     )

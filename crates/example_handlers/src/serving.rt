@@ -4,23 +4,19 @@ ghost use Rattle.std.specs.Prelude.{◌≡◌, ◌+◌, ◌<◌, ◌^◌, ◌++�
 ghost use Rattle.std.specs.Prelude.{IfOk};
 ghost use Rattle.std.specs.List.{All, list_any};
 ghost use Rattle.web_reply.specs.Responders.{text_reply};
+ghost use Rattle.web_worker.specs.AnsweredExchanges.{AreAnswered, StatesMarks};
 ghost use Rattle.web_worker.specs.PlanCalls.{calls_of};
 ghost use Rattle.web_worker.specs.Outcomes.{outcome_views};
 ghost use Rattle.web_worker.specs.PlanOutcomes.{lacks_memory};
-ghost use Rattle.example_handlers.specs.Examples.{
-  AreAnswered,
-  IsTold,
-  body_and_rest,
-  body_delay,
-  body_reply,
-};
+ghost use Rattle.example_handlers.specs.Examples.{body_and_rest, body_delay, body_reply};
 
 use crate::echo::Echo;
 use crate::second_poll::Greeter;
+use bytes::Bytes;
 use std::alloc::Global;
-use web_extract::Configs;
+use web_extract::{Configs, Itself};
 use web_request::{App, NoMemory};
-use web_worker::{Exchange, Outcome, Worker, serve_all};
+use web_worker::{Exchange, Outcome, Worker, exchange_law, plan_law, serve_all};
 
 /// The outcome of each exchange, or the exchanges where an allocation failed before the first poll.
 pub type Outcomes<A> = Result<Vec<Outcome<A>>, (NoMemory, Vec<Exchange<A>>)>;
@@ -49,12 +45,14 @@ where
         (λ x. body_delay A.Source.feed A.Layer.Configs.configurations worker.old x)
         (λ x. body_reply A.Source.feed A.Layer.Configs.configurations worker.old x)
         plan.now exchanges.items (outcome_views A.Source.feed os.items)) }
-    ensures called { All (λ x. IsTold A.Source.feed x) exchanges.items → IfOk result (λ os.
+    ensures called { All (λ x. StatesMarks A.Source.feed x) exchanges.items → IfOk result (λ os.
         list_any lacks_memory (outcome_views A.Source.feed os.items) ≡ false → echo.new
         ≡ echo.old ++ calls_of
         (λ x. body_and_rest A.Source.feed A.Layer.Configs.configurations worker.old x)
         exchanges.items plan.now) }
 {
+    exchange_law::<A, (Bytes, Option<Bytes>), Itself, Echo>(&*echo);
+    plan_law::<A, (Bytes, Option<Bytes>), Echo>(&*echo);
     serve_all(alloc, worker, exchanges, plan, echo)
 }
 
@@ -73,5 +71,7 @@ pub fn serve_greeting<A: App>(
         (λ x. 1) (λ x. text_reply (codes "hello"))
         plan.now exchanges.items (outcome_views A.Source.feed os.items)) }
 {
+    exchange_law::<A, (), Itself, Greeter>(&Greeter);
+    plan_law::<A, (), Greeter>(&Greeter);
     serve_all(alloc, worker, exchanges, plan, &mut Greeter)
 }

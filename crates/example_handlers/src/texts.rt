@@ -15,9 +15,8 @@ ghost use Rattle.web_extract.specs.ListResults.{list4};
 ghost use Rattle.web_extract.specs.PayloadArgument.{payload_result};
 ghost use Rattle.web_extract.specs.SeenResults.{SeenAs, view2, view4};
 ghost use Rattle.web_extract.specs.StringArgument.{string_rest, string_result};
+ghost use Rattle.web_worker.specs.AnsweredExchanges.{AreAnswered, reply_or_error};
 ghost use Rattle.web_worker.specs.Outcomes.{outcome_views};
-ghost use Rattle.example_handlers.specs.BookingReplies.{reply_or_error};
-ghost use Rattle.example_handlers.specs.Examples.{AreAnswered};
 ghost use Rattle.example_handlers.specs.Texts.{text_and_rest, text_argument, text_of};
 
 use crate::serving::Outcomes;
@@ -30,7 +29,7 @@ use web_extract::{
     payload_place_law, seen_places_law,
 };
 use web_request::{App, HttpRequest, NoMemory, Source};
-use web_worker::{Exchange, FnHandler, Worker, serve_all};
+use web_worker::{Exchange, FnHandler, SeenTwo, Worker, list_exchange_law, plan_law, serve_all};
 
 /// A text and the bytes after it allow one result: the text by its bytes, and the body that the
 /// text leaves.
@@ -106,5 +105,7 @@ where
         let (text, _rest) = arguments;
         Ok(Ready::new(text))
     });
+    list_exchange_law::<A, (String, Bytes), SeenTwo<ByBytes, Itself>, _>(&handler);
+    plan_law::<A, (String, Bytes), _>(&handler);
     serve_all(alloc, worker, exchanges, plan, &mut handler)
 }

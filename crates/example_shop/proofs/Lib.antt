@@ -1,4 +1,2 @@
 -- Lemmas of the handler of items.
-mod ExactLemmas
 mod ItemLemmas
-mod ToldBodiesLemmas

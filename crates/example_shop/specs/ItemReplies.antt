@@ -1,6 +1,6 @@
 -- What a request with an item is answered with.
-use Rattle.std.specs.Prelude.{◌≡◌, ℕ, List, [], IsSome, false, true, codes}
-use Rattle.std.specs.Prelude.{Option, None, Some, Result, Ok, Err}
+use Rattle.std.specs.Prelude.{◌≡◌, ℕ, List, false, true, codes}
+use Rattle.std.specs.Prelude.{None, Some, Result}
 use Rattle.serde_json.specs.Written.{compact_text}
 use Rattle.web_request.specs.declared.source.Mark.{Mark}
 use Rattle.web_request.specs.Feed.{Feed}
@@ -13,8 +13,8 @@ use Rattle.web_body.specs.DecoderSettings.{JsonSettings}
 use Rattle.web_body.specs.Payload.{payload_feed}
 use Rattle.web_decoders.specs.JsonBodies.{as_deserialize}
 use Rattle.web_reply.specs.declared.errors.cause.Cause.TheVariants.{Custom, Json as json_cause}
-use Rattle.web_reply.specs.Replies.{Fault, Reply, error_reply, plain_reply, typed_reply}
-use Rattle.web_reply.specs.ResponseBodies.{Plain, Plain.Bytes, whole_plain}
+use Rattle.web_reply.specs.Replies.{Fault, Reply, typed_reply}
+use Rattle.web_reply.specs.ResponseBodies.{Plain, Plain.Bytes}
 use Rattle.web_extract.specs.ConvertedFutures.{converted_result}
 use Rattle.web_extract.specs.LayerConfigurations.{Configurations, holds_nothing, json_settings}
 use Rattle.web_extract.specs.ListResults.{DelayedResult}
@@ -24,10 +24,9 @@ use Rattle.web_extract_body.specs.JsonArgument.{json_head_refusal, json_is_read,
 use Rattle.web_extract_body.specs.JsonArgument.{json_result}
 use Rattle.web_extract_body.specs.declared.json_value.Json.{Json}
 use Rattle.web_status.specs.JsonErrors.{body_error, json_error, json_is_refused}
+use Rattle.web_worker.specs.AnsweredExchanges.{AreAnswered, marks_or_none, reply_or_error}
 use Rattle.web_worker.specs.Exchanges.{ExchangeView, request_of}
-use Rattle.web_worker.specs.OutcomeFunctions.{IsOutcome}
 use Rattle.web_worker.specs.Outcomes.{OutcomeView}
-use Rattle.web_worker.specs.PlanOutcomes.{EachFrom, poll_count}
 use Rattle.example_shop.specs.Item.{data_of_item, item_of}
 use Rattle.example_shop.specs.declared.item.Item.{Item}
 use Rattle.example_shop.specs.declared.item_layer.ItemErrors.{ItemErrors}
@@ -52,11 +51,6 @@ refused_json status refusal text =
 -- 200 with the item as JSON
 abbrev pub item_json : Json Item → Reply Plain
 item_json v = json_text 200 (compact_text (data_of_item v.0))
-
--- the reply to the value, or to the error in its place
-abbrev pub reply_or_error : {V : Type 0} → (V → Reply Plain) → Result V Fault → Reply Plain
-reply_or_error reply (Ok v) = reply v
-reply_or_error reply (Err e) = plain_reply whole_plain (error_reply e)
 
 -- the reply to what comes of an argument: the item, or the error
 abbrev pub item_reply : Result (Json Item) Fault → Reply Plain
@@ -100,16 +94,6 @@ abbrev pub configurations_of : ItemLayer
     → Configurations ItemErrors NoHandler NoHandler NoHandler NoType
 configurations_of l = record (holds_nothing) { json = Some l.json }
 
--- the marks that are stated, and none where they are not
-abbrev pub marks_or_none : Option (List Mark) → List Mark
-marks_or_none None = []
-marks_or_none (Some m) = m
-
-module _ {S L D C : Type 0} (feed : S → Feed) where
-  -- the source of the body states its marks
-  abbrev pub IsTold : ExchangeView S L D C → Type 0
-  IsTold x = IsSome (payload_feed feed x.body).marks
-
 module _ {S D C : Type 0} (feed : S → Feed) (pool : Pool ItemLayer) where
   -- the item of the body as an argument, under the nearest configuration
   abbrev pub item_argument : ExchangeView S ItemLayer D C → DelayedResult (Json Item)
@@ -120,9 +104,7 @@ module _ {S D C : Type 0} (feed : S → Feed) (pool : Pool ItemLayer) where
 
   -- Each exchange whose body states its marks has the reply of its item, at its number of polls in
   -- the plan. A failed allocation is the exception.
-  abbrev pub AreAnswered : List ℕ → List (ExchangeView S ItemLayer D C) → List OutcomeView
+  abbrev pub ItemsAnswered : List ℕ → List (ExchangeView S ItemLayer D C) → List OutcomeView
       → Type 0
-  AreAnswered plan xs os =
-      EachFrom (λ k x o. IsTold feed x
-      → IsOutcome (item_argument x).delay (item_reply (item_argument x).result)
-      (poll_count plan k) o) 0 xs os
+  ItemsAnswered = AreAnswered feed (λ x. (item_argument x).delay)
+      (λ x. item_reply (item_argument x).result)

@@ -6,8 +6,8 @@ ghost use Rattle.web_body.specs.DecoderSettings.{JsonSettings};
 ghost use Rattle.web_extract.specs.declared.config.refuse.NoType.{NoType};
 ghost use Rattle.web_worker.specs.Outcomes.{outcome_views};
 ghost use Rattle.example_shop.specs.ItemReplies.{
-  AreAnswered,
   HoldsBody,
+  ItemsAnswered,
   body_reply,
   item_reply,
   item_result,
@@ -25,7 +25,9 @@ use crate::item_layer::Catalogue;
 use std::alloc::Global;
 use web::request::Source;
 use web::{Exchange, FnHandler, Json, Marks, NoMemory, Outcome, Ready, Worker, serve_all};
+use web_extract::Itself;
 use web_extract_body::json_law;
+use web_worker::{list_exchange_law, plan_law};
 
 /// The outcome of each exchange, or the exchanges where an allocation failed before the first poll.
 pub type Outcomes = Result<Vec<Outcome<Catalogue>>, (NoMemory, Vec<Exchange<Catalogue>>)>;
@@ -43,13 +45,15 @@ pub fn serve_items(
     plan: &[usize],
 ) -> Outcomes
     requires room { worker.old.made + length exchanges.items < 2 ^ 64 }
-    ensures { IfOk result (λ os. AreAnswered ⟦<Marks as Source>⟧.feed worker.old
+    ensures { IfOk result (λ os. ItemsAnswered ⟦<Marks as Source>⟧.feed worker.old
         plan.now exchanges.items (outcome_views ⟦<Marks as Source>⟧.feed os.items)) }
 {
     json_law::<Catalogue, Item>();
     let mut handler = FnHandler(|item: Json<Item>| -> Result<Ready<Json<Item>>, NoMemory> {
         Ok(Ready::new(item))
     });
+    list_exchange_law::<Catalogue, Json<Item>, Itself, _>(&handler);
+    plan_law::<Catalogue, Json<Item>, _>(&handler);
     serve_all(alloc, worker, exchanges, plan, &mut handler)
 }
 

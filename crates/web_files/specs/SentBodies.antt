@@ -1,5 +1,5 @@
 -- Bodies of a folder as they are sent.
-use Rattle.std.specs.Prelude.{◌≡◌, ◌⊎◌, ℕ, List, Option, None, Some, drop}
+use Rattle.std.specs.Prelude.{◌≡◌, ◌≤◌, ◌<◌, ◌^◌, ◌⊎◌, ℕ, List, Option, None, Some, drop}
 use Rattle.web_body.specs.declared.payload.Payload.{Payload}
 use Rattle.web_body.specs.declared.payload.Payload.TheVariants as payload
 use Rattle.web_reply.specs.Replies.{Reply, bare_reply, with_body}
@@ -23,12 +23,14 @@ ReadsFromPosition {F} known =
     (file : F) (at : ℕ) (bytes : List ℕ) → known.position file ≡ Some at
     → known.bytes file ≡ Some bytes → known.left file ≡ Some (drop at bytes)
 
--- The file after it was moved from its first position to this one: where its bytes are known, those
--- from there on are left.
-abbrev pub IsMoved : {F : Type 0} → Known F → F → ℕ → F → Type 0
-IsMoved known file first moved =
-    (bytes : List ℕ) → ReadsFromPosition known → known.position file ≡ Some 0
-    → known.bytes file ≡ Some bytes → known.left moved ≡ Some (drop first bytes)
+-- The file from which this position is read next. For the first byte it is the file as it was. For
+-- another one it was moved: where its position and its bytes are known, those from there on are
+-- left.
+pub record IsMoved {F : Type 0} (known : Known F) (file : F) (first : ℕ) (moved : F) : Type 0 where
+  pub stays : first ≡ 0 → moved ≡ file
+  pub moves : 0 < first → (at : ℕ) (bytes : List ℕ) → ReadsFromPosition known
+      → known.position file ≡ Some at → known.bytes file ≡ Some bytes
+      → known.left moved ≡ Some (drop first bytes)
 
 -- a body of this length and payload
 abbrev pub IsSized : ℕ → Payload PiecesLeft → BoxBody PiecesLeft → Type 0
@@ -38,10 +40,12 @@ IsSized count payload (boxed.Bytes bytes) = ⊥
 IsSized count payload (boxed.Stream p) = ⊥
 
 -- So many bytes of the file, in pieces, from the first position of the part on.
-abbrev pub SendsPart : {F : Type 0} → Known F → FilePart F → BoxBody PiecesLeft → Type 0
-SendsPart {F} known part given =
-    (moved : F) × IsMoved known part.file part.first moved
-    × IsSized part.count (payload.Stream (pieces_of part.count (known.left moved))) given
+pub record SendsPart {F : Type 0} (known : Known F) (part : FilePart F) (given : BoxBody PiecesLeft)
+    : Type 0 where
+  pub few : part.count < 2 ^ 63
+  pub moved : F
+  pub is_moved : IsMoved known part.file part.first moved
+  pub sends : IsSized part.count (payload.Stream (pieces_of part.count (known.left moved))) given
 
 abbrev pub SendsBody : {F : Type 0} → Known F → FolderBody F → BoxBody PiecesLeft → Type 0
 SendsBody known body.Empty given = given ≡ boxed.Empty
@@ -49,23 +53,25 @@ SendsBody known (body.Page page) given = given ≡ boxed.Bytes page
 SendsBody known (body.File part) given = SendsPart known part given
 SendsBody known (body.Omitted count) given = IsSized count payload.None given
 
-abbrev pub IsFile : {F : Type 0} → FolderBody F → Type 0
-IsFile body.Empty = ⊥
-IsFile (body.Page page) = ⊥
-IsFile (body.File part) = Unit {0}
-IsFile (body.Omitted count) = ⊥
+-- What may be refused: a part that begins after the first byte, to which the file has to be moved,
+-- or one of 2^63 bytes or more.
+abbrev pub MayBeRefused : {F : Type 0} → FolderBody F → Type 0
+MayBeRefused body.Empty = ⊥
+MayBeRefused (body.Page page) = ⊥
+MayBeRefused (body.File part) = (0 < part.first) ⊎ (2 ^ 63 ≤ part.count)
+MayBeRefused (body.Omitted count) = ⊥
 
--- The reply with its body as it is sent, and all else as it was. If a file cannot be read from the
--- first position of its part, an empty 500.
+-- The reply with its body as it is sent, and all else as it was; or an empty 500, if its body may
+-- be refused.
 abbrev pub Streams : {F : Type 0} → Known F → Reply (FolderBody F) → Reply (BoxBody PiecesLeft)
     → Type 0
 Streams known reply sent =
     ((given : BoxBody PiecesLeft) × SendsBody known reply.body given
     × (sent ≡ with_body given reply))
-    ⊎ (IsFile reply.body × (sent ≡ bare_reply 500 boxed.Empty))
+    ⊎ (MayBeRefused reply.body × (sent ≡ bare_reply 500 boxed.Empty))
 
 -- by whether it can be read
 abbrev pub SendsIfRead : {F : Type 0} → Known F → FolderBody F → Option (BoxBody PiecesLeft)
     → Type 0
-SendsIfRead known b None = IsFile b
+SendsIfRead known b None = MayBeRefused b
 SendsIfRead known b (Some given) = SendsBody known b given

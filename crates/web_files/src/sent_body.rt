@@ -1,5 +1,5 @@
 //! Replies whose bodies are read as they are sent.
-ghost use Rattle.std.specs.Prelude.{IfOk, IfSome};
+ghost use Rattle.std.specs.Prelude.{◌<◌, ◌≤◌, ◌⊎◌, ◌^◌, IfOk, MatchOption};
 ghost use Rattle.web_files.specs.SentBodies.{IsMoved, IsSized, SendsIfRead, SendsPart, Streams};
 
 use crate::file_pieces::FilePieces;
@@ -24,9 +24,10 @@ fn sized<F: Read + Drop>(
     Ok(BoxBody::Sized(count, Box::new(alloc, payload)?))
 }
 
-/// The file at this position, from which it is read next. `None` if it cannot be read from there.
+/// The file at this position, from which it is read next. `None` if it cannot be moved there. From
+/// the first byte on it is read as it was opened.
 fn moved<F: Read + Seek + Drop>(file: F, first: u64) -> Option<F>
-    ensures { IfSome result (λ moved. IsMoved (record {
+    ensures { MatchOption result (0 < first) (λ moved. IsMoved (record {
       left = F.remaining;
       position = F.stream_position;
       bytes = F.stream_bytes;
@@ -43,16 +44,19 @@ fn moved<F: Read + Seek + Drop>(file: F, first: u64) -> Option<F>
     }
 }
 
-/// The bytes of a part of a file. `None` if the file cannot be read from there.
+/// The bytes of a part of a file. `None` if the file cannot be moved to its first position, or if
+/// it has more bytes than any file.
 fn part_body<F: Read + Seek + Drop>(
     alloc: Global,
     part: FilePart<F>,
 ) -> Result<Option<BoxBody<FilePieces<F>>>, NoMemory>
-    ensures { IfOk result (λ found. IfSome found (λ body. SendsPart (record {
-      left = F.remaining;
-      position = F.stream_position;
-      bytes = F.stream_bytes;
-    })
+    ensures { IfOk result (λ found. MatchOption found
+        ((0 < part.first) ⊎ (2 ^ 63 ≤ part.count))
+        (λ body. SendsPart (record {
+          left = F.remaining;
+          position = F.stream_position;
+          bytes = F.stream_bytes;
+        })
         part body)) }
 {
     let FilePart { file, first, count } = part;
@@ -87,8 +91,10 @@ fn sent_body<F: Read + Seek + Drop>(
 }
 
 /// The reply with its file as a body that is read as it is sent. Its length is the one that was
-/// stated, also if the file grows; if the file was cut, the body breaks off. An empty 500 if the
-/// file cannot be read from the first position. Returns `NoMemory` if an allocation failed.
+/// stated, also if the file grows; if the file was cut, the body breaks off.
+///
+/// An empty 500 only for a part that begins after the first byte, if the file cannot be moved
+/// there, and for one of 2^63 bytes or more. Returns `NoMemory` if an allocation failed.
 pub fn streamed<F: Read + Seek + Drop>(
     alloc: Global,
     reply: HttpResponse<FolderBody<F>>,

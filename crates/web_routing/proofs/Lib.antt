@@ -4,3 +4,4 @@ pub mod ServiceLemmas
 pub mod ServiceLawLemmas
 pub mod ServedLemmas
 pub mod StateLemmas
+pub mod Refused

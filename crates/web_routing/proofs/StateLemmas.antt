@@ -1,6 +1,6 @@
 -- The states of a route and of a service whose replies are changed.
 use Rattle.std.proofs.Common.{refl, inl, inr}
-use Rattle.std.specs.Prelude.{Option, None, Some, Result, Ok}
+use Rattle.std.specs.Prelude.{Option, None, Some, Result, Ok, [], ◌∷◌}
 use Rattle.web_texts.specs.declared.memory.NoMemory.{NoMemory as Wanting}
 use Rattle.web_reply.specs.ResponseBodies.{Plain}
 use Rattle.web_reply.specs.Replies.{Fault, Reply}
@@ -9,7 +9,7 @@ use Rattle.web_routing.specs.ServiceRoutes.{ChangedSteps, changed_states}
 use Rattle.web_routing.specs.StateServices.{StateSteps, kept_states}
 use Rattle.web_worker.specs.Outcomes.{OutcomeMeets, OutcomeView, OutcomeView.Replied}
 use Rattle.web_worker.specs.Outcomes.{OutcomeView.Unfinished, OutcomeView.NoMemory}
-use Rattle.web_worker.specs.ServiceStates.{MayStep, MovesTo, SameSteps, States, Steps}
+use Rattle.web_worker.specs.ServiceStates.{MayStep, MovesTo, Reaches, SameSteps, States, Steps}
 
 module _ {X Q : Type 0} (changes : Q → Reply Plain → Reply Plain → Type 0)
     (a b : X → Q → Option (Reply Plain) → X → Type 0)
@@ -61,3 +61,13 @@ module _ {S H V Y Q E : Type 0} (place : S → H) (replies : H → V → Result 
   state_refused a q e (Replied r) m = (inl (refl, e, m), always a a)
   state_refused a q e Unfinished m = absurd m
   state_refused a q e NoMemory m = inl (refl, always a a)
+
+-- what one poll makes of a state is a run of its steps
+pub reached : {S Q : Type 0} (states : States S Q) (a b : S) (q : Q) (o : OutcomeView)
+    → MovesTo states q o a b → Reaches (states.steps a) (states.state a) (states.state b)
+reached states a b q (Replied r) h =
+    (q ∷ [], Replied r ∷ [], (states.state b, h.0, refl))
+reached states a b q Unfinished h = ([], [], h.0)
+reached states a b q NoMemory (inl h) = ([], [], h.0)
+reached states a b q NoMemory (inr h) =
+    (q ∷ [], NoMemory ∷ [], inr (states.state b, h.0, refl))

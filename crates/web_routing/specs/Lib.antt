@@ -1,5 +1,4 @@
 pub mod ImmediateAnswers
-pub mod ReplyFunctions
 pub mod ReplyHeaders
 pub mod RequestPaths
 pub mod RouteTables

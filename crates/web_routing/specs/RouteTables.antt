@@ -1,5 +1,5 @@
 -- How a table of routes grows.
-use Rattle.std.specs.Prelude.{◌≡◌, ◌+◌, ◌⊎◌, ℕ, List, [], ◌∷◌, ◌++◌, Option, None, Some, Ok, ⊤}
+use Rattle.std.specs.Prelude.{◌≡◌, ◌+◌, ◌⊎◌, ℕ, List, [], ◌∷◌, ◌++◌, Option, None, Some, Ok, Err, ⊤}
 use Rattle.std.specs.Prelude.{length}
 use Rattle.std.specs.Prelude.{slice_get, slice_set}
 use Rattle.std.specs.List.{All}
@@ -11,6 +11,9 @@ use Rattle.matchit.specs.Rows.{RowsOf}
 use Rattle.matchit.specs.declared.params.Params.{Params}
 use Rattle.web_routing.specs.RoutedPaths.{ResourceView, TableView, route_of}
 use Rattle.web_routing.specs.declared.route_table.MethodRoute.{MethodRoute}
+use Rattle.web_routing.specs.declared.route_table.RouteError.{RouteError}
+use Rattle.web_routing.specs.declared.route_table.RouteError.TheVariants.{Pattern, NotAscii}
+use Rattle.web_routing.specs.declared.route_table.RouteError.TheVariants.{Twice, NoMemory}
 
 abbrev pub empty_table : TableView
 empty_table = record { patterns = []; resources = []; count = 0 }
@@ -70,3 +73,29 @@ Added method pattern old new =
     ⊎ (All (λ r. HasPattern pattern r → ⊥) old.resources
     × AddsResource (record { method = method; number = old.count }) pattern old
     (record new { count = old.count })))
+
+-- why a route of a pattern that has routes is refused: there is one of this method
+abbrev pub RefusesMethod : List ℕ → ResourceView → RouteError → Type 0
+RefusesMethod method old (Pattern e) = ⊥
+RefusesMethod method old NotAscii = ⊥
+RefusesMethod method old Twice = route_of old.routes method ≡ None → ⊥
+RefusesMethod method old NoMemory = ⊤
+
+-- why the first route of a pattern is refused: `matchit` refuses the pattern so, or it is not ASCII
+abbrev pub RefusesPattern : List ℕ → TableView → RouteError → Type 0
+RefusesPattern pattern old (Pattern e) =
+    InsertsRead (parse_route pattern) (length old.resources) old.patterns old.patterns (Err e)
+RefusesPattern pattern old NotAscii = IsAscii pattern → ⊥
+RefusesPattern pattern old Twice = ⊥
+RefusesPattern pattern old NoMemory = ⊤
+
+-- why a route is refused; a failed allocation is the one cause that no clause names
+abbrev pub RefusesRoute : List ℕ → List ℕ → TableView → RouteError → Type 0
+RefusesRoute method pattern old (Pattern e) =
+    All (λ r. HasPattern pattern r → ⊥) old.resources × RefusesPattern pattern old (Pattern e)
+RefusesRoute method pattern old NotAscii =
+    All (λ r. HasPattern pattern r → ⊥) old.resources × RefusesPattern pattern old NotAscii
+RefusesRoute method pattern old Twice =
+    (k : ℕ) × (r : ResourceView) × (slice_get old.resources k ≡ Some r) × HasPattern pattern r
+    × RefusesMethod method r Twice
+RefusesRoute method pattern old NoMemory = ⊤

@@ -6,6 +6,7 @@ mod handler_service;
 mod immediate;
 mod laws;
 mod path_is;
+mod plain_scope;
 mod route;
 mod route_table;
 mod router;
@@ -19,8 +20,9 @@ mod wrap;
 
 pub use handler_service::HandlerService;
 pub use immediate::Immediate;
-pub use laws::{exchange_law, route_law, two_arguments_law, wrap_law};
+pub use laws::{route_law, wrap_law};
 pub use path_is::{Any, Both, MethodIs, PathBelow, PathIs};
+pub use plain_scope::{PlainScope, ScopedApp};
 pub use route::{Choose, OneOf, Route};
 pub use route_table::{Found, RouteError, RouteTable};
 pub use router::{Router, RouterCall};

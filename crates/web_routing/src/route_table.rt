@@ -1,11 +1,13 @@
 //! Routes by method and pattern.
-ghost use Rattle.std.specs.Prelude.{◌≡◌, IfOk, OnErr, OnOk};
+ghost use Rattle.std.specs.Prelude.{◌≡◌, IfErr, IfOk, OnErr, OnOk};
 ghost use Rattle.std.specs.String.{string_bytes};
 ghost use Rattle.http_header.specs.FieldValue.{plain_value};
 ghost use Rattle.matchit.specs.Params.{AllText};
 ghost use Rattle.web_routing.specs.RoutedPaths.{IsFound, allowed_text, found_for, of_pairs};
 ghost use Rattle.web_routing.specs.RoutedPaths.{resource_of, route_of, served_by};
-ghost use Rattle.web_routing.specs.RouteTables.{Added, AddsResource, AddsRoute, PlaceOf, walked};
+ghost use Rattle.web_routing.specs.RouteTables.{Added, AddsResource, AddsRoute, PlaceOf};
+ghost use Rattle.web_routing.specs.RouteTables.{RefusesMethod, RefusesPattern, RefusesRoute};
+ghost use Rattle.web_routing.specs.RouteTables.{walked};
 
 use http::Method;
 use http_header::HeaderValue;
@@ -113,6 +115,7 @@ impl RouteTable {
 
     /// Adds a route for this method and the paths that the pattern matches. A route that is refused
     /// leaves the table as it is.
+    #[tactic(auto, using(crate::proofs::Refused::by_method, crate::proofs::Refused::by_pattern))]
     pub fn add(
         &mut self,
         alloc: Global,
@@ -121,6 +124,7 @@ impl RouteTable {
     ) -> Result<(), RouteError>
         ensures ok { OnOk result (Added method pattern.now self.old self.new) }
         ensures err { OnErr result (self.new ≡ self.old) }
+        ensures refused { IfErr result (λ e. RefusesRoute method pattern.now self.old e) }
     {
         let number = self.count;
         let Some(next) = number.checked_add(1) else {
@@ -144,6 +148,7 @@ impl RouteTable {
     ) -> Result<(), RouteError>
         ensures ok { OnOk result (AddsResource route pattern.now self.old self.new) }
         ensures err { OnErr result (self.new ≡ self.old) }
+        ensures refused { IfErr result (λ e. RefusesPattern pattern.now self.old e) }
     {
         if !pattern.is_ascii() {
             return Err(RouteError::NotAscii);
@@ -225,6 +230,7 @@ fn place_of(resources: &[Resource], pattern: &str) -> Option<usize>
 fn add_method(resource: &mut Resource, route: MethodRoute) -> Result<(), RouteError>
     ensures ok { OnOk result (AddsRoute route resource.old resource.new) }
     ensures err { OnErr result (resource.new ≡ resource.old) }
+    ensures refused { IfErr result (λ e. RefusesMethod route.method resource.old e) }
 {
     if route_of(resource.routes.as_slice(), &route.method).is_some() {
         return Err(RouteError::Twice);

@@ -52,12 +52,13 @@ impl<A: App, Args: FromRequest<A>, H: StateHandler<Args>> Service<A, Whole>
 where
     H::Output: Responder<A>,
 {
-    ghost use Rattle.std.specs.Prelude.{⊤};
+    ghost use Rattle.std.specs.Prelude.{[], refl};
     ghost use Rattle.web_worker.specs.HandlerServices.{extracting_promise, request_promise};
     ghost use Rattle.web_worker.specs.HandlerServices.{rules_of};
+    ghost use Rattle.web_worker.specs.ServiceStates.{Reaches};
     ghost use Rattle.web_routing.specs.ServiceRoutes.{itself_keeps, whole_promise};
     ghost use Rattle.web_routing.specs.StateServices.{StateAnswers, StateSteps, kept_states};
-    ghost use Rattle.web_routing.specs.StateServices.{extracting_open};
+    ghost use Rattle.web_routing.specs.StateServices.{extracting_open, reaches_on};
 
     type Call = Args::Future;
 
@@ -72,15 +73,20 @@ where
     ghost states = { kept_states (λ s. s.handler)
         (StateSteps H.replies Args.Error.converts H.Output.responds) };
 
-    ghost same_promises = { λ a b. ⊤ };
+    // The second state is what the replies to some requests made of the first: so whatever serves
+    // requests, a connection too, says of it what a run of the steps says.
+    ghost same_promises = { λ a b. Reaches
+        (StateSteps H.replies Args.Error.converts H.Output.responds) a.handler b.handler };
 
     ghost open = { λ s c q. extracting_open (rules_of Args.means Args.Error.converts
         (StateAnswers H.replies) H.Output.responds) Args.Future.gives Args.Future.is_finished
         Args.Future.some c q };
 
-    ghost same_itself = { λ a. tt };
+    ghost same_itself = { λ a. ([], [], refl) };
 
-    ghost same_on = { λ a b c first second. tt };
+    ghost same_on = { λ a b c first second. reaches_on
+        (StateSteps H.replies Args.Error.converts H.Output.responds)
+        a.handler b.handler c.handler first second };
 
     ghost keeps = { λ a b same. itself_keeps (λ q. q)
         (λ q m. whole_promise (request_promise (rules_of Args.means Args.Error.converts

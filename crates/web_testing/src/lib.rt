@@ -10,4 +10,4 @@ mod serving;
 pub use error::TestError;
 pub use reply::TestReply;
 pub use request::TestRequest;
-pub use serving::{MOST_POLLS, serve_request, test_worker};
+pub use serving::{MOST_POLLS, reply_law, serve_request, test_worker};

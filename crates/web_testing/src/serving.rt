@@ -1,7 +1,11 @@
 //! A worker for tests, and one request that it serves.
-ghost use Rattle.std.specs.Prelude.{◌≡◌, [], ◌∷◌, length, IfOk};
-ghost use Rattle.web_worker.specs.OutcomeFunctions.{DeterministicOutcomes};
-ghost use Rattle.web_worker.specs.Outcomes.{outcome_view};
+ghost use Rattle.std.specs.Prelude.{◌≡◌, ◌<◌, [], ◌∷◌, ℕ, length, IfOk};
+ghost use Rattle.web_request.specs.Pool.{Pool};
+ghost use Rattle.web_reply.specs.ResponseBodies.{Plain};
+ghost use Rattle.web_reply.specs.Replies.{Reply};
+ghost use Rattle.web_worker.specs.Exchanges.{ExchangeView};
+ghost use Rattle.web_worker.specs.OutcomeFunctions.{AnswersOnce, DeterministicOutcomes};
+ghost use Rattle.web_worker.specs.Outcomes.{OutcomeMeets, OutcomeView, outcome_view};
 ghost use Rattle.web_worker.specs.PlanOutcomes.{AllowedOutcomes};
 ghost use Rattle.web_testing.specs.TestWorkers.{new_test_pool, plan_of_one};
 
@@ -74,4 +78,18 @@ pub fn serve_request<A: App, Args, H: Service<A, Args>>(
         Ok(outcomes) => Ok(only_outcome(outcomes)),
         Err(_) => Err(NoMemory),
     }
+}
+
+/// A request that has one reply, after fewer than `MOST_POLLS` polls that leave it open, gets that
+/// one from `serve_request`: what its clause `function` comes to. The contract is the law; a call
+/// has no effect.
+pub fn reply_law<A: App, Args, H: Service<A, Args>>(handler: &H)
+    ensures { (pool : Pool A.Layer) (x : ExchangeView A.Source A.Layer A.Local A.Conn) (d : ℕ)
+        (r : Reply Plain) → d < 64
+        → AnswersOnce (⟦<H as Serves<A, Args>>⟧.setting handler.now pool) x d r → (o : OutcomeView)
+        → DeterministicOutcomes (⟦<H as Serves<A, Args>>⟧.setting handler.now pool)
+        plan_of_one (x ∷ []) (o ∷ [])
+        → OutcomeMeets (λ reply. reply ≡ r) o }
+{
+    let _handler = handler;
 }

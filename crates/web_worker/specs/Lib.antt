@@ -1,3 +1,4 @@
+pub mod AnsweredExchanges
 pub mod ExchangeRules
 pub mod Exchanges
 pub mod Flights
@@ -14,6 +15,8 @@ pub mod PollOne
 pub mod PoolRun
 pub mod PoolSteps
 pub mod RecordsMade
+pub mod ReplyFunctions
+pub mod Requests
 pub mod ServicePromises
 pub mod ServiceStates
 pub mod Setting

@@ -1,5 +1,9 @@
 //! Exchanges: requests and their bodies, as they come to a worker.
 
+use http::{Method, Version};
+use http_header::HeaderMap;
+use http_uri::{Uri, UriError};
+use std::alloc::Global;
 use std::marker::Model;
 use std::rc::Rc;
 use web_body::Payload;
@@ -43,7 +47,43 @@ impl<A: App> Model for Exchange<A> {
 }
 
 impl<A: App> Exchange<A> {
-    ghost use Rattle.std.specs.Prelude.{◌≡◌};
+    ghost use Rattle.std.specs.Prelude.{◌≡◌, IfErr, IfOk};
+    ghost use Rattle.web_worker.specs.Requests.{IsGet, RefusesTarget};
+
+    /// A GET request of HTTP/1.1 for this target, without headers, parameters and body. Its fields
+    /// can be set.
+    ///
+    /// `Err(UriError::Invalid)` if the text is no target, and `Err(UriError::OutOfMemory)` if an
+    /// allocation failed.
+    ///
+    /// ```
+    /// let exchange = Exchange::get(alloc, "/items?page=2")?;
+    /// ```
+    pub fn get(alloc: Global, target: &str) -> Result<Exchange<A>, UriError>
+        ensures request { IfOk result (λ x. IsGet target.now x) }
+        ensures refused { IfErr result (λ e. RefusesTarget target.now e) }
+    {
+        let uri = match Uri::from_str(alloc, target) {
+            Ok(uri) => uri,
+            Err(UriError::Invalid(error)) => return Err(UriError::Invalid(error)),
+            Err(UriError::OutOfMemory) => return Err(UriError::OutOfMemory),
+        };
+        let head = RequestHead {
+            uri,
+            method: Method::GET,
+            version: Version::HTTP_11,
+            headers: HeaderMap::new(alloc),
+            peer_addr: None,
+        };
+        Ok(Exchange {
+            head,
+            params: Vec::new(alloc),
+            layers: Vec::new(alloc),
+            conn: None,
+            local: None,
+            body: Payload::None,
+        })
+    }
 
     /// The parts of the request, and its body.
     pub(crate) fn into_parts(self) -> (RequestParts<A>, Payload<A::Source>)

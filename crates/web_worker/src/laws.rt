@@ -3,9 +3,12 @@ ghost use Rattle.std.specs.Prelude.{◌≡◌, ◌++◌, ◌∷◌, [], List, �
 ghost use Rattle.web_request.specs.declared.config.AppConfig.{AppConfig as Config};
 ghost use Rattle.web_request.specs.Pool.{Pool, after_disable, after_give_back, after_start};
 ghost use Rattle.web_request.specs.Pool.{new_pool, next_serial};
+ghost use Rattle.web_request.specs.Request.{Request};
+ghost use Rattle.web_worker.specs.Outcomes.{OutcomeView};
 ghost use Rattle.web_worker.specs.PlanPools.{pool_after};
 ghost use Rattle.web_worker.specs.PoolRun.{DistinctSerials, SerialState, Taken};
 ghost use Rattle.web_worker.specs.Isolation.{SameInBothRuns};
+ghost use Rattle.web_worker.specs.ServiceStates.{MovesTo, Runs};
 
 use crate::service::Service;
 use crate::setting::Serves;
@@ -45,4 +48,17 @@ pub fn distinct_serials_law<A: App>()
         → DistinctSerials (after_disable pool) held }
     ensures plan { (delay : ℕ → ℕ) (pool : Pool A.Layer) (exchanges plan : List ℕ)
         → DistinctSerials pool [] → DistinctSerials (pool_after delay pool exchanges plan) [] }
+{}
+
+/// Exchanges that are served one after another are a run of the service's steps: where one that a
+/// poll answered (`state` of `poll_flight`) comes before such a run, both are one.
+///
+/// The contract is the law, over what `poll_one` and `poll_flight` say of the service's state;
+/// there is nothing to call it for.
+pub fn run_law<A: App, Args, S: Service<A, Args>>()
+    ensures none { (s : S) → Runs S.states [] [] s s }
+    ensures next { (q : Request A.Layer A.Local A.Conn) (o : OutcomeView)
+        (qs : List (Request A.Layer A.Local A.Conn)) (os : List OutcomeView) (a b c : S)
+        → MovesTo S.states q o a b → Runs S.states qs os b c
+        → Runs S.states (q ∷ qs) (o ∷ os) a c }
 {}

@@ -3,10 +3,12 @@
 
 mod answering;
 mod exchange;
+mod exchange_laws;
 mod flight;
 mod handler;
 mod handler_service;
 mod laws;
+mod list_views;
 mod outcome;
 mod plan_entry;
 mod polling;
@@ -17,10 +19,12 @@ mod worker;
 
 pub use answering::{error_outcome, response_outcome};
 pub use exchange::Exchange;
+pub use exchange_laws::{exchange_law, list_exchange_law, plan_law, two_arguments_law};
 pub use flight::Flight;
 pub use handler::{FnHandler, Handler};
 pub use handler_service::Work;
-pub use laws::{distinct_serials_law, isolation_law};
+pub use laws::{distinct_serials_law, isolation_law, run_law};
+pub use list_views::{SeenFour, SeenOne, SeenThree, SeenTwo};
 pub use outcome::Outcome;
 pub use plan_entry::PlanEntry;
 pub use polling::{poll_flight, poll_one};

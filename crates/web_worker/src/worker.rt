@@ -1,6 +1,7 @@
 //! The worker that serves exchanges.
 ghost use Rattle.std.specs.Prelude.{◌≡◌, IfOk};
 ghost use Rattle.std.specs.Borrow.{Lends, sem};
+ghost use Rattle.web_request.specs.LocalConfigs.{local_config};
 ghost use Rattle.web_request.specs.Pool.{new_pool};
 ghost use Rattle.web_request.specs.contracts.records.pool.HttpRequestPool.{the_row as pool_row};
 ghost use Rattle.web_worker.specs.contracts.worker.Worker.{the_row};
@@ -41,6 +42,22 @@ impl<A: App> Worker<A> {
     {
         let pool = HttpRequestPool::with_capacity(alloc, root, config, capacity)?;
         Ok(Worker { pool })
+    }
+
+    /// A worker with this root layer that serves as `localhost:8080` without TLS, at port 8080 of
+    /// this machine, and keeps up to 128 records: for a first program, and for tries.
+    ///
+    /// `Err(NoMemory)` if an allocation failed.
+    ///
+    /// ```
+    /// let mut worker = Worker::local(alloc, NoData)?;
+    /// ```
+    pub fn local(alloc: Global, root: A::Layer) -> Result<Worker<A>, NoMemory>
+        requires ready { A.Layer.ready root }
+        ensures { IfOk result (λ w. w ≡ new_pool root local_config 128) }
+    {
+        let config = AppConfig::local(alloc)?;
+        Worker::new(alloc, Rc::new(alloc, root)?, config, 128)
     }
 
     /// The pool, for the records that it keeps and how many it made.

@@ -1,21 +1,20 @@
 //! A handler of JSON bodies and one of forms, each served by a function whose contract says what
 //! its exchanges are answered with.
 ghost use Rattle.std.specs.Prelude.{◌+◌, ◌<◌, ◌^◌, length, IfOk};
+ghost use Rattle.web_worker.specs.AnsweredExchanges.{AreAnswered, reply_or_error};
 ghost use Rattle.web_worker.specs.Outcomes.{outcome_views};
-ghost use Rattle.example_handlers.specs.Examples.{AreAnswered};
 ghost use Rattle.example_handlers.specs.BookingReplies.{form_argument, form_booking};
 ghost use Rattle.example_handlers.specs.BookingReplies.{json_argument, json_booking};
-ghost use Rattle.example_handlers.specs.BookingReplies.{reply_or_error};
 
 use crate::bookings::booking::Booking;
 use crate::bookings::booking_layer::Bookings;
 use crate::serving::Outcomes;
 use std::alloc::Global;
 use web_body::Marks;
-use web_extract::Ready;
+use web_extract::{Itself, Ready};
 use web_extract_body::{Form, Json, form_law, json_law};
 use web_request::{NoMemory, Source};
-use web_worker::{Exchange, FnHandler, Worker, serve_all};
+use web_worker::{Exchange, FnHandler, Worker, list_exchange_law, plan_law, serve_all};
 
 /// Serves the exchanges by a closure that responds with the booking of a JSON body, as JSON.
 ///
@@ -40,6 +39,8 @@ pub fn serve_json_bookings(
     let mut handler = FnHandler(|booking: Json<Booking>| -> Result<Ready<Json<Booking>>, NoMemory> {
         Ok(Ready::new(booking))
     });
+    list_exchange_law::<Bookings, Json<Booking>, Itself, _>(&handler);
+    plan_law::<Bookings, Json<Booking>, _>(&handler);
     serve_all(alloc, worker, exchanges, plan, &mut handler)
 }
 
@@ -63,5 +64,7 @@ pub fn serve_form_bookings(
     let mut handler = FnHandler(|booking: Form<Booking>| -> Result<Ready<Form<Booking>>, NoMemory> {
         Ok(Ready::new(booking))
     });
+    list_exchange_law::<Bookings, Form<Booking>, Itself, _>(&handler);
+    plan_law::<Bookings, Form<Booking>, _>(&handler);
     serve_all(alloc, worker, exchanges, plan, &mut handler)
 }

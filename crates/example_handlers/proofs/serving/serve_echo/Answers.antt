@@ -1,8 +1,11 @@
 use Rattle.std.proofs.Common.{◌≡◌, ℕ}
+use Rattle.web_body.specs.Payload.{payload_feed}
 use Rattle.web_extract.specs.Never.{NeverGives}
+use Rattle.web_worker.specs.AnsweredExchanges.{marks_or_none}
+use Rattle.web_worker.specs.Exchanges.{request_of}
+use Rattle.web_worker.proofs.ExchangeLawLemmas.{marks_stated, on_ok}
 use Rattle.example_handlers.specs.Examples.{body_and_rest, body_delay, body_reply}
 use Rattle.example_handlers.proofs.ListingLemmas.{each_argued, listed, some_same}
-use Rattle.example_handlers.proofs.ToldBodiesLemmas.{each_answered, on_ok}
 use Rattle.example_handlers.proofs.serving.serve_echo.Goals as goal
 
 pub returns-clause-answered : goal.returns-clause-answered
@@ -11,8 +14,14 @@ returns-clause-answered g c =
     let of_layer = g.A.Layer.Configs.configurations in
     let worker = c.args.worker.now in
     on_ok c.serve_all.result _ _
-    (λ os functions. each_answered _ (λ x. body_delay feed of_layer worker x) (λ x. body_reply feed of_layer worker x)
-    (λ x told. listed (λ e f. f ≡ e) (λ e f h. h) NeverGives of_layer (λ e f. f ≡ e) (λ e f h. h) feed (λ (u : ℕ) n a. ⊥) (λ (w : ℕ) n y. ⊥) worker x told) _ _ _ functions)
+    (λ os functions. c.plan_law.ensures worker (λ x. body_delay feed of_layer worker x)
+    (λ x. body_reply feed of_layer worker x)
+    (λ x states.
+    let marks = (payload_feed feed x.body).marks in
+    c.exchange_law.ensures.worker worker x (marks_or_none marks) _ _ (marks_stated marks states)
+    (listed (λ e f. f ≡ e) (λ e f h. h) NeverGives of_layer (λ e f. f ≡ e) (λ e f h. h) feed
+    (λ (u : ℕ) n a. ⊥) (λ (w : ℕ) n y. ⊥) worker (request_of worker x) (marks_or_none marks)))
+    _ _ _ functions)
     c.serve_all.ensures.functions
 
 pub returns-clause-called : goal.returns-clause-called

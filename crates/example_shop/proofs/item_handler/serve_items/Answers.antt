@@ -1,29 +1,31 @@
-use Rattle.std.proofs.Common.{rules, refl}
+use Rattle.std.proofs.Common.{ap, refl, rules, ◌∙◌}
+use Rattle.std.specs.Prelude.{false}
 use Rattle.web_request.specs.Feed.{Feed}
-use Rattle.web_extract.specs.LayerConfigurations.{json_settings}
-use Rattle.web_extract_body.specs.JsonArgument.{json_rest}
+use Rattle.web_body.specs.Payload.{payload_feed}
+use Rattle.web_worker.specs.AnsweredExchanges.{marks_or_none}
+use Rattle.web_worker.specs.Exchanges.{request_of}
+use Rattle.web_worker.proofs.ExchangeLawLemmas.{holds_only, marks_stated, on_ok}
 use Rattle.example_shop.specs.Item.{item_of}
-use Rattle.example_shop.specs.ItemReplies.{configurations_of, item_argument, item_error}
-use Rattle.example_shop.specs.ItemReplies.{item_json, item_reply, item_result}
-use Rattle.std.specs.Prelude.{ℕ, false}
+use Rattle.example_shop.specs.ItemReplies.{item_argument, item_error, item_json, item_reply}
 use Rattle.example_shop.proofs.ItemLemmas.{json_responds}
-use Rattle.example_shop.proofs.ExactLemmas.{answers_of, exact_once, holds_only}
-use Rattle.example_shop.proofs.ToldBodiesLemmas.{each_answered, on_ok}
 use Rattle.example_shop.proofs.item_handler.serve_items.Goals as goal
 
 pub returns : goal.returns
 returns c =
     let worker = c.args.worker.now in
+    let argument = item_argument (λ (f : Feed). f) worker in
     on_ok c.serve_all.result _ _
-    (λ os functions. each_answered _ (λ x. (item_argument (λ (f : Feed). f) worker x).delay)
-    (λ x. item_reply (item_argument (λ (f : Feed). f) worker x).result)
-    (λ x told. exact_once _ (answers_of c.serve_all.ensures.same_promises)
-    (λ v n y answer. holds_only answer.0 v n y (search rules) answer.2)
-    _ item_json (λ v q r responds. json_responds v r responds)
-    (λ q m. json_rest (json_settings configurations_of q.layers) (λ errors e h. item_error errors e)
-    (λ p t. false) item_of q.head m)
-    (λ q m. item_result (json_settings configurations_of q.layers) q.head m)
+    (λ os functions. c.plan_law.ensures worker (λ x. (argument x).delay)
+    (λ x. item_reply (argument x).result)
+    (λ x states.
+    let m = marks_or_none (payload_feed (λ (f : Feed). f) x.body).marks in
+    c.list_exchange_law.ensures.exact worker x m _ (argument x) item_json
+    (marks_stated (payload_feed (λ (f : Feed). f) x.body).marks states)
     (c.json_law.ensures (λ errors e h. item_error errors e) (λ errors e h. (refl, λ x is. is))
-    (λ p t. false) (λ p t. (refl, λ x is. is)) item_of (λ d. (refl, λ x is. is)))
-    (λ (f : Feed). f) (λ (u : ℕ) n a. ⊥) (λ (w : ℕ) n y. ⊥) worker x told) _ _ _ functions)
+    (λ p t. false) (λ p t. (refl, λ x is. is)) item_of (λ d. (refl, λ x is. is))
+    (request_of worker x) m)
+    (λ v n y answer.
+    let is = holds_only answer.0 v n y (search rules) answer.2 in
+    (is.0, λ r response. json_responds y r response ∙ ap item_json is.1)))
+    _ _ _ functions)
     c.serve_all.ensures.functions

@@ -1,28 +1,31 @@
-use Rattle.std.specs.Prelude.{ℕ}
-use Rattle.std.proofs.Common.{rules, refl}
+use Rattle.std.proofs.Common.{ap, refl, rules, ◌∙◌}
 use Rattle.web_request.specs.Feed.{Feed}
-use Rattle.web_extract.specs.LayerConfigurations.{json_settings}
-use Rattle.web_extract_body.specs.JsonArgument.{json_rest, json_result}
-use Rattle.example_handlers.specs.BookingLayers.{configurations_of, is_plain_text, json_refusal}
-use Rattle.example_handlers.specs.BookingReplies.{json_argument, json_booking, reply_or_error}
+use Rattle.web_body.specs.Payload.{payload_feed}
+use Rattle.web_worker.specs.AnsweredExchanges.{marks_or_none, reply_or_error}
+use Rattle.web_worker.specs.Exchanges.{request_of}
+use Rattle.web_worker.proofs.ExchangeLawLemmas.{holds_only, marks_stated, on_ok}
+use Rattle.example_handlers.specs.BookingLayers.{is_plain_text, json_refusal}
+use Rattle.example_handlers.specs.BookingReplies.{json_argument, json_booking}
 use Rattle.example_handlers.specs.Bookings.{booking_of_json}
 use Rattle.example_handlers.proofs.BookingLemmas.{json_responds}
-use Rattle.example_handlers.proofs.ExactLemmas.{answers_of, exact_once, holds_only}
-use Rattle.example_handlers.proofs.ToldBodiesLemmas.{each_answered, on_ok}
 use Rattle.example_handlers.proofs.bookings.booking_handlers.serve_json_bookings.Goals as goal
 
 pub returns : goal.returns
 returns c =
     let worker = c.args.worker.now in
+    let argument = json_argument (λ (f : Feed). f) worker in
     on_ok c.serve_all.result _ _
-    (λ os functions. each_answered _ (λ x. (json_argument (λ (f : Feed). f) worker x).delay)
-    (λ x. reply_or_error json_booking (json_argument (λ (f : Feed). f) worker x).result)
-    (λ x told. exact_once _ (answers_of c.serve_all.ensures.same_promises)
-    (λ v n y answer. holds_only answer.0 v n y (search rules) answer.2)
-    _ json_booking (λ v q r responds. json_responds v r responds)
-    (λ q m. json_rest (json_settings configurations_of q.layers) (λ h e head. json_refusal e) (λ p t. is_plain_text t) booking_of_json q.head m)
-    (λ q m. json_result (json_settings configurations_of q.layers) (λ h e head. json_refusal e) (λ p t. is_plain_text t) booking_of_json q.head m)
+    (λ os functions. c.plan_law.ensures worker (λ x. (argument x).delay)
+    (λ x. reply_or_error json_booking (argument x).result)
+    (λ x states.
+    let m = marks_or_none (payload_feed (λ (f : Feed). f) x.body).marks in
+    c.list_exchange_law.ensures.exact worker x m _ (argument x) json_booking
+    (marks_stated (payload_feed (λ (f : Feed). f) x.body).marks states)
     (c.json_law.ensures (λ h e head. json_refusal e) (λ h e head. (refl, λ x is. is))
-    (λ p t. is_plain_text t) (λ p t. (refl, λ x is. is)) booking_of_json (λ d. (refl, λ x is. is)))
-    (λ (f : Feed). f) (λ (u : ℕ) n a. ⊥) (λ (w : ℕ) n y. ⊥) worker x told) _ _ _ functions)
+    (λ p t. is_plain_text t) (λ p t. (refl, λ x is. is)) booking_of_json (λ d. (refl, λ x is. is))
+    (request_of worker x) m)
+    (λ v n y answer.
+    let is = holds_only answer.0 v n y (search rules) answer.2 in
+    (is.0, λ r response. json_responds y r response ∙ ap json_booking is.1)))
+    _ _ _ functions)
     c.serve_all.ensures.functions

@@ -1,3 +1,4 @@
+use Rattle.std.proofs.Common.{[], refl}
 use Rattle.std.specs.Prelude.{ℕ}
 use Rattle.web_body.specs.Payload.{payload_feed}
 use Rattle.web_worker.specs.HandlerServices.{extracting_promise, request_promise, rules_of}
@@ -23,3 +24,6 @@ returns-clause-begins g c =
 
 pub returns-clause-to_come : goal.returns-clause-to_come
 returns-clause-to_come g c = whole_to_come
+
+pub returns-clause-same : goal.returns-clause-same
+returns-clause-same g c = ([], [], refl)

@@ -1,12 +1,13 @@
 use Rattle.std.specs.Prelude.{ℕ, Err}
-use Rattle.std.proofs.Common.{refl}
+use Rattle.std.proofs.Common.{[], refl}
 use Rattle.web_worker.specs.declared.handler_service.Work.TheVariants.{Extracting}
 use Rattle.web_worker.specs.HandlerServices.{extracting_promise, rules_of}
-use Rattle.web_worker.specs.Outcomes.{OutcomeView.Unfinished, outcome_view}
+use Rattle.web_worker.specs.Outcomes.{OutcomeView.Unfinished, OutcomeView.NoMemory}
+use Rattle.web_worker.specs.Outcomes.{outcome_view}
 use Rattle.web_worker.proofs.HandlerServiceLemmas.{extracting, refused}
-use Rattle.web_routing.specs.StateServices.{StateAnswers, StateSteps}
+use Rattle.web_routing.specs.StateServices.{StateAnswers, StateSteps, kept_states}
 use Rattle.web_routing.proofs.ServiceLemmas.{at_once, whole_calls, whole_polls}
-use Rattle.web_routing.proofs.StateLemmas.{state_lost, state_refused, state_replied}
+use Rattle.web_routing.proofs.StateLemmas.{reached, state_lost, state_refused, state_replied}
 use Rattle.web_routing.proofs.state_service.StateServiceServiceWhole.poll.Goals as goal
 
 pub returns-in-Pending-clause-polls : goal.returns-in-Pending-clause-polls
@@ -77,3 +78,28 @@ returns-in-Ready-Err-clause-moves g c =
     g.H.Output.Responder.responds c.args.self.now c.args.request.now.request
     c.in-Ready-Err.error (outcome_view g.A.Source.Source.feed c.error_outcome.result)
     c.error_outcome.ensures
+
+pub returns-in-Pending-clause-same : goal.returns-in-Pending-clause-same
+returns-in-Pending-clause-same g c = ([], [], refl)
+
+pub returns-in-Ok-clause-same : goal.returns-in-Ok-clause-same
+returns-in-Ok-clause-same g c =
+    reached (kept_states (λ s. s.handler) (StateSteps g.H.StateHandler.replies
+    g.Args.Error.Into.converts g.H.Output.Responder.responds)) c.args.self.now
+    (record { handler = c.reply.new.self; args = c.args.self.now.args })
+    c.args.request.now.request
+    (outcome_view g.A.Source.Source.feed c.response_outcome.result)
+    (returns-in-Ok-clause-moves g c)
+
+pub returns-in-Err-clause-same : goal.returns-in-Err-clause-same
+returns-in-Err-clause-same g c =
+    reached (kept_states (λ s. s.handler) (StateSteps g.H.StateHandler.replies
+    g.Args.Error.Into.converts g.H.Output.Responder.responds)) c.args.self.now
+    (record { handler = c.reply.new.self; args = c.args.self.now.args })
+    c.args.request.now.request NoMemory (returns-in-Err-clause-moves g c)
+
+pub returns-in-Ready-Err-clause-same : goal.returns-in-Ready-Err-clause-same
+returns-in-Ready-Err-clause-same g c = ([], [], refl)
+
+pub returns-in-NoMemory-clause-same : goal.returns-in-NoMemory-clause-same
+returns-in-NoMemory-clause-same g c = ([], [], refl)
