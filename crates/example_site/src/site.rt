@@ -29,6 +29,7 @@ const GET: &[&str] = &[
     "/visits",
     "/old",
 ];
+
 const POST: &[&str] = &["/bookings", "/upload", "/items"];
 
 /// The table of these routes.
