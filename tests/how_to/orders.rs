@@ -28,7 +28,7 @@ fn take(
 }
 
 /// An order for the customer 7.
-fn order(alloc: Global, body: &'static [u8]) -> TestRequest {
+fn new_order(alloc: Global, body: &'static [u8]) -> TestRequest {
     TestRequest::post(alloc, "/customers/7/orders")
         .param("customer", "7")
         .header("content-type", "application/json")
@@ -43,10 +43,10 @@ fn orders_and_errors_are_json(rt: HostRuntime) {
         ErrorsAsJson,
     );
     let requests = vec![in alloc;
-        order(alloc, b"{\"item\":\"tea\",\"count\":2}"),
-        order(alloc, b"{\"item\":\"tea\",\"count\":0}"),
-        order(alloc, b"{\"item\":\"tea\"}"),
-        order(alloc, b"tea"),
+        new_order(alloc, b"{\"item\":\"tea\",\"count\":2}"),
+        new_order(alloc, b"{\"item\":\"tea\",\"count\":0}"),
+        new_order(alloc, b"{\"item\":\"tea\"}"),
+        new_order(alloc, b"tea"),
     ];
     let requests = requests.expect(&rt, "memory");
     let lines = replies(&rt, alloc, &mut shop, requests, &["content-type"]);

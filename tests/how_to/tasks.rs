@@ -20,7 +20,7 @@ struct Item {
     count: u64,
 }
 
-fn item(item: Json<Typed<Item>>) -> Result<Json<Typed<Item>>, Fail<Error>> {
+fn give_back(item: Json<Typed<Item>>) -> Result<Json<Typed<Item>>, Fail<Error>> {
     Ok(item)
 }
 
@@ -39,7 +39,7 @@ struct Login {
     name: String,
 }
 
-fn login(alloc: Global, form: Form<Typed<Login>>) -> Result<String, Fail<Error>> {
+fn sign_in(alloc: Global, form: Form<Typed<Login>>) -> Result<String, Fail<Error>> {
     Ok(format!(in alloc; "hello {}", form.0.0.name)?)
 }
 
@@ -121,12 +121,12 @@ fn site(rt: &impl Abort, alloc: Global) -> impl Service<Site, Whole> {
         2,
         two(
             1,
-            handler(|args| item(args)),
+            handler(|item| give_back(item)),
             handler(move |args| tagged(alloc, args)),
         ),
         two(
             1,
-            handler(move |form| login(alloc, form)),
+            handler(move |form| sign_in(alloc, form)),
             handler(move |count| replied(alloc, order(alloc, count))),
         ),
     );
