@@ -38,10 +38,7 @@ fn take_piece<A: App, Args, S: Service<A, Args>>(
         connection.old connection.new piece.now out.old.items out.new.items result }
 {
     let piece = piece.as_slice();
-    if connection
-        .take(alloc, worker, service, piece, out)
-        .is_err()
-    {
+    if connection.take(alloc, worker, service, piece, out).is_err() {
         return Some(Ended::NoMemory);
     }
     connection.ended()
