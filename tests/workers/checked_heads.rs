@@ -240,7 +240,11 @@ fn delimiters_of_targets_are_encoded(rt: HostRuntime) {
         Next::Refused(_) | Next::Closed => assert_holds(&rt, "a message", false),
     }
     let (ended, _) = written(&rt, alloc, limits(HeadChecks::NONE), bytes, 1024);
-    assert_same(&rt, ended, Ended::Refused(Wrong::Head(HeadFault::Malformed)));
+    assert_same(
+        &rt,
+        ended,
+        Ended::Refused(Wrong::Head(HeadFault::Malformed)),
+    );
 }
 
 /// How many bytes are kept of chunks of one byte, each in 259 bytes, until no more are taken.

@@ -152,8 +152,7 @@ fn calls_in_any_order_write_the_same(rt: HostRuntime) {
                 let next = (at + draws.below(40)).min(bytes.len());
                 let piece = &bytes[at..next];
                 if draws.below(2) == 0 {
-                    let taken =
-                        connection.take(alloc, &mut worker, &mut handler, piece, &mut out);
+                    let taken = connection.take(alloc, &mut worker, &mut handler, piece, &mut out);
                     taken.expect(&rt, "memory");
                 } else {
                     connection.feed(alloc, piece).expect(&rt, "memory");

@@ -180,9 +180,9 @@ impl Connection {
     ///
     /// # Errors
     ///
-    /// `TooMuchKept` where more bytes than `Limits::kept` would be kept then, and only there: a loop
-    /// may end the connection by `finish`. `NoMemory` where an allocation failed. Nothing was taken
-    /// then.
+    /// `TooMuchKept` where more bytes than `Limits::kept` would be kept then, and only there: a
+    /// loop may end the connection by `finish`. `NoMemory` where an allocation failed. Nothing
+    /// was taken then.
     pub fn feed(&mut self, alloc: Global, piece: &[u8]) -> Result<(), FeedError>
         ensures ok { OnOk result (self.new ≡ record {
           limits = self.old.limits;
