@@ -1,0 +1,14 @@
+//! Services of `hyper`, the engine that reads and writes connections of HTTP/1.1.
+#![tactic(auto)]
+
+mod body_channel;
+mod forwarder;
+mod head;
+mod reply_body;
+mod service;
+mod service_future;
+
+pub use body_channel::BodyReceiver;
+pub use reply_body::ReplyBody;
+pub use service::{HyperService, MakeExchange, SharedService};
+pub use service_future::ServiceFuture;
