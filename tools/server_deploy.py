@@ -80,7 +80,7 @@ class Servers:
             raise
 
     def started(self, name):
-        process = subprocess.Popen([self.program, str(self.ports[name])])
+        process = subprocess.Popen([self.program, str(self.ports[name]), "1"])
         server_figures.wait_for(self.ports[name])
         return process
 

@@ -14,7 +14,8 @@ ROUNDS = 9
 SECONDS = 2
 CONNECTIONS = 64
 SIDE_BY_SIDE = 1_000
-NGINX = """worker_processes 1; daemon off; pid {room}/pid; error_log stderr crit;
+THREADS = (1, 4)
+NGINX = """worker_processes {threads}; daemon off; pid {room}/pid; error_log stderr crit;
 events {{ worker_connections 12000; }}
 http {{ access_log off; keepalive_requests 1000000000; client_body_temp_path {room}/a; proxy_temp_path {room}/b;
 fastcgi_temp_path {room}/c; uwsgi_temp_path {room}/d; scgi_temp_path {room}/e;
@@ -74,27 +75,29 @@ def kilobytes(pid, name="VmRSS"):
     return total
 
 
-def programs(program, room):
-    """Each server that is there: its name, and what starts it on a port."""
-    yield "written", lambda port: [program, str(port)]
+def programs(ours, room, threads):
+    """Each server that is there: its name, what starts it on a port with so many threads, and its environment."""
+    for name in ("my_server", "hyper_server", "bare_hyper"):
+        yield name, lambda port, name=name: [ours[name], str(port), str(threads)], {}
     if shutil.which("nginx"):
         def nginx(port):
-            path = f"{room}/nginx.conf"
-            with open(path, "w", encoding="ascii") as it:
-                it.write(NGINX.format(room=room, port=port))
-            return ["nginx", "-p", room, "-c", path]
-        yield "nginx", nginx
+            own = f"{room}/nginx{threads}"
+            os.makedirs(own, exist_ok=True)
+            with open(f"{own}/nginx.conf", "w", encoding="ascii") as it:
+                it.write(NGINX.format(room=own, port=port, threads=threads))
+            return ["nginx", "-p", own, "-c", f"{own}/nginx.conf"]
+        yield "nginx", nginx, {}
     if shutil.which("go"):
         with open(f"{room}/hello.go", "w", encoding="ascii") as it:
             it.write(GO.format())
         built = subprocess.run(["go", "build", "-o", f"{room}/hello", f"{room}/hello.go"], check=False,
                                env={**os.environ, "GOCACHE": f"{room}/go", "GO111MODULE": "off"})
         if built.returncode == 0:
-            yield "Go net/http", lambda port: [f"{room}/hello", str(port)]
-    if shutil.which("node"):
+            yield "Go net/http", lambda port: [f"{room}/hello", str(port)], {"GOMAXPROCS": str(threads)}
+    if shutil.which("node") and threads == 1:
         with open(f"{room}/hello.js", "w", encoding="ascii") as it:
             it.write(NODE)
-        yield "node http", lambda port: ["node", f"{room}/hello.js", str(port)]
+        yield "node http", lambda port: ["node", f"{room}/hello.js", str(port)], {}
 
 
 def load(port, connections):
@@ -126,29 +129,42 @@ def memory(pid, port):
     return each
 
 
-def print_all(program):
+def print_with(ours, threads):
+    """The figures of all servers with so many threads, each against nginx."""
     with tempfile.TemporaryDirectory() as room, contextlib.ExitStack() as running:
         started = []
-        for name, words in programs(program, room):
+        for name, words, more in programs(ours, room, threads):
             port = free_port()
-            process = subprocess.Popen(words(port), stderr=subprocess.DEVNULL)
+            process = subprocess.Popen(words(port), stderr=subprocess.DEVNULL, env={**os.environ, **more})
             running.callback(lambda it=process: (it.terminate(), it.wait()))
             wait_for(port)
             started.append((name, process.pid, port))
         memories = {name: memory(pid, port) for name, pid, port in started}
-        if shutil.which("wrk") is None:
-            print("no wrk is there: no load was measured")
-        else:
-            times = {name: [] for name, _, _ in started}
-            for _ in range(ROUNDS):
-                for name, pid, port in started:
-                    times[name].append(request_time(pid, port, CONNECTIONS))
-            base = statistics.median(it[0] for it in times["written"])
-            for name, found in times.items():
-                middle = statistics.median(it[0] for it in found)
-                rate = statistics.median(it[1] for it in found)
-                faults = [fault for it in found for fault in it[3]]
-                print(f"{name:12} {middle:6.1f} us a request ({base / middle:.2f}), {rate:8.0f} requests a second, "
-                      f"p99 {found[len(found) // 2][2]} {faults or ''}")
-        for name, each in memories.items():
-            print(f"{name:12} {each:6.1f} kB a connection")
+        times = {name: [] for name, _, _ in started}
+        for _ in range(ROUNDS):
+            for name, pid, port in started:
+                times[name].append(request_time(pid, port, CONNECTIONS))
+        print(f"{threads} thread{'s' if threads > 1 else ''}, load {os.getloadavg()[0]:.1f}")
+        base = times.get("nginx", times["my_server"])
+        for name, found in times.items():
+            middle = statistics.median(it[0] for it in found)
+            pairs = statistics.median(it[0] / other[0] for it, other in zip(found, base))
+            rate = statistics.median(it[1] for it in found)
+            late = sorted((milliseconds(it[2]) for it in found))[len(found) // 2]
+            faults = [fault for it in found for fault in it[3]]
+            print(f"{name:12} {middle:6.1f} us a request ({pairs:.2f} of nginx), {rate:8.0f} requests a second, "
+                  f"p99 {late:.1f} ms, {memories[name]:5.1f} kB a connection {faults or ''}", flush=True)
+
+
+def milliseconds(text):
+    """What wrk writes as `1.20ms`, `850.00us` or `1.02s`."""
+    number, unit = re.fullmatch(r"([\d.]+)(us|ms|s|m)", text).groups()
+    return float(number) * {"us": 0.001, "ms": 1, "s": 1_000, "m": 60_000}[unit]
+
+
+def print_all(ours):
+    if shutil.which("wrk") is None:
+        print("no wrk is there: no load was measured")
+        return
+    for threads in THREADS:
+        print_with(ours, threads)

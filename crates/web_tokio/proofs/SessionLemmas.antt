@@ -3,7 +3,6 @@ use Rattle.std.proofs.Common.{◌≡◌, ℕ, ◌+◌, ◌<◌, ◌≤◌, ◌�
 use Rattle.std.specs.Prelude.{MatchOption, Result, Ok, Err}
 use Rattle.std.proofs.Math.Seq.{drop-nil}
 use Rattle.std.proofs.lemmas.List.{length-append}
-use Rattle.web_texts.specs.declared.memory.NoMemory.{NoMemory}
 use Rattle.web_worker.specs.Setting.{Setting}
 use Rattle.web_http1.specs.declared.answered.Answered.{Answered}
 use Rattle.web_http1.specs.declared.answered.Answered.TheVariants as answered
@@ -28,7 +27,7 @@ reads_after answered.Replied c w = λ e. absurd cc
 reads_after answered.Waits c w = λ e. w.0
 reads_after (answered.Ended f) c w = λ e. absurd cc
 
-pub reads_fed : (x : Result (Unit {0}) NoMemory) (c : ConnectionView) → ReadsNoMessage (stage_fed x) c
+pub reads_fed : {E : Type 0} (x : Result (Unit {0}) E) (c : ConnectionView) → ReadsNoMessage (stage_fed x) c
 reads_fed (Ok u) c = λ e. absurd cc
 reads_fed (Err f) c = λ e. absurd cc
 
@@ -46,7 +45,7 @@ sent_after answered.Replied due = tt
 sent_after answered.Waits due = tt
 sent_after (answered.Ended f) due = tt
 
-pub sent_fed : (x : Result (Unit {0}) NoMemory) (due : List ℕ) → SentBefore (stage_fed x) due
+pub sent_fed : {E : Type 0} (x : Result (Unit {0}) E) (due : List ℕ) → SentBefore (stage_fed x) due
 sent_fed (Ok u) due = tt
 sent_fed (Err f) due = tt
 

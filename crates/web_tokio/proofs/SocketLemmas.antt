@@ -2,7 +2,6 @@
 use Rattle.std.proofs.Common.{◌≡◌, ℕ, ◌⊎◌, inl, inr, List, [], ◌∷◌, ◌++◌, Option, None, Some, refl, sym, ap, ◌∙◌, subst, append_assoc, append-nil}
 use Rattle.std.specs.Prelude.{MatchOption, Result, Ok, Err, OnOk, ◌≤◌, length, drop, take}
 use Rattle.std.proofs.lemmas.List.{drop-append-le, take-append-drop}
-use Rattle.web_texts.specs.declared.memory.NoMemory.{NoMemory}
 use Rattle.web_request.specs.declared.source.Mark.{Mark}
 use Rattle.web_request.specs.Feed.{Feed}
 use Rattle.web_request.specs.Pool.{Pool}
@@ -332,7 +331,7 @@ module _ {S L D C V K : Type 0} (s : Setting S L D C V K) where
   on_sent c n due (stage.Lingers e left) ps result r = subst (λ (x : List ℕ). Sending e x (sent (take n due) ∷ ps) result) (take-append-drop n due) (sending_sent e (take n due) (drop n due) ps result r)
 
   -- a piece was taken, or there was no room for it
-  pub on_fed : (c new : ConnectionView) (piece due : List ℕ) (x : Result (Unit {0}) NoMemory) → OnOk x (new ≡ with_piece c piece) → (ps : List Passed) (result : SocketEnd)
+  pub on_fed : {E : Type 0} (c new : ConnectionView) (piece due : List ℕ) (x : Result (Unit {0}) E) → OnOk x (new ≡ with_piece c piece) → (ps : List Passed) (result : SocketEnd)
       → MayPass s new due (stage_fed x) ps result → Remaining s c due (came piece ∷ ps) result
   on_fed c new piece due (Ok x) is ps result r = after_piece s c piece due ps result (subst (λ (d : ConnectionView). Remaining s d due ps result) is r)
   on_fed c new piece due (Err e) is ps result r = after_none s c due (came piece ∷ ps) result (record { lost = r.lost; sent = r.sent; ends = r.ends })

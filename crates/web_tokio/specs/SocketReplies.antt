@@ -1,7 +1,6 @@
 -- What a connection over a socket may still read and write.
 use Rattle.std.specs.Prelude.{◌≡◌, ℕ, ◌⊎◌, ⊤, List, [], ◌∷◌, ◌++◌, Option, None, Some}
 use Rattle.std.specs.Prelude.{Result, Ok, Err}
-use Rattle.web_texts.specs.declared.memory.NoMemory.{NoMemory}
 use Rattle.web_request.specs.Pool.{Pool}
 use Rattle.web_worker.specs.Setting.{Setting}
 use Rattle.web_messages.specs.declared.limits.Limits.{Limits}
@@ -27,7 +26,7 @@ stage_after answered.Replied = stage.Answers
 stage_after answered.Waits = stage.Reads
 stage_after (answered.Ended e) = stage.Ends (Some e)
 
-abbrev pub stage_fed : Result (Unit {0}) NoMemory → Stage
+abbrev pub stage_fed : {E : Type 0} → Result (Unit {0}) E → Stage
 stage_fed (Ok x) = stage.Answers
 stage_fed (Err e) = stage.Ends (Some ended.NoMemory)
 

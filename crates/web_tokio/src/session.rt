@@ -10,7 +10,6 @@ use std::alloc::Global;
 use std::marker::{Model, PhantomData};
 use web_http1::{Answered, Connection, Ended};
 use web_request::App;
-use web_texts::NoMemory;
 use web_worker::{Serves, Service, Worker};
 
 /// No more records are made than this, and no more bytes kept: 2^62.
@@ -100,12 +99,12 @@ fn stage_after(answered: Answered) -> Stage
 }
 
 /// What is done after a piece was taken, or not.
-fn stage_fed(fed: Result<(), NoMemory>) -> Stage
+fn stage_fed<E: Drop>(fed: Result<(), E>) -> Stage
     ensures { result ≡ stage_fed fed }
 {
     match fed {
         Ok(()) => Stage::Answers,
-        Err(NoMemory) => Stage::Ends(Some(Ended::NoMemory)),
+        Err(_) => Stage::Ends(Some(Ended::NoMemory)),
     }
 }
 

@@ -17,7 +17,7 @@ pub struct SocketSettings {
 impl Default for SocketSettings {
     fn default() -> SocketSettings {
         SocketSettings {
-            read_size: 2_048,
+            read_size: 1_024,
             send_size: 16_384,
             budget: 16,
             linger_size: 262_144,
