@@ -1,8 +1,8 @@
 -- One answer, and the stages of a session.
-use Rattle.std.proofs.Common.{◌≡◌, ℕ, ◌+◌, ◌<◌, ◌≤◌, ◌⊎◌, inl, inr, Bool, true, false, List, [], ◌∷◌, ◌++◌, length, drop, Option, None, Some, refl, sym, ap, ◌∙◌, subst, arith, append_assoc, append-nil}
+use Rattle.std.proofs.Common.{◌≡◌, ℕ, ◌+◌, ◌<◌, ◌≤◌, ◌==◌, ◌⊎◌, inl, inr, Bool, true, false, List, [], ◌∷◌, ◌++◌, length, drop, Option, None, Some, refl, sym, ap, ◌∙◌, subst, arith, append_assoc, append-nil}
 use Rattle.std.specs.Prelude.{MatchOption, Result, Ok, Err}
 use Rattle.std.proofs.Math.Seq.{drop-nil}
-use Rattle.std.proofs.lemmas.List.{length-append}
+use Rattle.std.proofs.lemmas.List.{drop-drop, drop_all, length-append, length-drop}
 use Rattle.web_worker.specs.Setting.{Setting}
 use Rattle.web_http1.specs.declared.answered.Answered.{Answered}
 use Rattle.web_http1.specs.declared.answered.Answered.TheVariants as answered
@@ -19,6 +19,24 @@ use Rattle.web_tokio.specs.declared.stage.Stage.TheVariants as stage
 pub open_at_most : (e : Option Ended) (n : ℕ) → open_bytes e n ≤ n
 open_at_most None n = omega arith
 open_at_most (Some e) n = omega arith
+
+-- ---- counts
+
+pub sent_inside : (n count : ℕ) (out : List ℕ) → n ≤ length out → count ≤ length (drop n out) → n + count ≤ length out
+sent_inside n count out inside h = omega (arith, length-drop n out)
+
+pub drop_sent : (n count : ℕ) (out : List ℕ) → drop (n + count) out ≡ drop count (drop n out)
+drop_sent n count out = sym (drop-drop count n out)
+
+pub all_sent : (n count : ℕ) (out : List ℕ) → length out ≤ n + count → drop count (drop n out) ≡ []
+all_sent n count out h = sym (drop_sent n count out) ∙ drop_all (n + count) out h
+
+pub none_of : (xs : List ℕ) (b : Bool) → b ≡ (length xs == 0) → b ≡ true → xs ≡ []
+none_of [] b is yes = refl
+none_of (x ∷ xs) b is yes = absurd (cc (is, yes))
+
+pub grown_inside : (n : ℕ) (before behind tail : List ℕ) → n ≤ length before → behind ≡ before ++ tail → n ≤ length behind
+grown_inside n before behind tail inside is = let l = ap length is ∙ length-append before tail in omega (arith, l)
 
 -- ---- stages
 

@@ -84,6 +84,13 @@ ends_so : (c : ConnectionView) (e f : Ended) → Some e ≡ Some f → (c.ended 
 ends_so c e f same (inl is) = inl (not_none c.ended e is, ended_finishes c f (is ∙ same))
 ends_so c e f same (inr is) = inr (sym (some_same e f same) ∙ is, refl)
 
+-- what was written at the end of the bytes
+pub finish_grows : (c : ConnectionView) (e : Ended) (before behind : List ℕ) (o : Option Ended) → MatchOption o (FinishesWith c.limits c.left e before behind) (λ f. (e ≡ f) × (behind ≡ before))
+    → (tail : List ℕ) × (behind ≡ before ++ tail)
+finish_grows c e before behind None (inl h) = (h.0, h.1)
+finish_grows c e before behind None (inr h) = ([], h.1 ∙ sym (append-nil before))
+finish_grows c e before behind (Some f) h = ([], h.1 ∙ sym (append-nil before))
+
 -- ---- steps of a connection that is answered still
 
 module _ {S L D C V K : Type 0} (s : Setting S L D C V K) where
@@ -335,6 +342,14 @@ module _ {S L D C V K : Type 0} (s : Setting S L D C V K) where
       → MayPass s new due (stage_fed x) ps result → Remaining s c due (came piece ∷ ps) result
   on_fed c new piece due (Ok x) is ps result r = after_piece s c piece due ps result (subst (λ (d : ConnectionView). Remaining s d due ps result) is r)
   on_fed c new piece due (Err e) is ps result r = after_none s c due (came piece ∷ ps) result (record { lost = r.lost; sent = r.sent; ends = r.ends })
+
+  -- the peer's bytes ended
+  pub on_finished : (c : ConnectionView) (n : ℕ) (before behind : List ℕ) (e : Ended) → n ≤ length before → WaitsForMore c → Finishes c e before behind
+      → (ps : List Passed) (result : SocketEnd) → Sending (Some e) (drop n behind) ps result → Remaining s c (drop n before) ps result
+  on_finished c n before behind e inside waits h ps result r =
+      let g = finish_grows c e before behind c.ended h in
+      after_finish s c before g.0 (drop n before) e ps result waits (subst (λ (t : List ℕ). Finishes c e before t) g.1 h)
+      (subst (λ (t : List ℕ). Sending (Some e) t ps result) (ap (drop n) g.1 ∙ drop-append-le n before g.0 inside) r)
 
   -- a stage of a connection that has ended
   pub on_followed : (c : ConnectionView) (due : List ℕ) (old new : Stage) → MayFollow old new → (ps : List Passed) (result : SocketEnd) → MayPass s c due new ps result → MayPass s c due old ps result

@@ -1,6 +1,10 @@
 -- What may pass a socket before and after a turn.
 use Rattle.std.proofs.Common.{◌≡◌, ℕ, List, [], ◌∷◌, Option, None, Some, refl, sym, subst}
 use Rattle.std.specs.Prelude.{drop, take}
+use Rattle.std.specs.declared.io.Error.{Error}
+use Rattle.futures.specs.Poll.{IfReady, OnPending}
+use Rattle.futures.specs.declared.task.Poll.{Poll}
+use Rattle.futures.specs.declared.task.Poll.TheVariants.{Ready, Pending}
 use Rattle.web_request.specs.Pool.{Pool}
 use Rattle.web_worker.specs.Setting.{Setting}
 use Rattle.web_http1.specs.declared.ended.Ended.{Ended}
@@ -18,6 +22,18 @@ use Rattle.web_tokio.proofs.SocketLemmas.{on_followed, on_nothing, on_sent, on_s
 pub end_of_ended : (o : Option Ended) (f : Ended) → end_of o ≡ end.Ended f → o ≡ Some f
 end_of_ended None f is = absurd cc
 end_of_ended (Some e) f is = cc
+
+-- ---- polls
+
+pub if_ready : {A : Type 0} (p : Poll A) (P Q : A → Type 0) → ((x : A) → P x → Q x) → IfReady p P → IfReady p Q
+if_ready Pending P Q f h = tt
+if_ready (Ready x) P Q f h = f x h
+
+pub on_pending : {A : Type 0} (p : Poll A) (P Q R : Type 0) → (P → Q → R) → OnPending p P → OnPending p Q → OnPending p R
+on_pending Pending P Q R f h k = f h k
+on_pending (Ready x) P Q R f h k = tt
+
+-- ---- turns
 
 module _ {S L D C V K P I : Type 0} (setting : P → Pool L → Setting S L D C V K) (reads writes : I → List ℕ → I → Type 0) where
   pub leads_on : (a b c : I) (v w x : SessionView P L) → Leads setting reads writes a v b w → Leads setting reads writes b w c x → Leads setting reads writes a v c x
@@ -63,9 +79,35 @@ module _ {S L D C V K P I : Type 0} (setting : P → Pool L → Setting S L D C 
 
   -- it ended, and all was sent
   pub serves_ended : (a : I) (v : SessionView P L) (e : Option Ended) → v.stage ≡ stage.Ends e → v.due ≡ [] → MayServe setting reads writes a v (end_of e)
-  serves_ended a v e is none = ([], a, refl,
-      subst (λ (t : Stage). MayPass (setting v.service v.pool) v.connection v.due t [] (end_of e)) (sym is) (sending_ends e v.due (end_of e) none (end_of_ended e)))
+  serves_ended a v e is none = (
+    [],
+    a,
+    refl,
+    subst (λ (t : Stage). MayPass (setting v.service v.pool) v.connection v.due t [] (end_of e)) (sym is) (sending_ends e v.due (end_of e) none (end_of_ended e)),
+  )
 
   pub serves_lingered : (a : I) (v : SessionView P L) (e : Option Ended) (left : ℕ) → v.stage ≡ stage.Lingers e left → v.due ≡ [] → MayServe setting reads writes a v (end_of e)
-  serves_lingered a v e left is none = ([], a, refl,
-      subst (λ (t : Stage). MayPass (setting v.service v.pool) v.connection v.due t [] (end_of e)) (sym is) (sending_ends e v.due (end_of e) none (end_of_ended e)))
+  serves_lingered a v e left is none = (
+    [],
+    a,
+    refl,
+    subst (λ (t : Stage). MayPass (setting v.service v.pool) v.connection v.due t [] (end_of e)) (sym is) (sending_ends e v.due (end_of e) none (end_of_ended e)),
+  )
+
+  -- the socket failed
+  pub serves_failed : (a : I) (v : SessionView P L) (x : Error) → MayServe setting reads writes a v (end.Failed x)
+  serves_failed a v x = serves_stopped a v (end.Failed x) (λ e is. absurd (cc (is)))
+
+  -- the peer took too long
+  pub serves_late : (a : I) (v : SessionView P L) → MayServe setting reads writes a v end.TimeUp
+  serves_late a v = serves_stopped a v end.TimeUp (λ e is. absurd (cc (is)))
+
+  -- the writing side was shut down
+  pub leads_shut : (a b : I) (v : SessionView P L) (e : Option Ended) (left : ℕ) → v.stage ≡ stage.Ends e → writes a [] b
+      → Leads setting reads writes a v b (record v { stage = stage.Lingers e left })
+  leads_shut a b v e left is w = leads_on a b b v v (record v { stage = stage.Lingers e left }) (leads_none_sent a b v w)
+      (leads_stage b v (stage.Lingers e left) (subst (λ (t : Stage). MayFollow t (stage.Lingers e left)) (sym is) refl))
+
+  -- the socket stays as it was while the peer is waited for
+  pub leads_kept : (a b : I) (v w : SessionView P L) → w ≡ v → b ≡ a → Leads setting reads writes a v b w
+  leads_kept a b v w same io result m = subst (λ (x : SessionView P L). MayServe setting reads writes a x result) same (subst (λ (i : I). MayServe setting reads writes i w result) io m)

@@ -26,15 +26,15 @@ module _
     {S L D C V K P I : Type 0}
     (setting : P → Pool L → Setting S L D C V K)
     (reads writes : I → List ℕ → I → Type 0)
-    where
-  -- from the one state to the other: what may pass and how it may end then, with what passed
-  abbrev pub Leads : I → SessionView P L → I → SessionView P L → Type 0
-  Leads a v b w =
-      (result : SocketEnd) → MayServe setting reads writes b w result
-      → MayServe setting reads writes a v result
+  where
+    -- from the one state to the other: what may pass and how it may end then, with what passed
+    abbrev pub Leads : I → SessionView P L → I → SessionView P L → Type 0
+    Leads a v b w =
+        (result : SocketEnd) → MayServe setting reads writes b w result
+        → MayServe setting reads writes a v result
 
-  -- where the connection is over, it may end so
-  abbrev pub Turns : I → SessionView P L → Turn → I → SessionView P L → Type 0
-  Turns a v turn.Goes b w = Leads a v b w
-  Turns a v (turn.Waits awaited) b w = Leads a v b w
-  Turns a v (turn.Over result) b w = MayServe setting reads writes a v result
+    -- where the connection is over, it may end so
+    abbrev pub Turns : I → SessionView P L → Turn → I → SessionView P L → Type 0
+    Turns a v turn.Goes b w = Leads a v b w
+    Turns a v (turn.Waits awaited) b w = Leads a v b w
+    Turns a v (turn.Over result) b w = MayServe setting reads writes a v result

@@ -1,5 +1,5 @@
 //! A connection with the worker and the service that serve it.
-ghost use Rattle.std.specs.Prelude.{◌≡◌, ◌+◌, ◌<◌, ◌≤◌, ◌^◌, true};
+ghost use Rattle.std.specs.Prelude.{◌≡◌, ◌+◌, ◌<◌, ◌^◌, [], true};
 ghost use Rattle.web_worker.specs.PlanPools.{with_records};
 ghost use Rattle.web_http1.specs.Connections.{bytes_open};
 ghost use Rattle.web_http1.specs.OneAnswer.{WaitsWhere};
@@ -108,8 +108,18 @@ fn stage_fed<E: Drop>(fed: Result<(), E>) -> Stage
     }
 }
 
+/// Drops all bytes, and the room of them where it is large.
+fn empty(alloc: Global, out: &mut Vec<u8>)
+    ensures { out.new.items ≡ [] }
+{
+    out.clear();
+    if out.capacity() > KEPT_ROOM {
+        *out = Vec::new(alloc);
+    }
+}
+
 impl<A: App, Args, S: Service<A, Args> + Drop> Session<A, Args, S> {
-    ghost use Rattle.std.specs.Prelude.{◌≡◌, ◌≤◌, ◌∷◌, List, drop, length};
+    ghost use Rattle.std.specs.Prelude.{◌≡◌, ◌≤◌, ◌∷◌, List, drop, length, take, true};
     ghost use Rattle.web_tokio.specs.Sessions.{SentBefore, new_session};
     ghost use Rattle.web_tokio.specs.SocketReplies.{MayFollow, SessionPasses};
     ghost use Rattle.web_tokio.specs.Traffic.{Passed};
@@ -137,9 +147,17 @@ impl<A: App, Args, S: Service<A, Args> + Drop> Session<A, Args, S> {
     }
 
     pub(crate) fn stage(&self) -> Stage
-        ensures { result ≡ self.now.stage }
+        ensures stage { result ≡ self.now.stage }
+        ensures sent { SentBefore result self.now.due }
     {
         self.stage
+    }
+
+    /// Whether a message may be whole.
+    pub(crate) fn may_answer(&self) -> bool
+        ensures { result ≡ true → self.now.stage ≡ Stage.Answers }
+    {
+        matches!(self.stage, Stage::Answers)
     }
 
     pub(crate) fn set_stage(&mut self, stage: Stage)
@@ -160,16 +178,16 @@ impl<A: App, Args, S: Service<A, Args> + Drop> Session<A, Args, S> {
     /// Counts bytes as sent.
     pub(crate) fn count_sent(&mut self, count: usize)
         requires { count ≤ length self.old.due }
-        ensures sent { self.new ≡ record self.old { due = drop count self.old.due } }
+        ensures { self.new ≡ record self.old { due = drop count self.old.due } }
     {
-        self.sent += count;
-        if self.sent == self.out.len() {
-            self.sent = 0;
-            self.out.clear();
-            if self.out.capacity() > KEPT_ROOM {
-                self.out = Vec::new(self.alloc);
-            }
+        let written = self.out.len();
+        let sent = self.sent + count;
+        if sent < written {
+            self.sent = sent;
+            return;
         }
+        self.sent = 0;
+        empty(self.alloc, &mut self.out);
     }
 
     /// Answers the next message, where it is whole. Returns whether it did.
@@ -186,7 +204,8 @@ impl<A: App, Args, S: Service<A, Args> + Drop> Session<A, Args, S> {
             &mut self.connection,
             &mut self.out,
         );
-        self.stage = stage_after(answered);
+        let stage = stage_after(answered);
+        self.stage = stage;
         answered == Answered::Replied
     }
 
@@ -199,7 +218,8 @@ impl<A: App, Args, S: Service<A, Args> + Drop> Session<A, Args, S> {
             (Passed.came piece.now ∷ ps) end }
     {
         let fed = self.connection.feed(self.alloc, piece);
-        self.stage = stage_fed(fed);
+        let stage = stage_fed(fed);
+        self.stage = stage;
     }
 
     /// Ends where the peer's bytes do.
@@ -226,6 +246,19 @@ impl<A: App, Args, S: Service<A, Args> + Drop> Session<A, Args, S> {
         } else {
             self.take(piece);
         }
+    }
+
+    /// Takes so many bytes of the room that they were read into. None is the end of the peer's
+    /// bytes.
+    pub(crate) fn take_from(&mut self, room: &[u8], count: usize)
+        requires stage { self.old.stage ≡ Stage.Reads }
+        requires inside { count ≤ length room.now }
+        ensures on { (ps : List Passed) (end : EndOf)
+            → SessionPasses ⟦<S as Serves<A, Args>>⟧.setting self.new ps end
+            → SessionPasses ⟦<S as Serves<A, Args>>⟧.setting self.old
+            (Passed.came (take count room.now) ∷ ps) end }
+    {
+        self.take_read(&room[..count]);
     }
 
     /// Whether no part of a message is left.

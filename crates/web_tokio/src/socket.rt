@@ -90,9 +90,8 @@ where
         ensures leads { Leads ⟦<S as Serves<A, Args>>⟧.setting I.reads I.writes self.old.io
             self.old.session self.new.io self.new.session }
     {
-        if self.session.answer() {
-            self.replies = self.replies.wrapping_add(1);
-        }
+        let is_replied = self.session.answer();
+        self.replies = self.replies.wrapping_add(u64::from(is_replied));
     }
 
     /// Sends some of what is there.
@@ -148,7 +147,7 @@ where
             Poll::Pending if is_idle => Turn::Waits(Awaited::Message),
             Poll::Pending => Turn::Waits(Awaited::Rest),
             Poll::Ready(Ok(count)) => {
-                self.session.take_read(&self.room[..count]);
+                self.session.take_from(&self.room, count);
                 Turn::Goes
             }
             Poll::Ready(Err(e)) => Turn::Over(SocketEnd::Failed(e)),
@@ -226,7 +225,7 @@ where
         ensures kept { Keeps cx.old cx.new }
     {
         let due = self.session.due().len();
-        if self.session.stage() == Stage::Answers && due < self.settings.send_size {
+        if due < self.settings.send_size && self.session.may_answer() {
             self.answer();
             return Turn::Goes;
         }
@@ -252,10 +251,10 @@ where
         if !self.timer.is_up(cx, awaited, self.replies) {
             return Poll::Pending;
         }
-        match self.session.stage() {
-            Stage::Lingers(ended, _) => Poll::Ready(end_of(ended)),
-            Stage::Answers | Stage::Reads | Stage::Ends(_) => Poll::Ready(SocketEnd::TimeUp),
+        if let Stage::Lingers(ended, _) = self.session.stage() {
+            return Poll::Ready(end_of(ended));
         }
+        Poll::Ready(SocketEnd::TimeUp)
     }
 }
 
