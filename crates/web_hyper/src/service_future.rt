@@ -150,8 +150,7 @@ impl<A: App, Args, S: Service<A, Args> + Drop, I: Drop> ServiceFuture<A, Args, S
     }
 }
 
-impl<A: App, Args, S: Service<A, Args> + Drop, I: Drop> Future
-    for ServiceFuture<A, Args, S, I> {
+impl<A: App, Args, S: Service<A, Args> + Drop, I: Drop> Future for ServiceFuture<A, Args, S, I> {
     type Output = io::Result<Response<ReplyBody<I, A::Source>>>;
 
     fn poll(&mut self, cx: &mut Context<'_>) -> Poll<Self::Output> {
