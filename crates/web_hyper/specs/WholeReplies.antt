@@ -13,7 +13,8 @@ abbrev pub with_body : {S L D C : Type 0} → ExchangeView S L D C → List ℕ 
 with_body x bytes = record x { body = payload.Whole bytes }
 
 -- the same reply, or none
-abbrev pub WholePolled : {R E : Type 0} → Poll (Result R NoMemory) → Poll (Result R (WholeError E)) → Type 0
+abbrev pub WholePolled : {R E : Type 0} → Poll (Result R NoMemory)
+    → Poll (Result R (WholeError E)) → Type 0
 WholePolled Pending new = new ≡ Pending
 WholePolled (Ready (Ok r)) new = new ≡ Ready (Ok r)
 WholePolled (Ready (Err e)) new = new ≡ Ready (Err whole_error.NoMemory)

@@ -76,9 +76,9 @@ fn polled<R: Drop, E>(polled: Poll<Result<R, NoMemory>>) -> Poll<Result<R, Whole
 }
 
 impl<A: App, Args, S: Service<A, Args> + Drop, F: Drop> WholeAnswering<A, Args, S, F> {
-    /// A future that answers this exchange with the body that this future collects. It gives a reply
-    /// that the exchange may have then by what the service promises; where it can have only one,
-    /// that one.
+    /// A future that answers this exchange with the body that this future collects. It gives a
+    /// reply that the exchange may have then by what the service promises; where it can have only
+    /// one, that one.
     ///
     /// It may be polled where the body may be, the service may be called (`Service::ready`) and the
     /// worker can count one more record.
