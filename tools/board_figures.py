@@ -72,13 +72,33 @@ def free_port():
         return it.getsockname()[1]
 
 
+def spent():
+    """Seconds of processor time of the servers, which are what this process started, with what these started."""
+    parents, times = {}, {}
+    for name in filter(str.isdigit, os.listdir("/proc")):
+        with contextlib.suppress(OSError), open(f"/proc/{name}/stat", encoding="utf-8") as it:
+            found = it.read().rpartition(")")[2].split()
+            parents[int(name)], times[int(name)] = int(found[1]), sum(map(int, found[11:15]))
+    total = 0
+    for process, ticks in times.items():
+        above = process
+        while above in parents and above != os.getpid():
+            above = parents[above]
+        if above == os.getpid() and process != above:
+            total += ticks
+    return total / os.sysconf("SC_CLK_TCK")
+
+
 def rate(port, script, names):
-    """Requests a second by wrk. Nothing may be refused."""
+    """Requests a second by wrk, how many there were, the servers' processor time, and what was refused, which is to be
+    nothing."""
     words = ["wrk", "-t", "1", "-c", str(CLIENTS), "-d", str(SECONDS), "--timeout", "20", "-s", script,
              f"http://127.0.0.1:{port}"]
+    before = spent()
     told = subprocess.run(words, check=True, capture_output=True, text=True, env={**os.environ, "NAMES": names}).stdout
     faults = re.findall(r"(?m)^ *(Non-2xx .*|Socket errors: .*)$", told)
-    return float(re.search(r"Requests/sec: *([\d.]+)", told)[1]), "; ".join(faults)
+    count = int(re.search(r"(\d+) requests in", told)[1])
+    return float(re.search(r"Requests/sec: *([\d.]+)", told)[1]), count, spent() - before, "; ".join(faults)
 
 
 def first_reply(words, port=None):
@@ -104,7 +124,7 @@ def first_reply(words, port=None):
 
 def measure(program, folder, front):
     """Prints a row for each server: the best of the rounds, which are in turn, since what else the machine does takes from
-    all. `front` is the board behind HAProxy, in a folder."""
+    all, and the processor time of a request, which is the same on a busy machine. `front` is the board behind HAProxy, in a folder."""
     scripts = {"reads": READS, "inserts": INSERTS}
     for name, text in scripts.items():
         with open(os.path.join(folder, name), "w", encoding="utf-8") as it:
@@ -131,9 +151,12 @@ def measure(program, folder, front):
                 for what in scripts:
                     found = rate(port, os.path.join(folder, what), f"{name}-{number}")
                     rates.setdefault((name, what), []).append(found)
+    print(f"load of the machine: {os.getloadavg()[0]:.0f}, processors: {os.cpu_count()}")
     for (name, what), found in rates.items():
-        best, faults = max(found)
-        print(f"{name}: {best:,.0f} {what} a second, least {min(found)[0]:,.0f}{faults and f' ({faults})'}")
+        best, _, _, faults = max(found)
+        each = sum(it[2] for it in found) / max(sum(it[1] for it in found), 1)
+        print(f"{name}: {best:,.0f} {what} a second, least {min(found)[0]:,.0f}, {each * 1e6:,.0f} us of processor each"
+              f"{faults and f' ({faults})'}")
     for name, found in firsts.items():
         print(f"{name}: the first reply of a new process behind {min(found) * 1000:.1f} ms, "
               f"median {sorted(found)[len(found) // 2] * 1000:.1f}")

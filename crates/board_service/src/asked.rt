@@ -19,7 +19,7 @@ use web_request::HttpRequest;
 use web_texts::{Fail, NoMemory};
 
 /// What a request asks of the board, and under which path: an argument of handlers.
-#[derive(Debug, Drop)]
+#[derive(Drop)]
 pub struct Asked {
     pub route: Route,
     pub ask: Ask,
@@ -59,6 +59,7 @@ fn form_draft(
 }
 
 /// Whether a method reads.
+#[tactic(auto, using(crate::proofs::AskLemmas::same_text))]
 fn reads(method: &Method) -> bool
     ensures { result ≡ true → Reads method.now }
 {
@@ -81,6 +82,7 @@ fn ask_home(
 }
 
 /// What is asked by the form.
+#[tactic(auto, using(crate::proofs::AskLemmas::same_text))]
 fn ask_form(
     alloc: Global,
     request: &HttpRequest<Site>,
@@ -96,6 +98,7 @@ fn ask_form(
 }
 
 /// What is asked of the items.
+#[tactic(auto, using(crate::proofs::AskLemmas::same_text))]
 fn ask_items(
     alloc: Global,
     request: &HttpRequest<Site>,
@@ -114,6 +117,7 @@ fn ask_items(
 }
 
 /// What is asked of one item.
+#[tactic(auto, using(crate::proofs::AskLemmas::same_text))]
 fn ask_item(
     alloc: Global,
     request: &HttpRequest<Site>,

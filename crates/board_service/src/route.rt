@@ -5,7 +5,7 @@ ghost use Rattle.board_service.specs.BoardAsks.{IsItemPath, LeadsTo};
 use http_header::HeaderValue;
 
 /// What is there under a path.
-#[derive(Clone, Copy, Debug, PartialEq, Eq)]
+#[derive(Clone, Copy, Debug)]
 pub enum Route {
     Home,
     Form,
@@ -15,6 +15,7 @@ pub enum Route {
 }
 
 /// The number of the item whose path this is.
+#[tactic(auto, using(crate::proofs::AskLemmas::item_path))]
 fn item_of(path: &str) -> Option<i64>
     ensures { IfSome result (IsItemPath path.now) }
 {
@@ -26,6 +27,7 @@ fn item_of(path: &str) -> Option<i64>
 
 impl Route {
     /// The route of a path, or `None`.
+    #[tactic(auto, using(crate::proofs::AskLemmas::same_text))]
     pub fn of(path: &str) -> Option<Route>
         ensures { IfSome result (LeadsTo path.now) }
     {

@@ -1,5 +1,5 @@
 //! Answers of the board as responses.
-ghost use Rattle.std.specs.Prelude.{◌≡◌, IfOk};
+ghost use Rattle.std.specs.Prelude.{◌≡◌, IfOk, false};
 ghost use Rattle.board_service.specs.BoardResponses.{
   IsPage,
   RefusesDraft,
@@ -13,7 +13,10 @@ ghost use Rattle.board_service.specs.BoardResponses.{
   json_response,
   see_other_response,
 };
-ghost use Rattle.serde_json.specs.Written.{compact_text};
+ghost use Rattle.board_store.specs.Item.{data_of_item};
+ghost use Rattle.board_store.specs.Listing.{data_of_listing};
+ghost use Rattle.serde_json.specs.View.{view};
+ghost use Rattle.serde_json.specs.Written.{has_float};
 ghost use Rattle.board_service.specs.BoardStatuses.{refusal_status, told_status};
 
 use crate::asked::Asked;
@@ -25,6 +28,7 @@ use board_store::{Ask, BoardError, Draft, Item, Listing, Told};
 use bytes::Bytes;
 use http::StatusCode;
 use http_header::{CACHE_CONTROL, CONTENT_SECURITY_POLICY, CONTENT_TYPE, HeaderValue, LOCATION};
+use serde_json::Value;
 use std::alloc::Global;
 use web_codec::WriteData;
 use web_reply::{HttpResponse, Responder, WholeBody};
@@ -36,7 +40,7 @@ const POLICY: &str = "default-src 'none'; form-action 'self'; base-uri 'none'; \
     frame-ancestors 'none'";
 
 /// What was asked, and what the board answered.
-#[derive(Debug, Drop)]
+#[derive(Drop)]
 pub struct Shown {
     pub asked: Asked,
     pub told: Result<Told, BoardError>,
@@ -57,29 +61,39 @@ fn page(alloc: Global, status: StatusCode, html: Text) -> Result<Reply, NoMemory
     Ok(reply)
 }
 
-/// The JSON of a value.
-fn json_body<T: WriteData>(alloc: Global, value: &T) -> Result<WholeBody, NoMemory>
-    ensures { IfOk result (λ body. body ≡ WholeBody.Bytes (compact_text (T.written value.now))) }
+/// A response with JSON that holds no float.
+fn json(alloc: Global, status: StatusCode, value: &Value) -> Result<Reply, NoMemory>
+    requires { has_float (view value.now) ≡ false }
+    ensures { IfOk result (λ reply. reply ≡ json_response status (view value.now)) }
 {
-    let text = value.write_data(alloc)?.to_string(alloc)?;
-    Ok(WholeBody::Bytes(Bytes::from_string(text)?))
-}
-
-/// A response with a value as JSON.
-fn json<T: WriteData>(alloc: Global, status: StatusCode, value: &T) -> Result<Reply, NoMemory>
-    ensures { IfOk result (λ reply. reply ≡ json_response status (T.written value.now)) }
-{
-    let mut reply = HttpResponse::with_body(alloc, status, json_body(alloc, value)?);
+    let bytes = Bytes::from_string(value.to_string(alloc)?)?;
+    let mut reply = HttpResponse::with_body(alloc, status, WholeBody::Bytes(bytes));
     let kind = HeaderValue::from_static("application/json");
     insert(&mut reply, CONTENT_TYPE, kind)?;
     Ok(reply)
+}
+
+#[tactic(auto, using(crate::proofs::ReplyLemmas::item_view))]
+fn item_json(alloc: Global, status: StatusCode, item: &Item) -> Result<Reply, NoMemory>
+    ensures { IfOk result (λ reply. reply ≡ json_response status (data_of_item item.now)) }
+{
+    let value = item.write_data(alloc)?;
+    json(alloc, status, &value)
+}
+
+#[tactic(auto, using(crate::proofs::ReplyLemmas::listing_view))]
+fn listing_json(alloc: Global, listing: &Listing) -> Result<Reply, NoMemory>
+    ensures { IfOk result (λ reply. reply ≡ json_response 200 (data_of_listing listing.now)) }
+{
+    let value = listing.write_data(alloc)?;
+    json(alloc, StatusCode::OK, &value)
 }
 
 /// 201 with the item, and where it is.
 fn created(alloc: Global, item: &Item) -> Result<Reply, NoMemory>
     ensures { IfOk result (λ reply. reply ≡ created_response item.now) }
 {
-    let mut reply = json(alloc, StatusCode::CREATED, item)?;
+    let mut reply = item_json(alloc, StatusCode::CREATED, item)?;
     let path = format!(in alloc; "/items/{}", item.id)?;
     match HeaderValue::from_str(alloc, path.as_str()) {
         Ok(target) => insert(&mut reply, LOCATION, target)?,
@@ -103,7 +117,7 @@ fn show_listing(alloc: Global, route: Route, listing: &Listing) -> Result<Reply,
 {
     match route {
         Route::Home => page(alloc, StatusCode::OK, listing_page(alloc, listing)?),
-        _ => json(alloc, StatusCode::OK, listing),
+        _ => listing_json(alloc, listing),
     }
 }
 
@@ -124,7 +138,7 @@ fn show_item(alloc: Global, asked: &Asked, item: &Item) -> Result<Reply, NoMemor
 {
     match &asked.ask {
         Ask::Add(_) => show_added(alloc, asked.route, item),
-        _ => json(alloc, StatusCode::OK, item),
+        _ => item_json(alloc, StatusCode::OK, item),
     }
 }
 
