@@ -1,9 +1,10 @@
+pub mod PayloadTurnLemmas
+pub mod PiecesLemmas
 pub mod LineLemmas
 pub mod ScheduleLemmas
 pub mod LineMemoryLemmas
 pub mod LineCutLemmas
-pub mod LineTurnLemmas
-pub mod NextLineLemmas
-pub mod BufferLemmas
+pub mod LineDecoderLemmas
 pub mod LineCuttingLemmas
 pub mod FirstNewlineLemmas
+pub mod ReadlinesLemmas

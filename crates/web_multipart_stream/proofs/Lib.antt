@@ -1,3 +1,4 @@
 pub mod ScheduleLemmas
-pub mod TurnLemmas
+pub mod PartDecoderLemmas
 pub mod StreamLemmas
+pub mod StreamPollLemmas

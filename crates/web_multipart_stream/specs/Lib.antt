@@ -3,5 +3,5 @@ pub mod FormBoundaries
 pub mod PartSchedules
 pub mod ScheduleLaws
 pub mod StreamViews
-pub mod PartTurns
+pub mod PartDecoding
 pub mod PartStreams

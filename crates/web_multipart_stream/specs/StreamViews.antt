@@ -7,14 +7,14 @@ use Rattle.web_body.specs.HeadTests.{content_encoding, is_coded_of}
 use Rattle.web_body.specs.declared.message_body.PayloadError.TheVariants.{UnsupportedEncoding}
 use Rattle.web_body.specs.declared.payload.Payload.{Payload}
 use Rattle.web_body.specs.declared.payload.Payload.TheVariants as kind
+use Rattle.web_lines.specs.declared.pieces.Progress.{Progress}
+use Rattle.web_lines.specs.declared.pieces.Progress.TheVariants.{Over, Reading, Refused}
 use Rattle.web_multipart_parts.specs.PartReading.{Reader, new_reader}
 use Rattle.web_multipart_stream.specs.FormBoundaries.{boundary_of}
 use Rattle.web_multipart_stream.specs.PartSchedules.{Failed, Schedule, ended, schedule}
 use Rattle.web_multipart_stream.specs.MultipartErrors.{IfIo}
+use Rattle.web_multipart_stream.specs.declared.error.MultipartError.{MultipartError}
 use Rattle.web_multipart_stream.specs.declared.error.MultipartError.TheVariants as multipart
-use Rattle.web_multipart_stream.specs.declared.stream.StreamState.{StreamState}
-use Rattle.web_multipart_stream.specs.declared.stream.StreamState.TheVariants.{Over, Reading}
-use Rattle.web_multipart_stream.specs.declared.stream.StreamState.TheVariants.{Refused}
 
 pub record StreamView (S : Type 0) : Type 0 where
   -- what is left of the payload that was taken
@@ -23,16 +23,16 @@ pub record StreamView (S : Type 0) : Type 0 where
   pub reader : Reader
   -- the number of bytes of the last piece that came, and 0 before the first
   pub last : ℕ
-  pub progress : StreamState
+  pub progress : Progress MultipartError
 
 -- a head refuses for its content type or its coding
-abbrev pub IsHeadRefusal : StreamState → Type 0
+abbrev pub IsHeadRefusal : Progress MultipartError → Type 0
 IsHeadRefusal (Refused error) = IfIo error ⊥
 IsHeadRefusal Reading = ⊤
 IsHeadRefusal Over = ⊤
 
 -- a stream that was not polled yet
-abbrev pub fresh : {S : Type 0} → Payload S → List ℕ → ℕ → StreamState → StreamView S
+abbrev pub fresh : {S : Type 0} → Payload S → List ℕ → ℕ → Progress MultipartError → StreamView S
 fresh payload boundary limit progress = record {
   payload = payload;
   reader = new_reader boundary limit;

@@ -4,6 +4,7 @@
 mod boundary;
 mod error;
 mod laws;
+mod part_decoder;
 mod stream;
 
 pub use error::MultipartError;

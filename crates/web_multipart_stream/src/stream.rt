@@ -4,51 +4,32 @@ ghost use Rattle.std.specs.Prelude.{length};
 ghost use Rattle.std.specs.Option.{option_map};
 ghost use Rattle.web_texts.specs.Counts.{Rose};
 ghost use Rattle.web_request.specs.MessageFields.{mime_type_of};
+ghost use Rattle.web_body.specs.Collector.{StallsNext};
 ghost use Rattle.web_body.specs.Payload.{KeepsPayload, payload_feed};
 ghost use Rattle.web_body.specs.PollSteps.{NeverNoMemory, OnPending, UnlessNoMemory};
-ghost use Rattle.web_multipart_parts.specs.Settled.{IsSettled};
-ghost use Rattle.web_body.specs.Collector.{StallsNext};
 ghost use Rattle.web_body.specs.declared.poll.Step.TheVariants.{Ready};
 ghost use Rattle.web_lines.specs.LastPieces.{LastTaken};
+ghost use Rattle.web_lines.specs.Pieces.{progress_after};
+ghost use Rattle.web_lines.specs.declared.pieces.Progress.TheVariants.{Over};
 ghost use Rattle.web_multipart_parts.specs.PartReading.{parts_left, wait_size};
+ghost use Rattle.web_multipart_parts.specs.Settled.{IsSettled};
 ghost use Rattle.web_multipart_stream.specs.FormBoundaries.{boundary_of, readable};
-ghost use Rattle.web_multipart_stream.specs.PartStreams.{IsReading, KeepsStall, OnFault, PollGives};
-ghost use Rattle.web_multipart_stream.specs.PartStreams.{ReadsPart};
-ghost use Rattle.web_multipart_stream.specs.PartStreams.{parts_given, progress_after, schedule_of};
-ghost use Rattle.web_multipart_stream.specs.PartTurns.{NextPart, NoPieceNext};
+ghost use Rattle.web_multipart_stream.specs.PartDecoding.{NoPieceNext, OnFault, parts_given};
+ghost use Rattle.web_multipart_stream.specs.PartStreams.{IsReading, KeepsStall, PollGives};
+ghost use Rattle.web_multipart_stream.specs.PartStreams.{schedule_of};
 ghost use Rattle.web_multipart_stream.specs.StreamViews.{IsHeadRefusal, body_schedule, fresh};
 ghost use Rattle.web_multipart_stream.specs.StreamViews.{left_by, new_stream, stream_by};
-ghost use Rattle.web_multipart_stream.specs.declared.stream.StreamState.TheVariants.{Over, Reading};
 
 use crate::boundary::boundary_in;
 use crate::error::MultipartError;
+use crate::part_decoder::PartDecoder;
 use std::alloc::Global;
 use std::marker::Model;
 use web_body::{Payload, PayloadError, Step, is_coded};
-use web_multipart_parts::{Part, PartReader, PartStep};
-use web_request::{App, HttpMessage, HttpRequest, Source, Turn};
+use web_lines::{Pieces, Progress};
+use web_multipart_parts::{Part, PartReader};
+use web_request::{App, HttpMessage, HttpRequest, Source};
 use web_texts::{Fail, Mime, NoMemory};
-
-/// How far the parts were read.
-#[derive(Clone, Copy, Drop)]
-pub enum StreamState {
-    /// Not polled yet, and refused by the head of the request.
-    Refused(MultipartError),
-    /// Read so far.
-    Reading,
-    /// The end or an error was returned, or allocation failed: nothing follows.
-    Over,
-}
-
-/// What reading on to the next part came to.
-#[derive(Drop)]
-pub enum PartTurn {
-    Pending,
-    Part(Part),
-    Closed,
-    Failed(MultipartError),
-    NoMemory,
-}
 
 /// The parts of a body of `multipart/form-data` (RFC 7578), one by one and each under a limit.
 ///
@@ -59,11 +40,7 @@ pub enum PartTurn {
 /// they are read, and the size of the last piece.
 #[derive(Drop)]
 pub struct MultipartStream<S> {
-    payload: Payload<S>,
-    reader: PartReader,
-    /// How many bytes the last piece had.
-    last: usize,
-    progress: StreamState,
+    pieces: Pieces<S, PartDecoder, MultipartError>,
 }
 
 impl<S> Model for MultipartStream<S> {
@@ -74,51 +51,15 @@ impl<S> Model for MultipartStream<S> {
     ghost Value = { StreamView S };
 
     ghost view = { λ s. record {
-      payload = s.payload;
-      reader = s.reader;
-      last = s.last;
-      progress = s.progress;
+      payload = s.pieces.payload;
+      reader = s.pieces.decoder;
+      last = s.pieces.last;
+      progress = s.pieces.progress;
     } };
 
-    ghost invariant = { λ s. (length s.reader.came < wait_size s.reader.form + s.last)
-        × IsHeadRefusal s.progress };
-}
-
-/// Reads until there is a part, an error, a stall or the end.
-fn next_part<S: Source>(
-    alloc: Global,
-    payload: &mut Payload<S>,
-    reader: &mut PartReader,
-    last: &mut usize,
-) -> PartTurn
-    requires small { length reader.old.came < wait_size reader.old.form + last.old }
-    ensures { NextPart S.feed payload.old reader.old last.old
-        result payload.new reader.new last.new }
-{
-    'turns: loop {
-        match reader.next(alloc) {
-            PartStep::More => {}
-            PartStep::Part(part) => return PartTurn::Part(part),
-            PartStep::Closed => return PartTurn::Closed,
-            PartStep::Failed(error) => return PartTurn::Failed(MultipartError::from(error)),
-            PartStep::NoMemory => return PartTurn::NoMemory,
-        }
-        match payload.poll_next() {
-            Turn::Piece(piece) => {
-                *last = piece.len();
-                match reader.feed(piece.as_slice()) {
-                    Ok(()) => {}
-                    Err(_) => return PartTurn::NoMemory,
-                }
-            }
-            Turn::Stall => return PartTurn::Pending,
-            Turn::Fault => {
-                return PartTurn::Failed(MultipartError::Payload(PayloadError::Io));
-            }
-            Turn::End => return PartTurn::Failed(MultipartError::Grammar),
-            Turn::NoMemory => return PartTurn::NoMemory,
-        }
-    }
+    ghost invariant = { λ s.
+        (length s.pieces.decoder.came < wait_size s.pieces.decoder.form + s.pieces.last)
+        × IsHeadRefusal s.pieces.progress };
 }
 
 /// The media type of a request, where it can be read.
@@ -203,14 +144,14 @@ impl<S: Source> MultipartStream<S> {
         ensures err { OnErr result (payload.new ≡ payload.old) }
     {
         let Some(boundary) = boundary else {
-            let refused = StreamState::Refused(MultipartError::ContentType);
+            let refused = Progress::Refused(MultipartError::ContentType);
             return MultipartStream::fresh(alloc, &mut Payload::None, "", limit, refused);
         };
         if is_coded {
             let error = MultipartError::Payload(PayloadError::UnsupportedEncoding);
-            return MultipartStream::fresh(alloc, payload, "", limit, StreamState::Refused(error));
+            return MultipartStream::fresh(alloc, payload, "", limit, Progress::Refused(error));
         }
-        MultipartStream::fresh(alloc, payload, boundary, limit, StreamState::Reading)
+        MultipartStream::fresh(alloc, payload, boundary, limit, Progress::Reading)
     }
 
     /// A stream that was not polled yet. It takes the payload.
@@ -219,7 +160,7 @@ impl<S: Source> MultipartStream<S> {
         payload: &mut Payload<S>,
         boundary: &str,
         limit: usize,
-        progress: StreamState,
+        progress: Progress<MultipartError>,
     ) -> Result<MultipartStream<S>, NoMemory>
         requires limit { limit ≤ 2 ^ 62 }
         requires refusal { IsHeadRefusal progress }
@@ -229,12 +170,13 @@ impl<S: Source> MultipartStream<S> {
         ensures err { OnErr result (payload.new ≡ payload.old) }
     {
         let reader = PartReader::new(alloc, boundary.as_bytes(), limit)?;
-        Ok(MultipartStream {
+        let pieces = Pieces {
             payload: payload.take(),
-            reader,
+            decoder: PartDecoder { reader },
             last: 0,
             progress,
-        })
+        };
+        Ok(MultipartStream { pieces })
     }
 
     /// The number of bytes that came and were not read yet: at most the limit of a part, 4,096, the
@@ -243,7 +185,7 @@ impl<S: Source> MultipartStream<S> {
         ensures value { result ≡ length self.now.reader.came }
         ensures within { result < wait_size self.now.reader.form + self.now.last }
     {
-        self.reader.buffered()
+        self.pieces.decoder.reader.buffered()
     }
 
     /// The next part; `None` after the close-delimiter, after an error, and where a poll before
@@ -283,36 +225,6 @@ impl<S: Source> MultipartStream<S> {
         ensures over { self.old.progress ≡ Over
             → (result ≡ Ready None) × (self.new ≡ self.old) }
     {
-        match self.progress {
-            StreamState::Refused(error) => {
-                self.progress = StreamState::Over;
-                Step::Ready(Some(Err(error)))
-            }
-            StreamState::Reading => self.read_on(alloc),
-            StreamState::Over => Step::Ready(None),
-        }
-    }
-
-    /// Reads on to the next part.
-    fn read_on(&mut self, alloc: Global) -> Step<Option<Result<Part, MultipartError>>>
-        requires reading { self.old.progress ≡ Reading }
-        ensures { ReadsPart S.feed self.old result self.new }
-    {
-        match next_part(alloc, &mut self.payload, &mut self.reader, &mut self.last) {
-            PartTurn::Pending => Step::Pending,
-            PartTurn::Part(part) => Step::Ready(Some(Ok(part))),
-            PartTurn::Closed => {
-                self.progress = StreamState::Over;
-                Step::Ready(None)
-            }
-            PartTurn::Failed(error) => {
-                self.progress = StreamState::Over;
-                Step::Ready(Some(Err(error)))
-            }
-            PartTurn::NoMemory => {
-                self.progress = StreamState::Over;
-                Step::NoMemory
-            }
-        }
+        self.pieces.poll_next(alloc)
     }
 }
