@@ -196,17 +196,17 @@ module _ (converts : Fault → Fault → Type 0)
               ∙ sym (refusal_reply (body_in of_layer q m).result e h.1),
         )
 
-    comes_before : (polls n : ℕ) (x : Result Arguments Fault) → n < polls
+    comes_before : (q : Request L D C) (polls n : ℕ) (x : Result Arguments Fault) → n < polls
         → ComesBefore listing_rules polls n x
-    comes_before polls n (Ok v) more =
+    comes_before q polls n (Ok v) more =
         (more, λ k y answer. let at = answer.0 in omega (arith, at, more))
-    comes_before polls n (Err e) more = more
+    comes_before q polls n (Err e) more = more
 
     before : (q : Request L D C) (m : List Mark) (polls : ℕ)
         → (body_in of_layer q m).delay < polls → RepliesBefore listing_rules q m polls
     before q m polls more rest n x means =
         let delay = (list_once (payload_settings of_layer q.layers) q.head.headers m rest n x means).0 in
-        comes_before polls n x (omega (arith, delay, more))
+        comes_before q polls n x (omega (arith, delay, more))
 
     pub listed : (q : Request L D C) (m : List Mark)
         → Once (request_promise listing_rules q m) (body_in of_layer q m).delay

@@ -1,5 +1,5 @@
 -- Runs of a list of names.
-use Rattle.std.proofs.Common.{◌≡◌, ◌⊎◌, ◌∙◌, ℕ, Bool, true, false, List, [], ◌∷◌, ◌++◌, ap, inl, inr, subst, refl}
+use Rattle.std.proofs.Common.{◌≡◌, ◌⊎◌, ◌∙◌, ℕ, Bool, true, false, List, [], ◌∷◌, ◌++◌, ap, append_assoc, inl, inr, subst, refl}
 use Rattle.std.specs.Prelude.{Option, None, Some, Result, Ok, Err, codes}
 use Rattle.std.specs.Str.{bytes_eq}
 use Rattle.web_texts.specs.declared.memory.NoMemory.{NoMemory as Wanting}
@@ -12,6 +12,24 @@ use Rattle.web_worker.specs.Outcomes.{OutcomeView.NoMemory}
 use Rattle.web_worker.specs.ServiceStates.{Run}
 use Rattle.web_routing.specs.StateServices.{StateSteps}
 use Rattle.example_handlers.specs.NameLists.{Listed, NamesReply, NamesValue, text_with}
+
+lost : (a name c b : List ℕ) (post : Bool) (text : List ℕ) (status : ℕ) (os : List OutcomeView)
+    → NamesValue post a name text status c → Listed os c b → Listed (NoMemory ∷ os) a b
+lost a name c b true text status os h rest =
+    inr (
+      name ++ codes "\n",
+      subst (λ (z : List ℕ). Listed os z b) (h.2 ∙ append_assoc a name (codes "\n")) rest,
+    )
+lost a name c b false text status os h rest =
+    inl (subst (λ (z : List ℕ). Listed os z b) h.2 rest)
+
+lost_reply : {T : Type 0} (bytes : T → List ℕ) (a method name c b : List ℕ)
+    (x : Result (T × ℕ) Wanting) (os : List OutcomeView)
+    → NamesReply bytes a method name x c → Listed os c b → Listed (NoMemory ∷ os) a b
+lost_reply bytes a method name c b (Ok y) os h rest =
+    lost a name c b (bytes_eq method (codes "POST")) (bytes y.0) y.1 os h rest
+lost_reply bytes a method name c b (Err e) os h rest =
+    inr (h.0, subst (λ (z : List ℕ). Listed os z b) h.1 rest)
 
 module _ {T Q : Type 0} (bytes : T → List ℕ) where
   abbrev pub NameSteps : List ℕ → Q → Option (Reply Plain) → List ℕ → Type 0
@@ -42,20 +60,6 @@ module _ {T Q : Type 0} (bytes : T → List ℕ) where
         subst (λ (z : List ℕ). Listed os z b) h.2 rest,
       ))
 
-  lost : (a name c b : List ℕ) (post : Bool) (text : List ℕ) (status : ℕ) (os : List OutcomeView)
-      → NamesValue post a name text status c → Listed os c b → Listed (NoMemory ∷ os) a b
-  lost a name c b true text status os h rest =
-      inr (name ++ codes "\n", subst (λ (z : List ℕ). Listed os z b) h.2 rest)
-  lost a name c b false text status os h rest =
-      inl (subst (λ (z : List ℕ). Listed os z b) h.2 rest)
-
-  lost_reply : (a method name c b : List ℕ) (x : Result (T × ℕ) Wanting) (os : List OutcomeView)
-      → NamesReply bytes a method name x c → Listed os c b → Listed (NoMemory ∷ os) a b
-  lost_reply a method name c b (Ok y) os h rest =
-      lost a name c b (bytes_eq method (codes "POST")) (bytes y.0) y.1 os h rest
-  lost_reply a method name c b (Err e) os h rest =
-      inr (h.0, subst (λ (z : List ℕ). Listed os z b) h.1 rest)
-
   step : (a c b : List ℕ) (q : Q) (r : Reply Plain) (os : List OutcomeView)
       → NameSteps a q (Some r) c → Listed os c b → Listed (Replied r ∷ os) a b
   step a c b q r os (inl h) rest =
@@ -70,6 +74,6 @@ module _ {T Q : Type 0} (bytes : T → List ℕ) where
   listed (q ∷ qs) (Unfinished ∷ os) a b h = listed qs os a b h
   listed (q ∷ qs) (NoMemory ∷ os) a b (inl h) = inl (listed qs os a b h)
   listed (q ∷ qs) (NoMemory ∷ os) a b (inr h) =
-      lost_reply a h.1.0.0 (bytes h.1.0.1) h.0 b h.1.1 os h.1.2 (listed qs os h.0 b h.2)
+      lost_reply bytes a h.1.0.0 (bytes h.1.0.1) h.0 b h.1.1 os h.1.2 (listed qs os h.0 b h.2)
   listed [] (o ∷ os) a b h = absurd h
   listed (q ∷ qs) [] a b h = absurd h
