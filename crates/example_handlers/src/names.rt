@@ -1,4 +1,5 @@
-//! A list that grows: a service with a state, of which a GET shows what the POSTs before it left.
+//! A list that grows: a service with a state, whose replies with 200 show what those with 201
+//! before them left.
 ghost use Rattle.std.specs.Prelude.{List, ℕ};
 ghost use Rattle.web_request.specs.Request.{Request};
 ghost use Rattle.web_worker.specs.Outcomes.{OutcomeView};
@@ -13,7 +14,8 @@ use web_reply::{Error, Responder};
 use web_request::{App, NoMemory};
 use web_routing::StateHandler;
 
-/// The names that were sent, each with a line end behind it.
+/// The names that were sent, each with a line end after it. If an allocation fails, a part of one
+/// may have been added.
 #[derive(Drop)]
 pub struct Names {
     all: String,
