@@ -2,11 +2,12 @@
 SCRIPT ?= examples/pieces.script
 PLAIN = bench/target/release/plain
 
-.PHONY: help run site files test rows faults gate prove check kept types explain try lint fmt index mutants wrong-bodies costs graphs bench plain
+.PHONY: help run serve site files test rows faults gate prove check kept types explain try lint fmt index mutants wrong-bodies costs graphs bench plain
 
 help:
 	@echo "make run SCRIPT=FILE      serves a script and prints the replies (default: $(SCRIPT))"
-	@echo "make site                 builds the site of docs/SITE.md without proof, and prints the line that serves it"
+	@echo "make serve CRATE=NAME     builds a program that serves a connection, without proof, and prints the line that serves it"
+	@echo "make site                 the same of the site of docs/SITE.md"
 	@echo "make files FOLDER=PATH    builds the program that serves a folder, without proof, and prints the line that serves it"
 	@echo "make test                 runs all tests, examples and test cases, in minutes; it proves nothing"
 	@echo "make rows                 runs the program over the test cases of examples/"
@@ -32,9 +33,12 @@ help:
 run:
 	@tools/run serve --pool=0 < $(SCRIPT)
 
-# The site of docs/SITE.md, and the command that puts it behind a socket.
+# A program that serves the connection on standard input and output, and the command that puts it behind a socket.
 site:
-	@program=$$(tools/program example_site) \
+	@$(MAKE) --no-print-directory serve CRATE=example_site
+
+serve:
+	@program=$$(tools/program $(or $(CRATE),nothing)) \
 		&& echo "socat -t 5 TCP-LISTEN:8080,bind=127.0.0.1,reuseaddr,fork EXEC:$$program"
 
 # The files of a folder, and the command that puts them behind a socket.

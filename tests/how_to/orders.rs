@@ -3,12 +3,8 @@ use crate::compare::assert_same;
 use crate::replies::{Site, replies};
 use serde::{Deserialize, Serialize};
 use std::alloc::Global;
-use web::routing::Change;
-use web::status::{ErrorConflict, json_error_reply};
-use web::{
-    App, BoxBody, Error, Fail, HandlerService, HttpRequest, HttpResponse, Json, NoMemory, Path,
-    Typed, Wrap,
-};
+use web::status::ErrorConflict;
+use web::{Error, ErrorsAsJson, Fail, HandlerService, Json, Path, Typed, Wrap};
 use web_testing::TestRequest;
 
 /// What is ordered.
@@ -31,33 +27,8 @@ fn take(
     Ok(Json(order))
 }
 
-/// Makes JSON of each reply to an error: `{"error":TEXT}`.
-#[derive(Drop)]
-struct ErrorsAsJson;
-
-impl<A: App> Change<A> for ErrorsAsJson {
-    ghost use Rattle.std.specs.Prelude.{⊤};
-
-    ghost changes = { λ c q s r. ⊤ };
-
-    fn change(
-        &self,
-        alloc: Global,
-        _request: &HttpRequest<A>,
-        reply: &mut HttpResponse<BoxBody<A::Source>>,
-    ) -> Result<(), NoMemory> {
-        let Some(cause) = reply.error() else {
-            return Ok(());
-        };
-        let text = format!(in alloc; "{cause}")?;
-        let json = json_error_reply(alloc, reply.status(), text.as_str())?;
-        *reply = json.map_into_boxed_body(alloc)?;
-        Ok(())
-    }
-}
-
 /// An order for the customer 7.
-fn order(alloc: Global, body: &'static [u8]) -> TestRequest {
+fn new_order(alloc: Global, body: &'static [u8]) -> TestRequest {
     TestRequest::post(alloc, "/customers/7/orders")
         .param("customer", "7")
         .header("content-type", "application/json")
@@ -72,10 +43,10 @@ fn orders_and_errors_are_json(rt: HostRuntime) {
         ErrorsAsJson,
     );
     let requests = vec![in alloc;
-        order(alloc, b"{\"item\":\"tea\",\"count\":2}"),
-        order(alloc, b"{\"item\":\"tea\",\"count\":0}"),
-        order(alloc, b"{\"item\":\"tea\"}"),
-        order(alloc, b"tea"),
+        new_order(alloc, b"{\"item\":\"tea\",\"count\":2}"),
+        new_order(alloc, b"{\"item\":\"tea\",\"count\":0}"),
+        new_order(alloc, b"{\"item\":\"tea\"}"),
+        new_order(alloc, b"tea"),
     ];
     let requests = requests.expect(&rt, "memory");
     let lines = replies(&rt, alloc, &mut shop, requests, &["content-type"]);

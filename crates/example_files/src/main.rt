@@ -22,7 +22,7 @@ fn main(rt: HostRuntime) -> ExitCode {
         let _told = eprintln!(rt; "{USAGE}");
         return ExitCode::FAILURE;
     };
-    match serve_folder(rt, &words) {
+    match serve_folder(rt, words) {
         Ok(()) => ExitCode::SUCCESS,
         Err(_) => ExitCode::FAILURE,
     }

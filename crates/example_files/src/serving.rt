@@ -24,16 +24,16 @@ fn new_worker(alloc: Global) -> Result<Worker<Plain>, NoMemory>
 /// # Errors
 ///
 /// If the folder is not there, and if reading, writing or memory failed.
-pub fn serve_folder(rt: HostRuntime, words: &Words) -> Result<()> {
+pub fn serve_folder(rt: HostRuntime, words: Words) -> Result<()> {
     let alloc = rt.alloc();
-    let mut site = Site::new(rt, words)?;
+    let mut site = Site::new(rt, &words)?;
     let mut worker = new_worker(alloc)?;
     serve(
         alloc,
         &rt,
         &mut worker,
         &mut site,
-        &words.serving,
+        words.serving,
         &mut rt.stdin(),
         &mut rt.stdout(),
     )?;

@@ -1,20 +1,32 @@
-//! Serves one request by a handler of its own and prints the reply: a program to copy.
+//! A service of three routes behind a program that opens the socket: a program to copy.
 #![tactic(auto)]
 
 ghost use Rattle.std.specs.Prelude.{◌≡◌, IfOk};
 
-use anyhow::Result;
+mod handlers;
+
+use crate::handlers::{greet, hello, missing, note};
+use anyhow::{Result, bail};
 use std::alloc::Global;
+use std::process::ExitCode;
 use std::rc::Rc;
-use std::str;
-use web::header::HeaderMap;
+use web::routing::RouteError;
 use web::{
-    AppConfig, BoxBody, Bytes, Exchange, FnHandler, HttpResponse, Marks, Method, NoData, NoMemory,
-    Outcome, Payload, PlainApp, Ready, RequestHead, Uri, Version, Worker, serve_all,
+    AppConfig, ErrorsAsJson, HandlerService, Marks, Method, NoData, NoMemory, PlainApp, RouteTable,
+    Router, ServeSettings, Worker, Wrap, handler, serve, two,
 };
 
 /// An application without configuration or data of its own, whose bodies are in memory.
 type Site = PlainApp<Marks>;
+
+/// The routes, in the order of their services.
+fn routes(alloc: Global) -> Result<RouteTable, RouteError> {
+    let mut table = RouteTable::new(alloc);
+    table.add(alloc, Method::GET, "/")?;
+    table.add(alloc, Method::GET, "/hello/{name}")?;
+    table.add(alloc, Method::PUT, "/notes/{id}")?;
+    Ok(table)
+}
 
 /// A worker, which keeps the record of one request for the next.
 fn new_worker(alloc: Global) -> Result<Worker<Site>, NoMemory>
@@ -24,48 +36,40 @@ fn new_worker(alloc: Global) -> Result<Worker<Site>, NoMemory>
     Worker::new(alloc, Rc::new(alloc, NoData)?, config, 1)
 }
 
-/// A POST request for this target, with the body `world`.
-fn new_exchange(alloc: Global, uri: Uri) -> Exchange<Site> {
-    let head = RequestHead {
-        uri,
-        method: Method::POST,
-        version: Version::HTTP_11,
-        headers: HeaderMap::new(alloc),
-        peer_addr: None,
-    };
-    Exchange {
-        head,
-        params: Vec::new(alloc),
-        layers: Vec::new(alloc),
-        conn: None,
-        local: None,
-        body: Payload::Whole(Bytes::from_static(b"world")),
-    }
-}
-
-fn print_reply(rt: &impl Print, reply: &HttpResponse<BoxBody<Marks>>) -> Result<()> {
-    println!(rt; "{}", reply.status())?;
-    if let BoxBody::Bytes(bytes) = reply.body() {
-        let text = str::from_utf8(bytes.as_slice()).unwrap_or("(no text)");
-        println!(rt; "{text}")?;
-    }
-    Ok(())
-}
-
-fn main(rt: HostRuntime) -> Result<()> {
+/// Serves the connection that standard input and output are.
+fn serve_connection(rt: &HostRuntime) -> Result<()> {
     let alloc = rt.alloc();
+    let Ok(table) = routes(alloc) else {
+        bail!("the routes are refused");
+    };
+    let services = two(
+        1,
+        handler(|_none: ()| hello(alloc)),
+        two(
+            1,
+            handler(|name| greet(alloc, name)),
+            handler(|args| note(alloc, args)),
+        ),
+    );
+    let others = HandlerService::immediate(|_none: ()| missing(alloc));
+    let mut site = Wrap::new(Router::new(table, services, others), ErrorsAsJson);
     let mut worker = new_worker(alloc)?;
-    let exchanges = vec![in alloc; new_exchange(alloc, Uri::from_static("/hello")?)]?;
-    let mut handler = FnHandler(|name: String| -> Result<Ready<String>, NoMemory> {
-        Ok(Ready::new(format!(in alloc; "Hello, {name}!")?))
-    });
-    let outcomes = serve_all(alloc, &mut worker, exchanges, &[0], &mut handler);
-    for outcome in &outcomes.map_err(|_| NoMemory)? {
-        match outcome {
-            Outcome::Reply(reply) => print_reply(&rt, reply)?,
-            Outcome::Unfinished => println!(rt; "unfinished")?,
-            Outcome::NoMemory => return Err(NoMemory.into()),
-        }
-    }
+    serve(
+        alloc,
+        rt,
+        &mut worker,
+        &mut site,
+        ServeSettings::from_words(rt)?,
+        &mut rt.stdin(),
+        &mut rt.stdout(),
+    )?;
     Ok(())
+}
+
+/// It writes no message if it fails: behind inetd standard error is the connection too.
+fn main(rt: HostRuntime) -> ExitCode {
+    match serve_connection(&rt) {
+        Ok(()) => ExitCode::SUCCESS,
+        Err(_) => ExitCode::FAILURE,
+    }
 }

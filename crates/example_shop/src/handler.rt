@@ -3,16 +3,11 @@ use crate::error::ShopError;
 use crate::item::Item;
 use crate::order::Order;
 use std::alloc::Global;
-use web_body::Marks;
-use web_build::prelude::*;
-use web_cookies::{Cookie, SameSite};
-use web_extract::Ready;
-use web_extract_body::Json;
-use web_extract_head::{Header, Query};
-use web_headers::AcceptLanguage;
-use web_reply::{BoxBody, Error, HttpResponse};
-use web_status::prelude::*;
-use web_texts::{Fail, NoMemory, Text};
+use web::build::prelude::*;
+use web::cookie::{Cookie, SameSite};
+use web::headers::AcceptLanguage;
+use web::status::prelude::*;
+use web::{BoxBody, Fail, Header, HttpResponse, Json, Marks, NoMemory, Query, Text};
 
 /// How many there are of each item.
 const STOCK: u64 = 10;
@@ -23,9 +18,6 @@ pub type OrderArguments = (Query<Order>, Json<Item>, Header<AcceptLanguage>);
 
 /// The response to an order.
 pub type Reply = HttpResponse<BoxBody<Marks>>;
-
-/// What the handler of orders returns: a future that is there at once.
-pub type Answer = Ready<Result<Reply, Error>>;
 
 /// The cookie that keeps what was ordered last.
 fn basket(alloc: Global, name: &str) -> Result<Cookie, NoMemory> {
@@ -45,7 +37,7 @@ fn created(alloc: Global, item: &Item, language: &str) -> Result<Reply, NoMemory
     builder.take().json(item)
 }
 
-/// Takes an order.
+/// `POST /orders`: takes an order.
 pub fn take_order(alloc: Global, arguments: OrderArguments) -> Result<Reply, Fail<ShopError>> {
     let (Query(order), Json(item), Header(language)) = arguments;
     match order.count {
@@ -56,4 +48,9 @@ pub fn take_order(alloc: Global, arguments: OrderArguments) -> Result<Reply, Fai
         }
         _ => Err(Fail::Of(ShopError::SoldOut { left: STOCK })),
     }
+}
+
+/// All other paths: 404.
+pub fn no_such_page() -> Result<Text, Fail<ShopError>> {
+    Err(Fail::Of(ShopError::NoSuchPage))
 }

@@ -23,11 +23,11 @@ ghost use Rattle.example_shop.specs.declared.item_layer.ItemErrors.TheVariants.{
 use crate::item::Item;
 use crate::item_layer::Catalogue;
 use std::alloc::Global;
-use web_body::Marks;
-use web_extract::{Itself, Ready};
-use web_extract_body::{Json, json_law};
-use web_request::{NoMemory, Source};
-use web_worker::{Exchange, FnHandler, Outcome, Worker, list_exchange_law, plan_law, serve_all};
+use web::request::Source;
+use web::{Exchange, FnHandler, Json, Marks, NoMemory, Outcome, Ready, Worker, serve_all};
+use web_extract::Itself;
+use web_extract_body::json_law;
+use web_worker::{list_exchange_law, plan_law};
 
 /// The outcome of each exchange, or the exchanges where an allocation failed before the first poll.
 pub type Outcomes = Result<Vec<Outcome<Catalogue>>, (NoMemory, Vec<Exchange<Catalogue>>)>;

@@ -3,12 +3,10 @@ ghost use Rattle.std.specs.Prelude.{◌≡◌};
 ghost use Rattle.example_shop.specs.ItemReplies.{item_layer};
 
 use std::alloc::Global;
-use web_body::{JsonPayloadError, Marks};
-use web_decoders::JsonConfig;
-use web_extract::{Configs, LayerConfigs, NoHandler, NoType, Refuse};
-use web_reply::Error;
-use web_request::{App, AppLayer, NoData, NoMemory, RequestHead};
-use web_status::{JsonErrors, UnprocessableJson};
+use web::body::{JsonConfig, JsonPayloadError};
+use web::extract::{Configs, NoHandler, NoType, Refuse};
+use web::status::{JsonErrors, UnprocessableJson};
+use web::{App, AppLayer, Error, LayerConfigs, Marks, NoData, NoMemory, RequestHead};
 
 /// What a refused body is answered with: `{"error":TEXT}`, and the status of the refusal.
 #[derive(Clone, Copy, Debug, Drop)]

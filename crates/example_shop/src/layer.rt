@@ -1,11 +1,11 @@
 //! The shop's configuration: how long a JSON body may be, and what answers one that is refused.
-use http::StatusCode;
 use std::alloc::Global;
-use web_body::{JsonPayloadError, Marks};
-use web_decoders::JsonConfig;
-use web_extract::{Configs, LayerConfigs, NoHandler, NoType, Refuse};
-use web_reply::{Cause, Error};
-use web_request::{App, AppLayer, NoData, NoMemory, RequestHead, Text};
+use web::body::{JsonConfig, JsonPayloadError};
+use web::extract::{Configs, NoHandler, NoType, Refuse};
+use web::reply::Cause;
+use web::{
+    App, AppLayer, Error, LayerConfigs, Marks, NoData, NoMemory, RequestHead, StatusCode, Text,
+};
 
 /// Answers each JSON body that is refused with 422 and a text of the shop's own.
 #[derive(Drop)]

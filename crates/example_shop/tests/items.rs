@@ -3,7 +3,7 @@ use crate::item_handler::serve_items;
 use crate::item_layer::{Catalogue, ItemErrors, ItemLayer};
 use std::alloc::Global;
 use std::process::Abort;
-use web_testing::{TestReply, TestRequest, test_worker};
+use web::testing::{TestReply, TestRequest, test_worker};
 
 /// The status and the text of the reply to an item.
 fn reply_text(rt: &impl Abort, alloc: Global, errors: ItemErrors, item: &str) -> String {

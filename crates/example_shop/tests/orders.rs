@@ -1,25 +1,21 @@
 //! Orders as the shop's handler takes them.
-use crate::error::replied;
-use crate::handler::{Answer, OrderArguments, take_order};
+use crate::handler::take_order;
 use crate::layer::{Shop, ShopLayer};
 use std::alloc::Global;
 use std::process::Abort;
-use web_extract::Ready;
-use web_request::NoMemory;
-use web_testing::{TestReply, TestRequest, serve_request};
-use web_worker::FnHandler;
+use web::replied;
+use web::routing::Immediate;
+use web::testing::{TestReply, TestRequest, serve_request};
 
 /// The status and the text of the reply to an order.
 fn reply_text(rt: &impl Abort, alloc: Global, target: &str, item: &str) -> String {
-    let mut handler = FnHandler(|arguments: OrderArguments| -> Result<Answer, NoMemory> {
-        Ok(Ready::new(replied(alloc, take_order(alloc, arguments))?))
-    });
+    let mut orders = Immediate(|order| replied(alloc, take_order(alloc, order)));
     let request = TestRequest::post(alloc, target)
         .header("content-type", "application/json")
         .header("accept-language", "de")
         .body(item.as_bytes());
     let exchange = request.into_exchange::<Shop>().expect(rt, "a request");
-    let outcome = serve_request(alloc, ShopLayer::new(200), exchange, &mut handler);
+    let outcome = serve_request(alloc, ShopLayer::new(200), exchange, &mut orders);
     let reply = TestReply::of(alloc, outcome.expect(rt, "memory")).expect(rt, "a reply");
     let text = reply.text().unwrap_or("(no text)");
     format!(in alloc; "{} {text}", reply.status().as_u16()).expect(rt, "memory")

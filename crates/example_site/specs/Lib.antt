@@ -1,3 +1,1 @@
-pub mod Booking
 pub mod Item
-pub mod Posted

@@ -4,10 +4,18 @@
 //! library of its own: `cookie`, `header`, `headers`, `multipart` and so on.
 #![tactic(auto)]
 
+mod errors_as_json;
+mod route_services;
+mod status_error;
+
 pub use bytes::Bytes;
+pub use errors_as_json::ErrorsAsJson;
 pub use http::{Method, StatusCode, Version};
 pub use http_header as header;
 pub use http_uri::Uri;
+pub use httpdate;
+pub use route_services::{handler, two};
+pub use status_error::{StatusError, replied};
 pub use web_body as body;
 pub use web_body::{Marks, Payload};
 pub use web_build as build;
@@ -15,9 +23,11 @@ pub use web_build::{Html, HttpResponseBuilder, Redirect};
 pub use web_codec as codec;
 pub use web_codec::Typed;
 pub use web_cookies as cookie;
+pub use web_decoders as decoders;
 pub use web_docs as documents;
+pub use web_entities as entities;
 pub use web_extract as extract;
-pub use web_extract::{FromRequest, LayerConfigs, Ready};
+pub use web_extract::{Capped, FromRequest, LayerConfigs, Ready};
 pub use web_extract_body::{Either, Form, Json};
 pub use web_extract_head::{Header, Path, Query};
 pub use web_headers as headers;
@@ -37,6 +47,9 @@ pub use web_routing::{
     Service, SetHeader, Two, Whole, Wrap, serve_to_end,
 };
 pub use web_status as status;
+pub use web_stdio as stdio;
+pub use web_stdio::{ServeSettings, serve};
+pub use web_testing as testing;
 pub use web_texts as text;
 pub use web_texts::{Fail, Items, NoMemory, Text};
 pub use web_variants as variants;

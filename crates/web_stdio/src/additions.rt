@@ -11,7 +11,9 @@ use web_texts::NoMemory;
 /// What is added to the next reply.
 #[derive(Drop)]
 pub(crate) struct Additions {
-    settings: ServeSettings,
+    date: DateHeader,
+    last_message: u64,
+    last_byte: u64,
     /// How many messages were answered.
     answered: u64,
     /// The second of the date in `reply`, since 1970.
@@ -45,14 +47,16 @@ impl Additions {
     /// Those of the first reply, without a date.
     pub(crate) fn new(settings: ServeSettings) -> Additions {
         Additions {
-            settings,
+            date: settings.date,
+            last_message: settings.last_message,
+            last_byte: settings.last_byte,
             answered: 0,
             second: None,
             reply: ReplySettings {
                 last: false,
                 length_at_head: settings.length_at_head,
                 date: None,
-                refusals: None,
+                refusals: settings.refusals,
             },
         }
     }
@@ -77,11 +81,11 @@ impl Additions {
         clock: &C,
         taken: u64,
     ) -> Result<(), NoMemory> {
-        if self.settings.date == DateHeader::ByClock {
+        if self.date == DateHeader::ByClock {
             self.set_date(alloc, clock)?;
         }
-        self.reply.last = taken >= self.settings.last_byte
-            || self.answered.saturating_add(1) >= self.settings.last_message;
+        self.reply.last = taken >= self.last_byte
+            || self.answered.saturating_add(1) >= self.last_message;
         Ok(())
     }
 

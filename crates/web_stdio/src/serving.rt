@@ -84,8 +84,11 @@ fn answer_whole<C: Clock, A: App, Args, S: Service<A, Args>, W: Write>(
 }
 
 /// Ends a connection that takes no more bytes: refuses what is left of a message.
-fn finish<W: Write>(
+fn finish<C: Clock, W: Write>(
     alloc: Global,
+    clock: &C,
+    additions: &mut Additions,
+    taken: u64,
     connection: Connection,
     output: &mut W,
 ) -> Result<Connection, ServeFault>
@@ -95,7 +98,8 @@ fn finish<W: Write>(
 {
     let mut connection = connection;
     let mut out = Vec::new(alloc);
-    connection.finish(alloc, &mut out);
+    additions.set_next(alloc, clock, taken)?;
+    connection.finish_with(alloc, additions.reply(), &mut out);
     send(&mut out, output)?;
     Ok(connection)
 }
@@ -125,7 +129,7 @@ fn take_piece<C: Clock, A: App, Args, S: Service<A, Args>, W: Write>(
 {
     let mut connection = connection;
     if connection.feed(alloc, piece).is_err() {
-        return finish(alloc, connection, output);
+        return finish(alloc, clock, additions, taken, connection, output);
     }
     let after = answer_whole::<C, A, Args, S, W>(
         alloc, clock, worker, service, additions, taken, connection, output,
@@ -140,7 +144,7 @@ fn serve_pieces<C, A, Args, S, R, W>(
     clock: &C,
     worker: &mut Worker<A>,
     service: &mut S,
-    settings: &ServeSettings,
+    settings: ServeSettings,
     room: HeadRoom,
     input: &mut R,
     output: &mut W,
@@ -156,14 +160,14 @@ where
     ensures ready { S.ready service.new }
 {
     let mut connection = Connection::with_room(alloc, settings.limits, room);
-    let mut additions = Additions::new(*settings);
+    let most = most_taken(&settings);
+    let mut additions = Additions::new(settings);
     let mut buffer = [0; PIECE];
     let mut taken = 0;
-    let most = most_taken(settings);
     'pieces: while taken < most {
         let count = input.read(&mut buffer).map_err(ServeFault::Input)?;
         if count == 0 {
-            return finish(alloc, connection, output);
+            return finish(alloc, clock, &mut additions, taken, connection, output);
         }
         taken += count as u64;
         connection = take_piece::<C, A, Args, S, W>(
@@ -181,7 +185,7 @@ where
             return Ok(connection);
         }
     }
-    finish(alloc, connection, output)
+    finish(alloc, clock, &mut additions, taken, connection, output)
 }
 
 /// Whether the client may still send what was refused. After another reply that closes the program
@@ -215,7 +219,7 @@ pub fn serve<C, A, Args, S, R, W>(
     rt: &C,
     worker: &mut Worker<A>,
     service: &mut S,
-    settings: &ServeSettings,
+    settings: ServeSettings,
     input: &mut R,
     output: &mut W,
 ) -> Result<Ended, ServeFault>

@@ -1,6 +1,9 @@
 //! What a program sets of the connection that it serves.
 
+use bytes::Bytes;
+use std::{env, io};
 use web_messages::Limits;
+use web_reply::HttpResponse;
 
 /// The most bytes that are taken of a connection before its next reply is the last, where nothing
 /// else is set.
@@ -16,7 +19,7 @@ pub enum DateHeader {
 }
 
 /// What a program sets of the connection that it serves.
-#[derive(Clone, Copy, Debug, PartialEq, Eq)]
+#[derive(Drop)]
 pub struct ServeSettings {
     /// The greatest messages that are taken, and what is refused of a head.
     pub limits: Limits,
@@ -29,11 +32,15 @@ pub struct ServeSettings {
     /// A reply to HEAD states the length of the reply to GET, where it is known (RFC 7230, section
     /// 3.3.2).
     pub length_at_head: bool,
+    /// Replies to messages that the connection refuses before a service sees them: the first that
+    /// has the status of the refusal, 400, 413, 414, 431, 501 or 505, is sent in place of an empty
+    /// one.
+    pub refusals: Option<Vec<HttpResponse<Bytes>>>,
 }
 
 impl Default for ServeSettings {
     /// For clients that nobody trusts: `Limits::for_untrusted`, the last reply after 1 GiB, Date by
-    /// the clock, and the length at HEAD.
+    /// the clock, the length at HEAD, and empty replies to what is refused.
     fn default() -> ServeSettings {
         ServeSettings {
             limits: Limits::for_untrusted(),
@@ -41,11 +48,26 @@ impl Default for ServeSettings {
             last_byte: USUAL_BYTES,
             date: DateHeader::ByClock,
             length_at_head: true,
+            refusals: None,
         }
     }
 }
 
 impl ServeSettings {
+    /// The default, with the words of the command line as `take_word` takes them. A word of no
+    /// setting is passed over.
+    ///
+    /// # Errors
+    ///
+    /// If the words could not be read.
+    pub fn from_words(rt: &HostRuntime) -> io::Result<ServeSettings> {
+        let mut settings = ServeSettings::default();
+        for word in env::args(rt)? {
+            settings.take_word(word.as_str());
+        }
+        Ok(settings)
+    }
+
     /// Takes a word of the command line. `--no-date` leaves out Date, so that what is written is
     /// the same on each run. Returns whether it is a word of these settings.
     pub fn take_word(&mut self, word: &str) -> bool {
