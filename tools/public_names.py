@@ -17,6 +17,10 @@ it.
 The fourth column is for an application that depends on [`web`](../crates/web/README.md) alone: `web::Path` is the name
 there, and a dash says that `web` does not export it. `crates/NAME/README.md` shows how a crate's names are used.
 
+`web` also exports these of Rattle's kit, which are not in the table: `Bytes`, `Method`, `StatusCode`, `Uri`, `Version`,
+the module `httpdate`, and as `web::header` the crate `http_header`, which has `HeaderMap`, `HeaderName`, `HeaderValue`
+and the names of fields, such as `CONTENT_TYPE`.
+
 | Name | Kind | Crate | In `web` | What it is |
 |---|---|---|---|---|
 """
@@ -121,7 +125,7 @@ def facade():
 def in_facade(it, alone, whole):
     """The path of a name in the crate of applications, or a dash."""
     crate, _, module = it.crate.partition("::")
-    if (crate, it.name) in alone:
+    if it.crate == FACADE or (crate, it.name) in alone:
         return f"`{FACADE}::{it.name}`"
     if crate in whole:
         return f"`{'::'.join(filter(None, (FACADE, whole[crate], module, it.name)))}`"
