@@ -7,7 +7,7 @@ use std::hash::RandomState;
 use std::process::Abort;
 use web_body::Marks;
 use web_extract::Ready;
-use web_http1::{Connection, Ended};
+use web_http1::{Connection, Ended, FeedError};
 use web_messages::{
     HeadChecks, HeadFault, HeadRoom, LengthFault, Limits, Next, Wrong, next_message,
     next_message_with,
@@ -223,6 +223,30 @@ fn nothing_is_served_after_a_refusal(rt: HostRuntime) {
     assert_same(&rt, out.as_slice(), alone.as_slice());
 }
 
+/// The same target, as it is read by a connection that takes these bytes as browsers send them.
+#[test]
+fn delimiters_of_targets_are_encoded(rt: HostRuntime) {
+    let alloc = rt.alloc();
+    let bytes = b"GET /a?b=\"<c>\"&d=%3C HTTP/1.1\r\nhost: a\r\n\r\n".as_slice();
+    let checks = HeadChecks {
+        encode: true,
+        ..HeadChecks::NONE
+    };
+    match next_message(alloc, &limits(checks), bytes).expect(&rt, "memory") {
+        Next::Message(message) => {
+            assert_same(&rt, message.uri.query(), Some("b=%22%3Cc%3E%22&d=%3C"));
+            assert_same(&rt, message.used, bytes.len());
+        }
+        Next::Refused(_) | Next::Closed => assert_holds(&rt, "a message", false),
+    }
+    let (ended, _) = written(&rt, alloc, limits(HeadChecks::NONE), bytes, 1024);
+    assert_same(
+        &rt,
+        ended,
+        Ended::Refused(Wrong::Head(HeadFault::Malformed)),
+    );
+}
+
 /// How many bytes are kept of chunks of one byte, each in 259 bytes, until no more are taken.
 #[test]
 fn no_more_bytes_are_kept_than_the_limit(rt: HostRuntime) {
@@ -249,6 +273,8 @@ fn no_more_bytes_are_kept_than_the_limit(rt: HostRuntime) {
     }
     assert_same(&rt, taken, (2_000 - head.len()) / chunk.len());
     assert_same(&rt, connection.kept(), head.len() + taken * chunk.len());
+    let none = connection.take(alloc, &mut worker, &mut handler, chunk.as_slice(), &mut out);
+    assert_same(&rt, none, Err(FeedError::TooMuchKept));
     let ended = connection.finish(alloc, &mut out);
     assert_same(&rt, ended, Ended::Refused(Wrong::Cut));
     assert_same(&rt, status_of(out.as_slice()), b"400".as_slice());

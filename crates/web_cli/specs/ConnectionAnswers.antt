@@ -27,7 +27,7 @@ connection_limits = record {
   headers = 64;
   body = 1048576;
   kept = 18446744073709551615;
-  checks = record { host = false; target = false; reasons = false };
+  checks = record { host = false; target = false; encode = false; reasons = false };
 }
 
 -- The text has the answers of the bytes, which are all that come: where each message has one reply

@@ -30,6 +30,7 @@ const LIMITS: Limits = Limits {
     checks: HeadChecks {
         host: false,
         target: false,
+        encode: false,
         reasons: false,
     },
 };

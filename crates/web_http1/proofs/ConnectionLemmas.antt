@@ -460,7 +460,7 @@ module _ {S L D C V K : Type 0} (s : Setting S L D C V K) where
         ),
       )
 
--- a step, where the handler promises the same
+-- a step, where the service promises the same
 module _ {S L D C V K : Type 0} (feed : S → Feed) (request : ExchangeView S L D C → Request L D C)
     (c_a c_b : Request L D C → Request L D C) (p_a p_b : Request L D C → List Mark → Promise V) (l_a l_b : K → Request L D C → Promise V)
     (h : SameService c_a c_b p_a p_b l_a l_b) where

@@ -15,8 +15,9 @@ use web_texts::NoMemory;
 /// So many bytes of lines are left beside a sixteenth of the content.
 const FEW: usize = 4096;
 
-/// The line before the bytes of a chunk.
-fn size_line(alloc: Global, size: usize) -> Result<String, NoMemory>
+/// The line before the bytes of a chunk of this size (RFC 7230, section 4.1). `NoMemory` where an
+/// allocation failed.
+pub fn chunk_line(alloc: Global, size: usize) -> Result<String, NoMemory>
     ensures { IfOk result (λ line. string_bytes line ≡ digits 16 false size ++ crlf_bytes) }
 {
     Ok(format!(in alloc; "{:x}\r\n", size)?)
@@ -76,7 +77,7 @@ impl Progress {
         }
         let (front, text) = bytes.split_at(head.length);
         let (_, rest) = text.split_at(place.at);
-        let line = size_line(alloc, body.len())?;
+        let line = chunk_line(alloc, body.len())?;
         let joined = joined(alloc, front, line.as_bytes(), body.as_slice(), rest)?;
         *place = ChunksRead {
             at: line.len() + (body.len() + 2),
