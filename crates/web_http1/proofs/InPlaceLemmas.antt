@@ -8,14 +8,20 @@ use Rattle.web_reply.specs.declared.head.ResponseHead.{ResponseHead}
 use Rattle.web_worker.specs.Exchanges.{FlightView, FlightView.Answered}
 use Rattle.web_worker.specs.OutcomeFunctions.{AnswersOnce}
 use Rattle.web_worker.specs.Setting.{Setting}
-use Rattle.web_messages.specs.Sameness.{SameMessage}
+use Rattle.web_messages.specs.Progress.{HasFewBlank, IsProgress, IsShort, Skips}
+use Rattle.web_messages.specs.Sameness.{SameAhead, SameMessage}
 use Rattle.web_messages.specs.declared.limits.Limits.{Limits}
 use Rattle.web_messages.specs.declared.message.Message.{Message}
+use Rattle.web_messages.specs.declared.progress.Progress.{Progress}
+use Rattle.web_messages.proofs.SkipLemmas.{same_ahead}
 use Rattle.web_http1.specs.declared.answered.Answered.{Answered as AnsweredAs}
+use Rattle.web_http1.specs.declared.answering.Turned.TheVariants as turned
+use Rattle.web_http1.specs.declared.ended.Ended.{Ended}
+use Rattle.web_http1.specs.declared.ended.Ended.TheVariants as ended
 use Rattle.web_http1.specs.Answers.{Answer, IsAnswerTo, StatesMarks, answer_bytes, asks_end, is_head, sent_answer}
 use Rattle.web_http1.specs.BegunAnswers.{WaitsAfter, moved}
-use Rattle.web_http1.specs.Connections.{ConnectionView, IsOwnEnd, StepsFrom, StepsTo, bytes_open, open_at, open_bytes}
-use Rattle.web_http1.specs.ConnectionSteps.{IsReplied, with_piece}
+use Rattle.web_http1.specs.Connections.{AllOpen, ConnectionView, IsOwnEnd, StepsFrom, StepsTo, bytes_open, ended_at, open_at, open_bytes}
+use Rattle.web_http1.specs.ConnectionSteps.{IsReplied, WaitsBehind, with_piece}
 use Rattle.web_http1.specs.InPlace.{IsLastWritten, IsWritten, KeepsRest, WritesAtOnce}
 use Rattle.web_http1.specs.MessageExchanges.{exchange_of}
 use Rattle.web_http1.specs.OneAnswer.{Waits}
@@ -23,7 +29,7 @@ use Rattle.web_http1.specs.Polls.{AllowedBy, AnsweredBy, LastReplied}
 use Rattle.web_http1.specs.ReplyBytes.{Sent, SentFrom, content_of, sent_bytes, sent_reply, sent_with}
 use Rattle.web_http1.proofs.AllowedLemmas.{reply_allowed}
 use Rattle.web_http1.proofs.BufferLemmas.{steps_from}
-use Rattle.web_http1.proofs.ConnectionLemmas.{failed_steps, replied_so, same_exchange, then_steps}
+use Rattle.web_http1.proofs.ConnectionLemmas.{ended_only, failed_steps, replied_so, same_exchange, then_steps}
 use Rattle.web_http1.proofs.PollLemmas.{reply_is}
 use Rattle.web_http1.proofs.WaitLemmas.{wait_goes, wait_limits, wait_made, wait_open, wait_own}
 
@@ -32,6 +38,38 @@ drop_none [] = refl
 drop_none (b ∷ t) = refl
 
 -- ---- what is kept of a piece
+
+-- more bytes have to come, none of which is skipped
+pub behind_place : (limits : Limits) (now rest : List ℕ) (p : Progress) → now ≡ rest → IsProgress limits rest p → AllOpen limits rest → HasFewBlank limits rest
+    → IsShort limits rest p → WaitsBehind limits now (turned.Waits 0 p)
+behind_place limits now rest p is so_far open' few short =
+    subst (λ (t : List ℕ). WaitsBehind limits t (turned.Waits 0 p)) (sym is)
+    (subst
+    (λ (t : List ℕ). Skips limits rest p 0 × AllOpen limits t × IsShort limits t p)
+    (sym (drop_none rest)) (
+      record {
+        inside = omega arith;
+        is_progress = subst (λ (t : List ℕ). IsProgress limits t p) (sym (drop_none rest)) so_far;
+        same = λ more. subst (λ (t : List ℕ). SameAhead limits (rest ++ more) (t ++ more)) (sym (drop_none rest)) (same_ahead limits (rest ++ more));
+        few = subst (λ (t : List ℕ). HasFewBlank limits t) (sym (drop_none rest)) few;
+      },
+      open',
+      short,
+    ))
+
+-- the same of a connection that has these bytes after none
+pub kept_behind : (c middle : ConnectionView) (rest : List ℕ) (p : Progress) → c.left ≡ []
+    → middle ≡ record { limits = c.limits; left = c.left ++ rest; ended = c.ended } → WaitsBehind c.limits rest (turned.Waits 0 p)
+    → WaitsBehind middle.limits middle.left (turned.Waits 0 p)
+kept_behind c middle rest p empty is h =
+    subst (λ (v : ConnectionView). WaitsBehind v.limits v.left (turned.Waits 0 p)) (sym is)
+    (subst (λ (t : List ℕ). WaitsBehind c.limits t (turned.Waits 0 p)) (sym (ap (λ (l : List ℕ). l ++ rest) empty)) h)
+
+-- an allocation failed
+pub keeps_none : (c middle new : ConnectionView) (rest : List ℕ) (r : AnsweredAs) → c.left ≡ [] → middle ≡ c
+    → new ≡ ended_at middle.limits middle.left ended.NoMemory → KeepsRest c.limits rest new r
+keeps_none c middle new rest r empty same is =
+    inr (is ∙ ap (λ (v : ConnectionView). ended_at v.limits v.left ended.NoMemory) same ∙ ap (λ (t : List ℕ). ended_at c.limits t ended.NoMemory) empty)
 
 pub kept_rest : (c middle new : ConnectionView) (rest : List ℕ) (r : AnsweredAs) → c.left ≡ []
     → middle ≡ record { limits = c.limits; left = c.left ++ rest; ended = c.ended } → WaitsAfter (moved middle 0 false) new r
@@ -65,6 +103,32 @@ module _ {S L D C V K : Type 0} (s : Setting S L D C V K) where
   rest_goes limits old rest new before behind r steps (inr e) =
       then_steps s (open_at limits old) (open_at limits rest) new before behind behind refl (ap (λ (v : ConnectionView). v.limits) e) steps
       (failed_steps s (open_at limits rest) new behind behind (ap (λ (v : ConnectionView). v.ended) e) refl)
+
+  -- it ended, with other bytes left
+  pub ends_so : (limits : Limits) (old left rest : List ℕ) (end : Ended) (new : ConnectionView) (before behind : List ℕ) → new ≡ ended_at limits left end
+      → StepsTo s (open_at limits old) (ended_at limits rest end) before behind → StepsTo s (open_at limits old) new before behind
+  ends_so limits old left rest end new before behind is steps =
+      subst (λ (v : ConnectionView). StepsTo s (open_at limits old) v before behind) (sym is) (
+        steps.0,
+        steps.1,
+        λ more xs rest' closed v.
+            ended_only s (ended_at limits rest end) (ended_at limits left end) end more xs steps.0 rest' closed refl (steps.2 more xs rest' closed v),
+      )
+
+  -- ---- a piece that is answered where it stands
+
+  pub place_goes : (limits : Limits) (piece now rest : List ℕ) (new : ConnectionView) (before behind : List ℕ) (r : AnsweredAs) → now ≡ rest
+      → StepsTo s (open_at limits (drop 0 piece)) (open_at limits rest) before behind → KeepsRest limits now new r → StepsTo s (open_at limits piece) new before behind
+  place_goes limits piece now rest new before behind r is steps kept =
+      rest_goes limits piece now new before behind r
+      (subst (λ (t : List ℕ). StepsTo s (open_at limits t) (open_at limits now) before behind) (drop_none piece)
+      (subst (λ (t : List ℕ). StepsTo s (open_at limits (drop 0 piece)) (open_at limits t) before behind) (sym is) steps)) kept
+
+  pub place_ends : (limits : Limits) (piece left rest : List ℕ) (end : Ended) (new : ConnectionView) (before behind : List ℕ) → new ≡ ended_at limits left end
+      → StepsTo s (open_at limits (drop 0 piece)) (ended_at limits rest end) before behind → StepsTo s (open_at limits piece) new before behind
+  place_ends limits piece left rest end new before behind is steps =
+      subst (λ (t : List ℕ). StepsTo s (open_at limits t) new before behind) (drop_none piece)
+      (ends_so limits (drop 0 piece) left rest end new before behind is steps)
 
 -- ---- a piece where nothing was kept
 

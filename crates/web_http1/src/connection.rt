@@ -366,9 +366,10 @@ impl Connection {
             &mut self.rooms,
             out,
         );
+        let place = answered.place;
         match answered.left {
             Left::Open(progress) => {
-                self.keep(alloc, &piece[answered.place..], progress);
+                self.keep(alloc, &piece[place..], progress);
             }
             Left::Ended(ended) => self.end(ended),
         }

@@ -9,13 +9,11 @@ returns-clause-ok c =
     let content = c.args.content.now in
     let missing = c.has_no_body-absent.result in
     let closes = c.closes_after-closes.result in
-    let size = c.len-size.ensures.value in
     let front = c.as_slice.ensures.value ∙ c.in_ok-put_head_of.ensures
-    ∙ ap (λ (t : List ℕ). t ++ head_bytes_of missing head c.len-size.result closes) c.clear.ensures.items in (
+    ∙ ap (λ (t : List ℕ). t ++ head_bytes_of missing head (length content) closes) c.clear.ensures.items in (
       c.closes_after-closes.ensures,
       c.in_ok-put_both.ensures.ok
           ∙ ap (λ (t : List ℕ). c.args.out.now.items ++ t) (ap (λ (t : List ℕ). t ++ c.body_bytes.result.now) front
-          ∙ ap (λ (n : ℕ). head_bytes_of missing head n closes ++ c.body_bytes.result.now) size
           ∙ ap (λ (t : List ℕ). head_bytes_of missing head (length content) closes ++ t) c.body_bytes.ensures
           ∙ ap (λ (b : Bool). head_bytes_of b head (length content) closes ++ (if b then [] else content)) c.has_no_body-absent.ensures
           ∙ ap (λ (b : Bool). head_bytes_of (has_no_body c.args.is_head head.status) head (length content) b
