@@ -150,9 +150,13 @@ fn calls_in_any_order_write_the_same(rt: HostRuntime) {
             let (mut at, mut out) = (0, Vec::new(alloc));
             while at < bytes.len() {
                 let next = (at + draws.below(40)).min(bytes.len());
-                connection
-                    .feed(alloc, &bytes[at..next])
-                    .expect(&rt, "memory");
+                let piece = &bytes[at..next];
+                if draws.below(2) == 0 {
+                    let taken = connection.take(alloc, &mut worker, &mut handler, piece, &mut out);
+                    taken.expect(&rt, "memory");
+                } else {
+                    connection.feed(alloc, piece).expect(&rt, "memory");
+                }
                 at = next;
                 for _ in 0..draws.below(4) {
                     let draw = draws.below(3);

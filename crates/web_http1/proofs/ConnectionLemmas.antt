@@ -420,7 +420,7 @@ end_steps s limits buffer old place rest end a b c e h k =
 
 -- a piece that was taken and answered
 module _ {S L D C V K : Type 0} (s : Setting S L D C V K) where
-  ended_only : (c d : ConnectionView) (e : Ended) (more : List ℕ) (xs : List Answer) (given rest : List ℕ) (closed : Bool) → c.limits ≡ d.limits
+  pub ended_only : (c d : ConnectionView) (e : Ended) (more : List ℕ) (xs : List Answer) (given rest : List ℕ) (closed : Bool) → c.limits ≡ d.limits
       → GoesOn s c (Some e) more xs given rest closed → GoesOn s d (Some e) more xs given rest closed
   ended_only c d ended.Closed more xs given rest closed same g = g
   ended_only c d (ended.Refused w) more xs given rest closed same g =
@@ -460,7 +460,7 @@ module _ {S L D C V K : Type 0} (s : Setting S L D C V K) where
         ),
       )
 
--- a step, where the handler promises the same
+-- a step, where the service promises the same
 module _ {S L D C V K : Type 0} (feed : S → Feed) (request : ExchangeView S L D C → Request L D C)
     (c_a c_b : Request L D C → Request L D C) (p_a p_b : Request L D C → List Mark → Promise V) (l_a l_b : K → Request L D C → Promise V)
     (h : SameService c_a c_b p_a p_b l_a l_b) where

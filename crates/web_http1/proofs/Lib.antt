@@ -19,3 +19,4 @@ pub mod DueBodyLemmas
 pub mod BegunLemmas
 pub mod RefusalLemmas
 pub mod BegunCallLemmas
+pub mod InPlaceLemmas

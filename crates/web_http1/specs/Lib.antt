@@ -16,3 +16,4 @@ pub mod BegunCalls
 pub mod ConnectionPieces
 pub mod Polls
 pub mod Serving
+pub mod InPlace

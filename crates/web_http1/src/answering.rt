@@ -1,6 +1,6 @@
 //! The replies to the messages of bytes that came.
 ghost use Rattle.std.specs.Prelude.{◌≡◌, ◌+◌, ◌-◌, ◌<◌, ◌≤◌, ◌^◌, drop, length};
-ghost use Rattle.std.specs.Prelude.{List, ℕ};
+ghost use Rattle.std.specs.Prelude.{IfOk, List, OnErr, ℕ};
 ghost use Rattle.web_worker.specs.PlanPools.{with_records};
 ghost use Rattle.web_messages.specs.NextMessage.{IsNext, message_of};
 ghost use Rattle.web_messages.specs.Progress.{IsProgress, IsShort, next_at_end};
@@ -8,13 +8,14 @@ ghost use Rattle.web_http1.specs.Connections.{AllOpen, FinishesWith};
 ghost use Rattle.web_http1.specs.ConnectionSteps.{IsAnsweredRest, RefusedWith};
 ghost use Rattle.web_http1.specs.ConnectionSteps.{IsReplied, IsServed, IsTurned};
 ghost use Rattle.web_http1.specs.ConnectionSteps.{WaitsBehind, open_left, turned_left};
+ghost use Rattle.web_http1.specs.InPlace.{IsLastWritten};
 ghost use Rattle.web_http1.specs.OneAnswer.{TurnsOne};
 
 use crate::closing::{asks_end, is_head};
 use crate::ended::Ended;
 use crate::exchange::exchange_of;
-use crate::polled::reply_to;
-use crate::reply::{refusal, sent_reply, write_reply};
+use crate::polled::{reply_of, serve_flight, take_reply};
+use crate::reply::{refusal, sent_reply, write_reply, write_response};
 use bytes::Bytes;
 use std::alloc::Global;
 use web_messages::{
@@ -61,41 +62,76 @@ pub(crate) struct AnsweredRest {
     pub(crate) left: Left,
 }
 
+/// Writes the reply of the one flight, whose body is read first, and returns whether it closes the
+/// connection.
+fn write_read<A: App, Args, S: Service<A, Args>>(
+    alloc: Global,
+    rooms: &mut Rooms,
+    flights: &mut Vec<Flight<A, Args, S>>,
+    asked: bool,
+    is_head: bool,
+    out: &mut Vec<u8>,
+) -> Result<bool, NoMemory>
+    ensures ok { IfOk result
+        (IsLastWritten asked is_head flights.old.items out.old.items out.new.items) }
+    ensures err { OnErr result (out.new.items ≡ out.old.items) }
+{
+    let response = take_reply(flights)?;
+    let reply = sent_reply(alloc, asked, response)?;
+    write_reply(alloc, &mut rooms.reply, is_head, &reply, out)?;
+    Ok(reply.closes())
+}
+
+/// Writes the reply of the one flight, from where it stands if its body is in memory, and returns
+/// whether it closes the connection.
+fn write_last<A: App, Args, S: Service<A, Args>>(
+    alloc: Global,
+    rooms: &mut Rooms,
+    flights: &mut Vec<Flight<A, Args, S>>,
+    asked: bool,
+    is_head: bool,
+    out: &mut Vec<u8>,
+) -> Result<bool, NoMemory>
+    ensures ok { IfOk result
+        (IsLastWritten asked is_head flights.old.items out.old.items out.new.items) }
+    ensures err { OnErr result (out.new.items ≡ out.old.items) }
+{
+    let response = reply_of(flights.as_slice())?;
+    let written = write_response(alloc, &mut rooms.reply, is_head, asked, response, out)?;
+    match written {
+        Some(closes) => Ok(closes),
+        None => write_read(alloc, rooms, flights, asked, is_head, out),
+    }
+}
+
 /// Writes the reply to a message of this head and this body, and returns whether it closes the
 /// connection.
-fn answer_message<A: App, Args, H: Service<A, Args>>(
+fn answer_message<A: App, Args, S: Service<A, Args>>(
     alloc: Global,
     worker: &mut Worker<A>,
-    handler: &mut H,
+    service: &mut S,
     rooms: &mut Rooms,
-    flights: &mut Vec<Flight<A, Args, H>>,
+    flights: &mut Vec<Flight<A, Args, S>>,
     head: Box<Head>,
     body: Bytes,
     out: &mut Vec<u8>,
 ) -> Result<bool, NoMemory>
-    requires ready { H.ready handler.old }
+    requires ready { S.ready service.old }
     requires room { worker.old.made + 1 < 2 ^ 64 }
-    ensures ready { H.ready handler.new }
-    ensures same_promises { H.same_promises handler.old handler.new }
+    ensures ready { S.ready service.new }
+    ensures same_promises { S.same_promises service.old service.new }
     ensures made { worker.new.made ≤ worker.old.made + 1 }
     ensures kept { worker.new ≡ with_records worker.new.serials worker.new.made worker.old }
     ensures reply { (used : ℕ)
-        → IsReplied (⟦<H as Serves<A, Args>>⟧.setting handler.old worker.old)
+        → IsReplied (⟦<S as Serves<A, Args>>⟧.setting service.old worker.old)
         (message_of head.value body used) out.old.items out.new.items result }
 {
     let parts = &*head;
     let asked = asks_end(parts);
     let is_head = is_head(parts);
-    let response = reply_to(
-        alloc,
-        worker,
-        handler,
-        flights,
-        exchange_of(alloc, head, body),
-    )?;
-    let reply = sent_reply(alloc, asked, response)?;
-    write_reply(alloc, &mut rooms.reply, is_head, &reply, out)?;
-    Ok(reply.closes())
+    let exchange = exchange_of(alloc, head, body);
+    serve_flight(alloc, worker, service, flights, exchange)?;
+    write_last(alloc, rooms, flights, asked, is_head, out)
 }
 
 /// Writes the reply of a refusal. Returns how the connection ended.
@@ -110,27 +146,27 @@ pub(crate) fn refuse(alloc: Global, rooms: &mut Rooms, wrong: Wrong, out: &mut V
 }
 
 /// Writes the reply to the next message, which has this head and this body, and so many bytes.
-fn serve_message<A: App, Args, H: Service<A, Args>>(
+fn serve_message<A: App, Args, S: Service<A, Args>>(
     alloc: Global,
     worker: &mut Worker<A>,
-    handler: &mut H,
+    service: &mut S,
     rooms: &mut Rooms,
-    flights: &mut Vec<Flight<A, Args, H>>,
+    flights: &mut Vec<Flight<A, Args, S>>,
     head: Box<Head>,
     body: Bytes,
     used: usize,
     out: &mut Vec<u8>,
 ) -> Turned
-    requires ready { H.ready handler.old }
+    requires ready { S.ready service.old }
     requires room { worker.old.made + 1 < 2 ^ 64 }
-    ensures ready { H.ready handler.new }
-    ensures same_promises { H.same_promises handler.old handler.new }
+    ensures ready { S.ready service.new }
+    ensures same_promises { S.same_promises service.old service.new }
     ensures made { worker.new.made ≤ worker.old.made + 1 }
     ensures kept { worker.new ≡ with_records worker.new.serials worker.new.made worker.old }
-    ensures turned { IsServed (⟦<H as Serves<A, Args>>⟧.setting handler.old worker.old)
+    ensures turned { IsServed (⟦<S as Serves<A, Args>>⟧.setting service.old worker.old)
         (message_of head.value body used) out.old.items out.new.items result }
 {
-    match answer_message(alloc, worker, handler, rooms, flights, head, body, out) {
+    match answer_message(alloc, worker, service, rooms, flights, head, body, out) {
         Ok(true) => Turned::Ended(Ended::Closed),
         Ok(false) => Turned::Goes(used),
         Err(NoMemory) => Turned::Ended(Ended::NoMemory),
@@ -150,34 +186,34 @@ pub(crate) fn wait(limits: &Limits, progress: Progress) -> Turned
 }
 
 /// Writes what is next at the front of the bytes, where it is known.
-pub(crate) fn serve_next<A: App, Args, H: Service<A, Args>>(
+pub(crate) fn serve_next<A: App, Args, S: Service<A, Args>>(
     alloc: Global,
     worker: &mut Worker<A>,
-    handler: &mut H,
+    service: &mut S,
     limits: &Limits,
     rest: &[u8],
     progress: Progress,
     rooms: &mut Rooms,
-    flights: &mut Vec<Flight<A, Args, H>>,
+    flights: &mut Vec<Flight<A, Args, S>>,
     out: &mut Vec<u8>,
 ) -> Turned
     requires progress { IsProgress limits.now rest.now progress }
-    requires ready { H.ready handler.old }
+    requires ready { S.ready service.old }
     requires room { worker.old.made + length rest.now < 2 ^ 64 }
-    ensures ready { H.ready handler.new }
-    ensures same_promises { H.same_promises handler.old handler.new }
+    ensures ready { S.ready service.new }
+    ensures same_promises { S.same_promises service.old service.new }
     ensures made { worker.new.made + turned_left result (length rest.now)
         ≤ worker.old.made + length rest.now }
     ensures kept { worker.new ≡ with_records worker.new.serials worker.new.made worker.old }
-    ensures turned { IsTurned (⟦<H as Serves<A, Args>>⟧.setting handler.old worker.old)
+    ensures turned { IsTurned (⟦<S as Serves<A, Args>>⟧.setting service.old worker.old)
         limits.now rest.now out.old.items out.new.items result }
-    ensures one { TurnsOne (⟦<H as Serves<A, Args>>⟧.setting handler.old worker.old)
+    ensures one { TurnsOne (⟦<S as Serves<A, Args>>⟧.setting service.old worker.old)
         limits.now rest.now out.old.items out.new.items result }
 {
     match read_on(alloc, limits, rest, progress, &mut rooms.head) {
         Ok(step) => match step {
             MessageRead::Message(head, body, used) => serve_message(
-                alloc, worker, handler, rooms, flights, head, body, used, out,
+                alloc, worker, service, rooms, flights, head, body, used, out,
             ),
             MessageRead::Refused(wrong) => Turned::Ended(refuse(alloc, rooms, wrong, out)),
             MessageRead::Unfinished(progress) => wait(limits, progress),
@@ -187,10 +223,10 @@ pub(crate) fn serve_next<A: App, Args, H: Service<A, Args>>(
 }
 
 /// Writes the reply to each message that is whole, from a place in the buffer on.
-pub(crate) fn answer_rest<A: App, Args, H: Service<A, Args>>(
+pub(crate) fn answer_rest<A: App, Args, S: Service<A, Args>>(
     alloc: Global,
     worker: &mut Worker<A>,
-    handler: &mut H,
+    service: &mut S,
     limits: &Limits,
     buffer: &[u8],
     start: usize,
@@ -200,15 +236,15 @@ pub(crate) fn answer_rest<A: App, Args, H: Service<A, Args>>(
 ) -> AnsweredRest
     requires start { start ≤ length buffer.now }
     requires progress { IsProgress limits.now (drop start buffer.now) progress }
-    requires ready { H.ready handler.old }
+    requires ready { S.ready service.old }
     requires room { worker.old.made + (length buffer.now - start) < 2 ^ 64 }
-    ensures ready { H.ready handler.new }
-    ensures same_promises { H.same_promises handler.old handler.new }
+    ensures ready { S.ready service.new }
+    ensures same_promises { S.same_promises service.old service.new }
     ensures place { (start ≤ result.place) × (result.place ≤ length buffer.now) }
     ensures made { worker.new.made + open_left result.left (length buffer.now - result.place)
         ≤ worker.old.made + (length buffer.now - start) }
     ensures kept { worker.new ≡ with_records worker.new.serials worker.new.made worker.old }
-    ensures left { IsAnsweredRest (⟦<H as Serves<A, Args>>⟧.setting handler.old worker.old)
+    ensures left { IsAnsweredRest (⟦<S as Serves<A, Args>>⟧.setting service.old worker.old)
         limits.now (drop start buffer.now) (drop result.place buffer.now)
         out.old.items out.new.items result.left }
 {
@@ -220,7 +256,7 @@ pub(crate) fn answer_rest<A: App, Args, H: Service<A, Args>>(
         match serve_next(
             alloc,
             worker,
-            handler,
+            service,
             limits,
             &buffer[place..],
             progress,

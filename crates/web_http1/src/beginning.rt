@@ -238,58 +238,58 @@ fn begin_reply<S: Source>(
 }
 
 /// Begins the reply to a message of this head and this body.
-fn begin_message<A: App, Args, H: Service<A, Args>>(
+fn begin_message<A: App, Args, S: Service<A, Args>>(
     alloc: Global,
     worker: &mut Worker<A>,
-    handler: &mut H,
+    service: &mut S,
     settings: &ReplySettings,
     rooms: &mut Rooms,
-    flights: &mut Vec<Flight<A, Args, H>>,
+    flights: &mut Vec<Flight<A, Args, S>>,
     head: Box<Head>,
     body: Bytes,
     out: &mut Vec<u8>,
 ) -> Result<BegunReply<A::Source>, NoMemory>
-    requires ready { H.ready handler.old }
+    requires ready { S.ready service.old }
     requires room { worker.old.made + 1 < 2 ^ 64 }
-    ensures ready { H.ready handler.new }
-    ensures same_promises { H.same_promises handler.old handler.new }
+    ensures ready { S.ready service.new }
+    ensures same_promises { S.same_promises service.old service.new }
     ensures made { worker.new.made ≤ worker.old.made + 1 }
     ensures kept { worker.new ≡ with_records worker.new.serials worker.new.made worker.old }
     ensures begun { (used : ℕ)
-        → IsBegunOr (⟦<H as Serves<A, Args>>⟧.setting handler.old worker.old) settings.now
+        → IsBegunOr (⟦<S as Serves<A, Args>>⟧.setting service.old worker.old) settings.now
         (message_of head.value body used) out.old.items out.new.items result }
 {
     let parts = &*head;
     let asked = asked_of(parts);
     let exchange = exchange_of(alloc, head, body);
-    let response = reply_to(alloc, worker, handler, flights, exchange)?;
+    let response = reply_to(alloc, worker, service, flights, exchange)?;
     begin_reply(alloc, &mut rooms.reply, asked, settings, response, out)
 }
 
 /// Begins the reply to the next message, which has this head and this body, and so many bytes.
-fn begin_turn<A: App, Args, H: Service<A, Args>>(
+fn begin_turn<A: App, Args, S: Service<A, Args>>(
     alloc: Global,
     worker: &mut Worker<A>,
-    handler: &mut H,
+    service: &mut S,
     settings: &ReplySettings,
     rooms: &mut Rooms,
-    flights: &mut Vec<Flight<A, Args, H>>,
+    flights: &mut Vec<Flight<A, Args, S>>,
     head: Box<Head>,
     body: Bytes,
     used: usize,
     out: &mut Vec<u8>,
 ) -> BegunTurn<A::Source>
-    requires ready { H.ready handler.old }
+    requires ready { S.ready service.old }
     requires room { worker.old.made + 1 < 2 ^ 64 }
-    ensures ready { H.ready handler.new }
-    ensures same_promises { H.same_promises handler.old handler.new }
+    ensures ready { S.ready service.new }
+    ensures same_promises { S.same_promises service.old service.new }
     ensures made { worker.new.made ≤ worker.old.made + 1 }
     ensures kept { worker.new ≡ with_records worker.new.serials worker.new.made worker.old }
-    ensures turned { BeginsMessage (⟦<H as Serves<A, Args>>⟧.setting handler.old worker.old)
+    ensures turned { BeginsMessage (⟦<S as Serves<A, Args>>⟧.setting service.old worker.old)
         settings.now (message_of head.value body used) out.old.items out.new.items result }
 {
     match begin_message(
-        alloc, worker, handler, settings, rooms, flights, head, body, out,
+        alloc, worker, service, settings, rooms, flights, head, body, out,
     ) {
         Ok(reply) => BegunTurn::Begun(used, reply),
         Err(NoMemory) => BegunTurn::Turned(Turned::Ended(Ended::NoMemory)),
@@ -297,33 +297,33 @@ fn begin_turn<A: App, Args, H: Service<A, Args>>(
 }
 
 /// Begins what is next at the front of the bytes, where it is known.
-pub(crate) fn begin_step<A: App, Args, H: Service<A, Args>>(
+pub(crate) fn begin_step<A: App, Args, S: Service<A, Args>>(
     alloc: Global,
     worker: &mut Worker<A>,
-    handler: &mut H,
+    service: &mut S,
     settings: &ReplySettings,
     limits: &Limits,
     rest: &[u8],
     progress: Progress,
     rooms: &mut Rooms,
-    flights: &mut Vec<Flight<A, Args, H>>,
+    flights: &mut Vec<Flight<A, Args, S>>,
     out: &mut Vec<u8>,
 ) -> BegunTurn<A::Source>
     requires progress { IsProgress limits.now rest.now progress }
-    requires ready { H.ready handler.old }
+    requires ready { S.ready service.old }
     requires room { worker.old.made + length rest.now < 2 ^ 64 }
-    ensures ready { H.ready handler.new }
-    ensures same_promises { H.same_promises handler.old handler.new }
+    ensures ready { S.ready service.new }
+    ensures same_promises { S.same_promises service.old service.new }
     ensures made { worker.new.made + begun_left result (length rest.now)
         ≤ worker.old.made + length rest.now }
     ensures kept { worker.new ≡ with_records worker.new.serials worker.new.made worker.old }
-    ensures one { BeginsOne (⟦<H as Serves<A, Args>>⟧.setting handler.old worker.old)
+    ensures one { BeginsOne (⟦<S as Serves<A, Args>>⟧.setting service.old worker.old)
         settings.now limits.now rest.now out.old.items out.new.items result }
 {
     match read_on(alloc, limits, rest, progress, &mut rooms.head) {
         Ok(step) => match step {
             MessageRead::Message(head, body, used) => begin_turn(
-                alloc, worker, handler, settings, rooms, flights, head, body, used, out,
+                alloc, worker, service, settings, rooms, flights, head, body, used, out,
             ),
             MessageRead::Refused(wrong) => {
                 BegunTurn::Turned(Turned::Ended(refuse_as(alloc, rooms, settings, wrong, out)))

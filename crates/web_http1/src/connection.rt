@@ -7,13 +7,14 @@ ghost use Rattle.web_http1.specs.BegunAnswers.{BegunWaits, after_begun};
 ghost use Rattle.web_http1.specs.BegunAnswers.{BeginsOne, IsInside, TurnsTo, WaitsAfter};
 ghost use Rattle.web_http1.specs.BegunAnswers.{after_reply, answered_after, begun_left};
 ghost use Rattle.web_http1.specs.BegunAnswers.{end_after, moved};
-ghost use Rattle.web_http1.specs.ConnectionSteps.{WaitsBehind};
+ghost use Rattle.web_http1.specs.ConnectionSteps.{WaitsBehind, with_piece};
 ghost use Rattle.web_http1.specs.DueBodies.{cut};
-ghost use Rattle.web_http1.specs.Connections.{Finishes, IsOwnEnd, StepsFrom, WaitsForMore};
-ghost use Rattle.web_http1.specs.Connections.{bytes_open, ended_at};
+ghost use Rattle.web_http1.specs.Connections.{Finishes, IsOwnEnd, StepsFrom, StepsTo};
+ghost use Rattle.web_http1.specs.Connections.{WaitsForMore, bytes_open, ended_at, open_at};
 ghost use Rattle.web_http1.specs.Expecting.{AwaitsContinue, Continues};
 ghost use Rattle.web_http1.specs.Keeping.{KeepsFew};
-ghost use Rattle.web_http1.specs.OneAnswer.{IsAnswered, WaitsWhere};
+ghost use Rattle.web_http1.specs.InPlace.{KeepsRest};
+ghost use Rattle.web_http1.specs.OneAnswer.{IsAnswered, Waits, WaitsWhere};
 ghost use Rattle.web_http1.specs.RefusalReplies.{FinishesWhere};
 
 use crate::answered::Answered;
@@ -23,6 +24,7 @@ use crate::begun::Begun;
 use crate::due_body::DueBody;
 use crate::ended::Ended;
 use crate::expecting::{awaits_continue, put_continue};
+use crate::feed_error::FeedError;
 use crate::refusing::finish_rest_as;
 use crate::settings::ReplySettings;
 use std::alloc::Global;
@@ -95,7 +97,7 @@ impl Model for Connection {
 
 impl Connection {
     ghost use Rattle.std.specs.Prelude.{◌≡◌, ◌+◌, ◌++◌, ◌<◌, ◌≤◌, ◌^◌, [], IfOk, None, OnErr};
-    ghost use Rattle.std.specs.Prelude.{OnOk, Some, false, length, true};
+    ghost use Rattle.std.specs.Prelude.{◌⊎◌, ◌↔◌, IsErrOf, OnOk, Some, false, length, true};
     ghost use Rattle.web_messages.specs.Progress.{HasFewBlank};
 
     /// A connection of which no byte came. Its header maps have keys of zero, for senders that do
@@ -164,7 +166,8 @@ impl Connection {
 
     /// Whether so many bytes can be kept besides, by `Limits::kept`.
     fn has_room(&self, more: usize) -> bool
-        ensures { result ≡ true → length self.now.left + more ≤ self.now.limits.kept }
+        ensures fits { result ≡ true → length self.now.left + more ≤ self.now.limits.kept }
+        ensures full { result ≡ false → self.now.limits.kept < length self.now.left + more }
     {
         let kept = self.kept();
         if kept > self.limits.kept {
@@ -173,9 +176,14 @@ impl Connection {
         more <= self.limits.kept - kept
     }
 
-    /// Takes the next bytes of the connection. Where an allocation fails, and where more bytes than
-    /// `Limits::kept` would be kept then, nothing was taken: a loop may end it by `finish`.
-    pub fn feed(&mut self, alloc: Global, piece: &[u8]) -> Result<(), NoMemory>
+    /// Takes the next bytes of the connection.
+    ///
+    /// # Errors
+    ///
+    /// `TooMuchKept` where more bytes than `Limits::kept` would be kept then, and only there: a
+    /// loop may end the connection by `finish`. `NoMemory` where an allocation failed. Nothing
+    /// was taken then.
+    pub fn feed(&mut self, alloc: Global, piece: &[u8]) -> Result<(), FeedError>
         ensures ok { OnOk result (self.new ≡ record {
           limits = self.old.limits;
           left = self.old.left ++ piece.now;
@@ -184,12 +192,16 @@ impl Connection {
         ensures err { OnErr result (self.new ≡ self.old) }
         ensures kept { OnOk result
             (length self.old.left + length piece.now ≤ self.old.limits.kept) }
+        ensures too_much { IsErrOf result FeedError.TooMuchKept
+            ↔ (self.old.limits.kept < length self.old.left + length piece.now) }
     {
         if !self.has_room(piece.len()) {
-            return Err(NoMemory);
+            return Err(FeedError::TooMuchKept);
         }
-        self.add_bytes(alloc, piece)?;
-        Ok(())
+        match self.add_bytes(alloc, piece) {
+            Ok(()) => Ok(()),
+            Err(NoMemory) => Err(FeedError::NoMemory),
+        }
     }
 
     /// Adds bytes to those that are left. Where an allocation fails, nothing was added.
@@ -210,17 +222,17 @@ impl Connection {
     /// bytes as it may have. It ends after a reply that closes, and after a refusal. Where an
     /// allocation failed it ends too, with `Ended::NoMemory`. Of empty lines before a head no more
     /// are kept than a head may have.
-    pub fn answer<A: App, Args, H: Service<A, Args>>(
+    pub fn answer<A: App, Args, S: Service<A, Args>>(
         &mut self,
         alloc: Global,
         worker: &mut Worker<A>,
-        handler: &mut H,
+        service: &mut S,
         out: &mut Vec<u8>,
     )
-        requires ready { H.ready handler.old }
+        requires ready { S.ready service.old }
         requires room { worker.old.made + bytes_open self.old < 2 ^ 64 }
-        ensures ready { H.ready handler.new }
-        ensures same_promises { H.same_promises handler.old handler.new }
+        ensures ready { S.ready service.new }
+        ensures same_promises { S.same_promises service.old service.new }
         ensures made { worker.new.made + bytes_open self.new
             ≤ worker.old.made + bytes_open self.old }
         ensures kept { worker.new ≡ with_records worker.new.serials worker.new.made worker.old }
@@ -229,7 +241,7 @@ impl Connection {
         ensures few { self.new.ended ≡ None → HasFewBlank self.new.limits self.new.left }
         ensures keeps { self.new.ended ≡ None → KeepsFew self.new.limits self.new.left }
         ensures own { self.old.ended ≡ None → IsOwnEnd self.new.ended }
-        ensures steps { StepsFrom (⟦<H as Serves<A, Args>>⟧.setting handler.old worker.old)
+        ensures steps { StepsFrom (⟦<S as Serves<A, Args>>⟧.setting service.old worker.old)
             self.old self.new out.old.items out.new.items }
     {
         if self.ended.is_some() {
@@ -239,7 +251,7 @@ impl Connection {
         let answered = answer_rest(
             alloc,
             worker,
-            handler,
+            service,
             &self.limits,
             self.buffer.as_slice(),
             self.start,
@@ -256,28 +268,151 @@ impl Connection {
         }
     }
 
-    /// Writes the reply to the next message, where it is whole, or the reply of a refusal that no
-    /// byte that follows can lift: at most one reply. A loop that sends it and then calls again has
-    /// one reply in memory at a time.
-    pub fn answer_next<A: App, Args, H: Service<A, Args>>(
+    /// Takes the next bytes and answers what is whole then: `feed`, and `answer` after it. Where
+    /// nothing is kept, the bytes are answered where they stand, and only those are copied that are
+    /// kept then; so a piece with all of a connection is not copied.
+    ///
+    /// # Errors
+    ///
+    /// As of `feed`: nothing was taken and written then. Where an allocation fails later, the
+    /// connection ends in `Ended::NoMemory`, as by `answer`.
+    pub fn take<A: App, Args, S: Service<A, Args>>(
         &mut self,
         alloc: Global,
         worker: &mut Worker<A>,
-        handler: &mut H,
+        service: &mut S,
+        piece: &[u8],
+        out: &mut Vec<u8>,
+    ) -> Result<(), FeedError>
+        requires ready { S.ready service.old }
+        requires room { worker.old.made + bytes_open (with_piece self.old piece.now) < 2 ^ 64 }
+        ensures ready { S.ready service.new }
+        ensures same_promises { S.same_promises service.old service.new }
+        ensures made { OnOk result (worker.new.made + bytes_open self.new
+            ≤ worker.old.made + bytes_open (with_piece self.old piece.now)) }
+        ensures kept { worker.new ≡ with_records worker.new.serials worker.new.made worker.old }
+        ensures limits { self.new.limits ≡ self.old.limits }
+        ensures too_much { IsErrOf result FeedError.TooMuchKept
+            ↔ (self.old.limits.kept < length self.old.left + length piece.now) }
+        ensures err { OnErr result ((self.new ≡ self.old) × (worker.new ≡ worker.old)
+            × (service.new ≡ service.old) × (out.new.items ≡ out.old.items)) }
+        ensures waits { OnOk result (WaitsForMore self.new) }
+        ensures few { OnOk result
+            (self.new.ended ≡ None → HasFewBlank self.new.limits self.new.left) }
+        ensures keeps { OnOk result
+            (self.new.ended ≡ None → KeepsFew self.new.limits self.new.left) }
+        ensures own { OnOk result (self.old.ended ≡ None → IsOwnEnd self.new.ended) }
+        ensures steps { OnOk result
+            (StepsFrom (⟦<S as Serves<A, Args>>⟧.setting service.old worker.old)
+            (with_piece self.old piece.now) self.new out.old.items out.new.items) }
+    {
+        if !self.has_room(piece.len()) {
+            return Err(FeedError::TooMuchKept);
+        }
+        if self.is_fresh() {
+            self.answer_in_place(alloc, worker, service, piece, out);
+            return Ok(());
+        }
+        match self.add_bytes(alloc, piece) {
+            Ok(()) => {
+                self.answer(alloc, worker, service, out);
+                Ok(())
+            }
+            Err(NoMemory) => Err(FeedError::NoMemory),
+        }
+    }
+
+    /// Whether it did not end, and nothing is kept.
+    fn is_fresh(&self) -> bool
+        ensures { result ≡ true → (self.now.ended ≡ None) × (self.now.left ≡ []) }
+    {
+        if self.ended.is_some() {
+            return false;
+        }
+        self.start == self.buffer.len()
+    }
+
+    /// Answers the messages of a piece where it stands, and keeps what is left of it.
+    fn answer_in_place<A: App, Args, S: Service<A, Args>>(
+        &mut self,
+        alloc: Global,
+        worker: &mut Worker<A>,
+        service: &mut S,
+        piece: &[u8],
+        out: &mut Vec<u8>,
+    )
+        requires unended { self.old.ended ≡ None }
+        requires empty { self.old.left ≡ [] }
+        requires ready { S.ready service.old }
+        requires room { worker.old.made + length piece.now < 2 ^ 64 }
+        ensures ready { S.ready service.new }
+        ensures same_promises { S.same_promises service.old service.new }
+        ensures made { worker.new.made + bytes_open self.new ≤ worker.old.made + length piece.now }
+        ensures kept { worker.new ≡ with_records worker.new.serials worker.new.made worker.old }
+        ensures limits { self.new.limits ≡ self.old.limits }
+        ensures waits { self.new.ended ≡ None → Waits self.new }
+        ensures own { IsOwnEnd self.new.ended }
+        ensures steps { StepsTo (⟦<S as Serves<A, Args>>⟧.setting service.old worker.old)
+            (open_at self.old.limits piece.now) self.new out.old.items out.new.items }
+    {
+        let answered = answer_rest(
+            alloc,
+            worker,
+            service,
+            &self.limits,
+            piece,
+            0,
+            Progress::start(),
+            &mut self.rooms,
+            out,
+        );
+        let place = answered.place;
+        match answered.left {
+            Left::Open(progress) => {
+                self.keep(alloc, &piece[place..], progress);
+            }
+            Left::Ended(ended) => self.end(ended),
+        }
+    }
+
+    /// Keeps these bytes, of which so much was read, where nothing is kept, and waits for more.
+    fn keep(&mut self, alloc: Global, rest: &[u8], progress: Progress) -> Answered
+        requires unended { self.old.ended ≡ None }
+        requires empty { self.old.left ≡ [] }
+        requires behind { WaitsBehind self.old.limits rest.now (Turned.Waits 0 progress) }
+        ensures { KeepsRest self.old.limits rest.now self.new result }
+    {
+        match self.add_bytes(alloc, rest) {
+            Ok(()) => self.wait(alloc, 0, progress),
+            Err(NoMemory) => {
+                self.end(Ended::NoMemory);
+                Answered::Ended(Ended::NoMemory)
+            }
+        }
+    }
+
+    /// Writes the reply to the next message, where it is whole, or the reply of a refusal that no
+    /// byte that follows can lift: at most one reply. A loop that sends it and then calls again has
+    /// one reply in memory at a time.
+    pub fn answer_next<A: App, Args, S: Service<A, Args>>(
+        &mut self,
+        alloc: Global,
+        worker: &mut Worker<A>,
+        service: &mut S,
         out: &mut Vec<u8>,
     ) -> Answered
-        requires ready { H.ready handler.old }
+        requires ready { S.ready service.old }
         requires room { worker.old.made + bytes_open self.old < 2 ^ 64 }
-        ensures ready { H.ready handler.new }
-        ensures same_promises { H.same_promises handler.old handler.new }
+        ensures ready { S.ready service.new }
+        ensures same_promises { S.same_promises service.old service.new }
         ensures made { worker.new.made + bytes_open self.new
             ≤ worker.old.made + bytes_open self.old }
         ensures kept { worker.new ≡ with_records worker.new.serials worker.new.made worker.old }
         ensures limits { self.new.limits ≡ self.old.limits }
         ensures waits { WaitsWhere result self.new }
-        ensures answered { IsAnswered (⟦<H as Serves<A, Args>>⟧.setting handler.old worker.old)
+        ensures answered { IsAnswered (⟦<S as Serves<A, Args>>⟧.setting service.old worker.old)
             self.old self.new out.old.items out.new.items result }
-        ensures steps { StepsFrom (⟦<H as Serves<A, Args>>⟧.setting handler.old worker.old)
+        ensures steps { StepsFrom (⟦<S as Serves<A, Args>>⟧.setting service.old worker.old)
             self.old self.new out.old.items out.new.items }
     {
         if let Some(ended) = self.ended {
@@ -288,7 +423,7 @@ impl Connection {
         let turned = serve_next(
             alloc,
             worker,
-            handler,
+            service,
             &self.limits,
             &self.buffer[self.start..],
             progress,
@@ -339,58 +474,58 @@ impl Connection {
     /// body that is not in memory is handed back, with the connection, and written piece by piece.
     /// Its length is stated if the response states it. Otherwise it is written in chunks, or to
     /// HTTP/1.0 until the connection ends.
-    pub fn begin_next<A: App, Args, H: Service<A, Args>>(
+    pub fn begin_next<A: App, Args, S: Service<A, Args>>(
         self,
         alloc: Global,
         worker: &mut Worker<A>,
-        handler: &mut H,
+        service: &mut S,
         settings: &ReplySettings,
         out: &mut Vec<u8>,
     ) -> Begun<A::Source>
-        requires ready { H.ready handler.old }
+        requires ready { S.ready service.old }
         requires room { worker.old.made + bytes_open self < 2 ^ 64 }
-        ensures ready { H.ready handler.new }
-        ensures same_promises { H.same_promises handler.old handler.new }
+        ensures ready { S.ready service.new }
+        ensures same_promises { S.same_promises service.old service.new }
         ensures made { worker.new.made + bytes_open (after_begun result)
             ≤ worker.old.made + bytes_open self }
         ensures kept { worker.new ≡ with_records worker.new.serials worker.new.made worker.old }
         ensures limits { (after_begun result).limits ≡ self.limits }
         ensures waits { BegunWaits result }
-        ensures begun { BeginsNext (⟦<H as Serves<A, Args>>⟧.setting handler.old worker.old)
+        ensures begun { BeginsNext (⟦<S as Serves<A, Args>>⟧.setting service.old worker.old)
             settings.now self out.old.items out.new.items result }
         ensures steps { AddsNothing settings.now
-            → AllHaveTheirLength (⟦<H as Serves<A, Args>>⟧.setting handler.old worker.old)
-            → BegunSteps (⟦<H as Serves<A, Args>>⟧.setting handler.old worker.old) self
+            → AllHaveTheirLength (⟦<S as Serves<A, Args>>⟧.setting service.old worker.old)
+            → BegunSteps (⟦<S as Serves<A, Args>>⟧.setting service.old worker.old) self
             out.old.items out.new.items result }
     {
         let mut connection = self;
         if let Some(ended) = connection.ended() {
             return Begun::Answered(connection, Answered::Ended(ended));
         }
-        match connection.begin(alloc, worker, handler, settings, out) {
+        match connection.begin(alloc, worker, service, settings, out) {
             BegunTurn::Begun(used, reply) => connection.after_reply(used, reply),
             BegunTurn::Turned(turned) => connection.after_turn(alloc, turned),
         }
     }
 
     /// One step over the bytes that are left, which stay.
-    fn begin<A: App, Args, H: Service<A, Args>>(
+    fn begin<A: App, Args, S: Service<A, Args>>(
         &mut self,
         alloc: Global,
         worker: &mut Worker<A>,
-        handler: &mut H,
+        service: &mut S,
         settings: &ReplySettings,
         out: &mut Vec<u8>,
     ) -> BegunTurn<A::Source>
-        requires ready { H.ready handler.old }
+        requires ready { S.ready service.old }
         requires room { worker.old.made + length self.old.left < 2 ^ 64 }
         ensures same { self.new ≡ self.old }
-        ensures ready { H.ready handler.new }
-        ensures same_promises { H.same_promises handler.old handler.new }
+        ensures ready { S.ready service.new }
+        ensures same_promises { S.same_promises service.old service.new }
         ensures made { worker.new.made + begun_left result (length self.old.left)
             ≤ worker.old.made + length self.old.left }
         ensures kept { worker.new ≡ with_records worker.new.serials worker.new.made worker.old }
-        ensures one { BeginsOne (⟦<H as Serves<A, Args>>⟧.setting handler.old worker.old)
+        ensures one { BeginsOne (⟦<S as Serves<A, Args>>⟧.setting service.old worker.old)
             settings.now self.old.limits self.old.left out.old.items out.new.items result }
     {
         let progress = mem::replace(&mut self.progress, Progress::start());
@@ -398,7 +533,7 @@ impl Connection {
         begin_step(
             alloc,
             worker,
-            handler,
+            service,
             settings,
             &self.limits,
             &self.buffer[self.start..],

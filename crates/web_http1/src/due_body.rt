@@ -1,19 +1,17 @@
 //! A body that is written after the head of its reply, piece by piece.
-ghost use Rattle.std.specs.Prelude.{◌≡◌, ◌++◌, IfOk, IfSome, List, None, OnErr, OnOk, false};
-ghost use Rattle.std.specs.Prelude.{string_bytes, ℕ};
-ghost use Rattle.std.specs.Fmt.{digits};
+ghost use Rattle.std.specs.Prelude.{◌≡◌, ◌++◌, IfSome, List, None, OnErr, OnOk, ℕ};
 ghost use Rattle.web_body.specs.Payload.{payload_feed};
 ghost use Rattle.web_http1.specs.BodyFramings.{Fits, NoneIsDue, after_bytes, chunk_text};
 ghost use Rattle.web_http1.specs.BodyFramings.{end_text, piece_text};
 ghost use Rattle.web_http1.specs.DueBodies.{FollowsNext, FollowsSource, HasFewer, IsToCome};
 ghost use Rattle.web_http1.specs.DueBodies.{WritesEnd, WritesNext, WritesOn};
 ghost use Rattle.web_http1.specs.DueBodies.{WritesOne, WritesPiece, after_body, body_feed};
-ghost use Rattle.web_http1.specs.ReplyBytes.{crlf};
 
 use crate::connection::Connection;
 use crate::text::put_both;
 use std::alloc::Global;
 use web_body::Payload;
+use web_messages::chunk_line;
 use web_request::{Source, Turn};
 use web_texts::NoMemory;
 
@@ -91,20 +89,13 @@ impl BodyStep {
     }
 }
 
-/// The line before the bytes of a chunk.
-fn size_line(alloc: Global, size: usize) -> Result<String, NoMemory>
-    ensures { IfOk result (λ line. string_bytes line ≡ digits 16 false size ++ crlf) }
-{
-    Ok(format!(in alloc; "{:x}\r\n", size)?)
-}
-
 /// Writes a chunk of these bytes (RFC 7230, section 4.1): all of it, or nothing where an
 /// allocation failed.
 fn put_chunk(alloc: Global, out: &mut Vec<u8>, piece: &[u8]) -> Result<(), NoMemory>
     ensures ok { OnOk result (out.new.items ≡ out.old.items ++ chunk_text piece.now) }
     ensures err { OnErr result (out.new.items ≡ out.old.items) }
 {
-    let line = size_line(alloc, piece.len())?;
+    let line = chunk_line(alloc, piece.len())?;
     let before = out.len();
     put_both(out, line.as_bytes(), piece)?;
     if out.extend_from_slice(b"\r\n").is_err() {

@@ -19,22 +19,22 @@ use web_worker::{Serves, Service};
 /// the answers of all bytes, or a prefix of them where an allocation failed.
 ///
 /// The contract is a law, over the clauses of these calls; there is nothing to call it for.
-pub fn pieces_law<A: App, Args, H: Service<A, Args>>()
-    ensures prefix { (handler : H) (pool : Pool A.Layer) (limits : LimitsOf)
+pub fn pieces_law<A: App, Args, S: Service<A, Args>>()
+    ensures prefix { (service : S) (pool : Pool A.Layer) (limits : LimitsOf)
         (pieces : List (List ℕ)) (new : ConnectionView) (given : List ℕ)
-        → Fed (⟦<H as Serves<A, Args>>⟧.setting handler pool) (open_at limits []) pieces new given
-        → IsPrefixOfAnswers (⟦<H as Serves<A, Args>>⟧.setting handler pool) limits
+        → Fed (⟦<S as Serves<A, Args>>⟧.setting service pool) (open_at limits []) pieces new given
+        → IsPrefixOfAnswers (⟦<S as Serves<A, Args>>⟧.setting service pool) limits
         (joined pieces) given }
-    ensures whole { (handler : H) (pool : Pool A.Layer) (limits : LimitsOf)
+    ensures whole { (service : S) (pool : Pool A.Layer) (limits : LimitsOf)
         (pieces : List (List ℕ)) (new : ConnectionView) (given : List ℕ)
-        → Fed (⟦<H as Serves<A, Args>>⟧.setting handler pool) (open_at limits []) pieces new given
-        → AnswersWhole (⟦<H as Serves<A, Args>>⟧.setting handler pool) limits
+        → Fed (⟦<S as Serves<A, Args>>⟧.setting service pool) (open_at limits []) pieces new given
+        → AnswersWhole (⟦<S as Serves<A, Args>>⟧.setting service pool) limits
         (joined pieces) new.ended given }
-    ensures all { (handler : H) (pool : Pool A.Layer) (limits : LimitsOf)
+    ensures all { (service : S) (pool : Pool A.Layer) (limits : LimitsOf)
         (pieces : List (List ℕ)) (new : ConnectionView) (given tail : List ℕ) (end : EndedAs)
-        → Fed (⟦<H as Serves<A, Args>>⟧.setting handler pool) (open_at limits []) pieces new given
+        → Fed (⟦<S as Serves<A, Args>>⟧.setting service pool) (open_at limits []) pieces new given
         → FinishedWith new end tail
-        → AnswersAll (⟦<H as Serves<A, Args>>⟧.setting handler pool) limits
+        → AnswersAll (⟦<S as Serves<A, Args>>⟧.setting service pool) limits
         (joined pieces) end [] (given ++ tail) }
 {}
 
@@ -45,23 +45,23 @@ pub fn pieces_law<A: App, Args, H: Service<A, Args>>()
 /// writes it is the answers of all bytes, or a prefix of them where an allocation failed.
 ///
 /// The contract is a law, over the clauses of these calls; there is nothing to call it for.
-pub fn calls_law<A: App, Args, H: Service<A, Args>>()
-    ensures prefix { (handler : H) (pool : Pool A.Layer) (limits : LimitsOf)
+pub fn calls_law<A: App, Args, S: Service<A, Args>>()
+    ensures prefix { (service : S) (pool : Pool A.Layer) (limits : LimitsOf)
         (calls : List Call) (new : ConnectionView) (given : List ℕ)
-        → Called (⟦<H as Serves<A, Args>>⟧.setting handler pool) (open_at limits []) calls new given
-        → IsPrefixOfAnswers (⟦<H as Serves<A, Args>>⟧.setting handler pool) limits
+        → Called (⟦<S as Serves<A, Args>>⟧.setting service pool) (open_at limits []) calls new given
+        → IsPrefixOfAnswers (⟦<S as Serves<A, Args>>⟧.setting service pool) limits
         (fed calls) given }
-    ensures whole { (handler : H) (pool : Pool A.Layer) (limits : LimitsOf)
+    ensures whole { (service : S) (pool : Pool A.Layer) (limits : LimitsOf)
         (calls : List Call) (new : ConnectionView) (given : List ℕ)
-        → Called (⟦<H as Serves<A, Args>>⟧.setting handler pool) (open_at limits []) calls new given
+        → Called (⟦<S as Serves<A, Args>>⟧.setting service pool) (open_at limits []) calls new given
         → WaitsForMore new
-        → AnswersWhole (⟦<H as Serves<A, Args>>⟧.setting handler pool) limits
+        → AnswersWhole (⟦<S as Serves<A, Args>>⟧.setting service pool) limits
         (fed calls) new.ended given }
-    ensures all { (handler : H) (pool : Pool A.Layer) (limits : LimitsOf)
+    ensures all { (service : S) (pool : Pool A.Layer) (limits : LimitsOf)
         (calls : List Call) (new : ConnectionView) (given tail : List ℕ) (end : EndedAs)
-        → Called (⟦<H as Serves<A, Args>>⟧.setting handler pool) (open_at limits []) calls new given
+        → Called (⟦<S as Serves<A, Args>>⟧.setting service pool) (open_at limits []) calls new given
         → WaitsForMore new → FinishedWith new end tail
-        → AnswersAll (⟦<H as Serves<A, Args>>⟧.setting handler pool) limits
+        → AnswersAll (⟦<S as Serves<A, Args>>⟧.setting service pool) limits
         (fed calls) end [] (given ++ tail) }
 {}
 
@@ -70,25 +70,25 @@ pub fn calls_law<A: App, Args, H: Service<A, Args>>()
 /// has the bytes of one that is collected, where each body has the length that it states.
 ///
 /// The contract is a law, over the clauses of these calls; there is nothing to call it for.
-pub fn begun_calls_law<A: App, Args, H: Service<A, Args>>()
-    ensures prefix { (handler : H) (pool : Pool A.Layer) (limits : LimitsOf)
+pub fn begun_calls_law<A: App, Args, S: Service<A, Args>>()
+    ensures prefix { (service : S) (pool : Pool A.Layer) (limits : LimitsOf)
         (calls : List Call) (new : ConnectionView) (given : List ℕ)
-        → CalledOrBegun (⟦<H as Serves<A, Args>>⟧.setting handler pool) (open_at limits [])
+        → CalledOrBegun (⟦<S as Serves<A, Args>>⟧.setting service pool) (open_at limits [])
         calls new given
-        → IsPrefixOfAnswers (⟦<H as Serves<A, Args>>⟧.setting handler pool) limits
+        → IsPrefixOfAnswers (⟦<S as Serves<A, Args>>⟧.setting service pool) limits
         (fed calls) given }
-    ensures whole { (handler : H) (pool : Pool A.Layer) (limits : LimitsOf)
+    ensures whole { (service : S) (pool : Pool A.Layer) (limits : LimitsOf)
         (calls : List Call) (new : ConnectionView) (given : List ℕ)
-        → CalledOrBegun (⟦<H as Serves<A, Args>>⟧.setting handler pool) (open_at limits [])
+        → CalledOrBegun (⟦<S as Serves<A, Args>>⟧.setting service pool) (open_at limits [])
         calls new given
         → WaitsForMore new
-        → AnswersWhole (⟦<H as Serves<A, Args>>⟧.setting handler pool) limits
+        → AnswersWhole (⟦<S as Serves<A, Args>>⟧.setting service pool) limits
         (fed calls) new.ended given }
-    ensures all { (handler : H) (pool : Pool A.Layer) (limits : LimitsOf)
+    ensures all { (service : S) (pool : Pool A.Layer) (limits : LimitsOf)
         (calls : List Call) (new : ConnectionView) (given tail : List ℕ) (end : EndedAs)
-        → CalledOrBegun (⟦<H as Serves<A, Args>>⟧.setting handler pool) (open_at limits [])
+        → CalledOrBegun (⟦<S as Serves<A, Args>>⟧.setting service pool) (open_at limits [])
         calls new given
         → WaitsForMore new → FinishedWith new end tail
-        → AnswersAll (⟦<H as Serves<A, Args>>⟧.setting handler pool) limits
+        → AnswersAll (⟦<S as Serves<A, Args>>⟧.setting service pool) limits
         (fed calls) end [] (given ++ tail) }
 {}

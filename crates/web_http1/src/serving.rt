@@ -18,29 +18,29 @@ use web_request::{App, Source, Turn};
 use web_worker::{Serves, Service, Worker};
 
 /// Takes a piece, and answers what is whole then. Returns how the connection ended, if it did.
-fn take_piece<A: App, Args, H: Service<A, Args>>(
+fn take_piece<A: App, Args, S: Service<A, Args>>(
     alloc: Global,
     worker: &mut Worker<A>,
-    handler: &mut H,
+    service: &mut S,
     connection: &mut Connection,
     piece: &Bytes,
     out: &mut Vec<u8>,
 ) -> Option<Ended>
     requires unended { connection.old.ended ≡ None }
-    requires ready { H.ready handler.old }
+    requires ready { S.ready service.old }
     requires room { worker.old.made + (length connection.old.left + length piece.now) < 2 ^ 64 }
-    ensures ready { H.ready handler.new }
-    ensures same_promises { H.same_promises handler.old handler.new }
+    ensures ready { S.ready service.new }
+    ensures same_promises { S.same_promises service.old service.new }
     ensures made { worker.new.made + open_bytes result (length connection.new.left)
         ≤ worker.old.made + (length connection.old.left + length piece.now) }
     ensures kept { worker.new ≡ with_records worker.new.serials worker.new.made worker.old }
-    ensures takes { TakesPiece (⟦<H as Serves<A, Args>>⟧.setting handler.old worker.old)
+    ensures takes { TakesPiece (⟦<S as Serves<A, Args>>⟧.setting service.old worker.old)
         connection.old connection.new piece.now out.old.items out.new.items result }
 {
-    if connection.feed(alloc, piece.as_slice()).is_err() {
+    let piece = piece.as_slice();
+    if connection.take(alloc, worker, service, piece, out).is_err() {
         return Some(Ended::NoMemory);
     }
-    connection.answer(alloc, worker, handler, out);
     connection.ended()
 }
 
@@ -53,73 +53,73 @@ fn take_piece<A: App, Args, H: Service<A, Args>>(
 ///
 /// Its header maps have keys of zero, for senders that do not choose names that collide;
 /// `serve_connection_with` takes keys.
-pub fn serve_connection<A: App, Args, H: Service<A, Args>, S: Source>(
+pub fn serve_connection<A: App, Args, S: Service<A, Args>, I: Source>(
     alloc: Global,
     worker: &mut Worker<A>,
-    handler: &mut H,
+    service: &mut S,
     limits: Limits,
-    source: &mut S,
+    source: &mut I,
     out: &mut Vec<u8>,
 ) -> Ended
-    requires ready { H.ready handler.old }
+    requires ready { S.ready service.old }
     requires room { worker.old.made ≤ 2 ^ 63 }
-    ensures ready { H.ready handler.new }
-    ensures same_promises { H.same_promises handler.old handler.new }
-    ensures whole { (marks : List MarkOf) → (S.feed source.old).marks ≡ Some marks
+    ensures ready { S.ready service.new }
+    ensures same_promises { S.same_promises service.old service.new }
+    ensures whole { (marks : List MarkOf) → (I.feed source.old).marks ≡ Some marks
         → ends_in_fault marks ≡ false
-        → AnswersAll (⟦<H as Serves<A, Args>>⟧.setting handler.old worker.old) limits
+        → AnswersAll (⟦<S as Serves<A, Args>>⟧.setting service.old worker.old) limits
         (piece_bytes marks) result out.old.items out.new.items }
-    ensures fault { (marks : List MarkOf) → (S.feed source.old).marks ≡ Some marks
+    ensures fault { (marks : List MarkOf) → (I.feed source.old).marks ≡ Some marks
         → ends_in_fault marks ≡ true
-        → AnswersUpToFault (⟦<H as Serves<A, Args>>⟧.setting handler.old worker.old) limits
+        → AnswersUpToFault (⟦<S as Serves<A, Args>>⟧.setting service.old worker.old) limits
         (piece_bytes marks) result out.old.items out.new.items }
     ensures appends { Appends out.old.items out.new.items }
-    ensures faults { StopsAtFault result (S.feed source.old).faults (S.feed source.new).faults }
+    ensures faults { StopsAtFault result (I.feed source.old).faults (I.feed source.new).faults }
     ensures lacked { UnlessLacking result
-        ((S.feed source.new).lacked ≡ (S.feed source.old).lacked) }
+        ((I.feed source.new).lacked ≡ (I.feed source.old).lacked) }
     ensures made { worker.new.made
-        ≤ worker.old.made + ((S.feed source.new).given - (S.feed source.old).given) }
+        ≤ worker.old.made + ((I.feed source.new).given - (I.feed source.old).given) }
     ensures kept { worker.new ≡ with_records worker.new.serials worker.new.made worker.old }
 {
     let room = HeadRoom::new(alloc);
-    serve_connection_with(alloc, worker, handler, limits, room, source, out)
+    serve_connection_with(alloc, worker, service, limits, room, source, out)
 }
 
 /// As `serve_connection`, with header maps of the keys that the room has.
-pub fn serve_connection_with<A: App, Args, H: Service<A, Args>, S: Source>(
+pub fn serve_connection_with<A: App, Args, S: Service<A, Args>, I: Source>(
     alloc: Global,
     worker: &mut Worker<A>,
-    handler: &mut H,
+    service: &mut S,
     limits: Limits,
     room: HeadRoom,
-    source: &mut S,
+    source: &mut I,
     out: &mut Vec<u8>,
 ) -> Ended
-    requires ready { H.ready handler.old }
+    requires ready { S.ready service.old }
     requires room { worker.old.made ≤ 2 ^ 63 }
-    ensures ready { H.ready handler.new }
-    ensures same_promises { H.same_promises handler.old handler.new }
-    ensures whole { (marks : List MarkOf) → (S.feed source.old).marks ≡ Some marks
+    ensures ready { S.ready service.new }
+    ensures same_promises { S.same_promises service.old service.new }
+    ensures whole { (marks : List MarkOf) → (I.feed source.old).marks ≡ Some marks
         → ends_in_fault marks ≡ false
-        → AnswersAll (⟦<H as Serves<A, Args>>⟧.setting handler.old worker.old) limits
+        → AnswersAll (⟦<S as Serves<A, Args>>⟧.setting service.old worker.old) limits
         (piece_bytes marks) result out.old.items out.new.items }
-    ensures fault { (marks : List MarkOf) → (S.feed source.old).marks ≡ Some marks
+    ensures fault { (marks : List MarkOf) → (I.feed source.old).marks ≡ Some marks
         → ends_in_fault marks ≡ true
-        → AnswersUpToFault (⟦<H as Serves<A, Args>>⟧.setting handler.old worker.old) limits
+        → AnswersUpToFault (⟦<S as Serves<A, Args>>⟧.setting service.old worker.old) limits
         (piece_bytes marks) result out.old.items out.new.items }
     ensures appends { Appends out.old.items out.new.items }
-    ensures faults { StopsAtFault result (S.feed source.old).faults (S.feed source.new).faults }
+    ensures faults { StopsAtFault result (I.feed source.old).faults (I.feed source.new).faults }
     ensures lacked { UnlessLacking result
-        ((S.feed source.new).lacked ≡ (S.feed source.old).lacked) }
+        ((I.feed source.new).lacked ≡ (I.feed source.old).lacked) }
     ensures made { worker.new.made
-        ≤ worker.old.made + ((S.feed source.new).given - (S.feed source.old).given) }
+        ≤ worker.old.made + ((I.feed source.new).given - (I.feed source.old).given) }
     ensures kept { worker.new ≡ with_records worker.new.serials worker.new.made worker.old }
 {
     let mut connection = Connection::with_room(alloc, limits, room);
     'turns: loop {
         match source.next() {
             Turn::Piece(piece) => {
-                let ended = take_piece(alloc, worker, handler, &mut connection, &piece, out);
+                let ended = take_piece(alloc, worker, service, &mut connection, &piece, out);
                 if let Some(ended) = ended {
                     return ended;
                 }

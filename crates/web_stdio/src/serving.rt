@@ -11,7 +11,7 @@ use std::hash::RandomState;
 use std::io::{Read, Write};
 use std::random::RandomSource;
 use std::time::Clock;
-use web_http1::{Answered, Begun, Connection, Ended};
+use web_http1::{Answered, Begun, Connection, Ended, FeedError};
 use web_messages::HeadRoom;
 use web_request::App;
 use web_worker::{Service, Worker};
@@ -128,8 +128,12 @@ fn take_piece<C: Clock, A: App, Args, S: Service<A, Args>, W: Write>(
     ensures waits { IfOk result (λ after. WaitsForMore after) }
 {
     let mut connection = connection;
-    if connection.feed(alloc, piece).is_err() {
-        return finish(alloc, clock, additions, taken, connection, output);
+    match connection.feed(alloc, piece) {
+        Ok(()) => {}
+        Err(FeedError::TooMuchKept) => {
+            return finish(alloc, clock, additions, taken, connection, output);
+        }
+        Err(FeedError::NoMemory) => return Err(ServeFault::NoMemory),
     }
     let after = answer_whole::<C, A, Args, S, W>(
         alloc, clock, worker, service, additions, taken, connection, output,

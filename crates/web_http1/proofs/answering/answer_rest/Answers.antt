@@ -12,10 +12,10 @@ use Rattle.web_http1.proofs.answering.answer_rest.Goals as goal
 
 pub messages-init : goal.messages-init
 messages-init g c =
-    let s = setting_of (g.H.Service.completed c.args.handler.now) (g.H.Service.promise c.args.handler.now) (g.H.Service.left c.args.handler.now) g.A.Source.Source.feed c.args.worker.now in
+    let s = setting_of (g.S.Service.completed c.args.service.now) (g.S.Service.promise c.args.service.now) (g.S.Service.left c.args.service.now) g.A.Source.Source.feed c.args.worker.now in
     record {
       ready = c.requires.ready;
-      same_promises = g.met.H.Service.same_itself c.args.handler.now;
+      same_promises = g.met.S.Service.same_itself c.args.service.now;
       least = omega arith;
       inside = c.requires.start;
       progress = c.requires.progress;
@@ -37,15 +37,15 @@ serve_next-requires-clause-room g c =
 
 pub messages-preserved : goal.messages-preserved
 messages-preserved g c =
-    let s = setting_of (g.H.Service.completed c.args.handler.now) (g.H.Service.promise c.args.handler.now) (g.H.Service.left c.args.handler.now) g.A.Source.Source.feed c.args.worker.now in
+    let s = setting_of (g.S.Service.completed c.args.service.now) (g.S.Service.promise c.args.service.now) (g.S.Service.left c.args.service.now) g.A.Source.Source.feed c.args.worker.now in
     let size = ap length (take_rest c.args.buffer.now c.messages.place) ∙ length-drop c.messages.place c.args.buffer.now in
     let rest = take (length c.args.buffer.now - c.messages.place) (drop c.messages.place c.args.buffer.now) in
     let turned = rw c.messages.invariant.kept at c.in-Goes.ensures.turned in
-    let step = steps_as g.A.Source.Source.feed (request_of c.args.worker.now) (g.H.Service.completed c.args.handler.now) (g.H.Service.completed c.messages.handler)
-    (g.H.Service.promise c.args.handler.now) (g.H.Service.promise c.messages.handler) (g.H.Service.left c.args.handler.now) (g.H.Service.left c.messages.handler) (g.met.H.Service.keeps c.args.handler.now c.messages.handler c.messages.invariant.same_promises) (open_at c.args.limits.now rest) (open_at c.args.limits.now (drop c.in-Goes.used rest)) c.messages.out.items c.serve_next.new.out.items turned.2 in
+    let step = steps_as g.A.Source.Source.feed (request_of c.args.worker.now) (g.S.Service.completed c.args.service.now) (g.S.Service.completed c.messages.service)
+    (g.S.Service.promise c.args.service.now) (g.S.Service.promise c.messages.service) (g.S.Service.left c.args.service.now) (g.S.Service.left c.messages.service) (g.met.S.Service.keeps c.args.service.now c.messages.service c.messages.invariant.same_promises) (open_at c.args.limits.now rest) (open_at c.args.limits.now (drop c.in-Goes.used rest)) c.messages.out.items c.serve_next.new.out.items turned.2 in
     record {
       ready = c.in-Goes.ensures.ready;
-      same_promises = g.met.H.Service.same_on _ _ _ c.messages.invariant.same_promises c.in-Goes.ensures.same_promises;
+      same_promises = g.met.S.Service.same_on _ _ _ c.messages.invariant.same_promises c.in-Goes.ensures.same_promises;
       least = let least = c.messages.invariant.least in omega (arith, least);
       inside = let within = turned.1 in omega (arith, size, within);
       progress = c.start-progress.ensures c.args.limits.now (drop (c.messages.place + c.in-Goes.used) c.args.buffer.now);
@@ -68,17 +68,17 @@ messages-smaller g c =
 
 pub returns-in-Waits : goal.returns-in-Waits
 returns-in-Waits g c =
-    let s = setting_of (g.H.Service.completed c.args.handler.now) (g.H.Service.promise c.args.handler.now) (g.H.Service.left c.args.handler.now) g.A.Source.Source.feed c.args.worker.now in
+    let s = setting_of (g.S.Service.completed c.args.service.now) (g.S.Service.promise c.args.service.now) (g.S.Service.left c.args.service.now) g.A.Source.Source.feed c.args.worker.now in
     let size = ap length (take_rest c.args.buffer.now c.messages.place) ∙ length-drop c.messages.place c.args.buffer.now in
     let rest = take (length c.args.buffer.now - c.messages.place) (drop c.messages.place c.args.buffer.now) in
     let there = ap (drop c.in-Waits.skipped) (take_rest c.args.buffer.now c.messages.place) ∙ drop-drop c.in-Waits.skipped c.messages.place c.args.buffer.now in
     let turned = rw c.messages.invariant.kept at c.in-Waits.ensures.turned in
-    let step = steps_as g.A.Source.Source.feed (request_of c.args.worker.now) (g.H.Service.completed c.args.handler.now) (g.H.Service.completed c.messages.handler)
-    (g.H.Service.promise c.args.handler.now) (g.H.Service.promise c.messages.handler) (g.H.Service.left c.args.handler.now) (g.H.Service.left c.messages.handler) (g.met.H.Service.keeps c.args.handler.now c.messages.handler c.messages.invariant.same_promises) (open_at c.args.limits.now rest) (open_at c.args.limits.now (drop c.in-Waits.skipped rest)) c.messages.out.items c.serve_next.new.out.items turned.1 in
+    let step = steps_as g.A.Source.Source.feed (request_of c.args.worker.now) (g.S.Service.completed c.args.service.now) (g.S.Service.completed c.messages.service)
+    (g.S.Service.promise c.args.service.now) (g.S.Service.promise c.messages.service) (g.S.Service.left c.args.service.now) (g.S.Service.left c.messages.service) (g.met.S.Service.keeps c.args.service.now c.messages.service c.messages.invariant.same_promises) (open_at c.args.limits.now rest) (open_at c.args.limits.now (drop c.in-Waits.skipped rest)) c.messages.out.items c.serve_next.new.out.items turned.1 in
     let within = turned.0.0.inside in
     record {
       ready = c.in-Waits.ensures.ready;
-      same_promises = g.met.H.Service.same_on _ _ _ c.messages.invariant.same_promises c.in-Waits.ensures.same_promises;
+      same_promises = g.met.S.Service.same_on _ _ _ c.messages.invariant.same_promises c.in-Waits.ensures.same_promises;
       place = let least = c.messages.invariant.least in (omega (arith, least), omega (arith, size, within));
       made =
           let made = c.messages.invariant.made in
@@ -97,15 +97,15 @@ returns-in-Waits g c =
 
 pub returns-in-Ended : goal.returns-in-Ended
 returns-in-Ended g c =
-    let s = setting_of (g.H.Service.completed c.args.handler.now) (g.H.Service.promise c.args.handler.now) (g.H.Service.left c.args.handler.now) g.A.Source.Source.feed c.args.worker.now in
+    let s = setting_of (g.S.Service.completed c.args.service.now) (g.S.Service.promise c.args.service.now) (g.S.Service.left c.args.service.now) g.A.Source.Source.feed c.args.worker.now in
     let size = ap length (take_rest c.args.buffer.now c.messages.place) ∙ length-drop c.messages.place c.args.buffer.now in
     let rest = take (length c.args.buffer.now - c.messages.place) (drop c.messages.place c.args.buffer.now) in
     let turned = rw c.messages.invariant.kept at c.in-Ended.ensures.turned in
-    let step = steps_as g.A.Source.Source.feed (request_of c.args.worker.now) (g.H.Service.completed c.args.handler.now) (g.H.Service.completed c.messages.handler)
-    (g.H.Service.promise c.args.handler.now) (g.H.Service.promise c.messages.handler) (g.H.Service.left c.args.handler.now) (g.H.Service.left c.messages.handler) (g.met.H.Service.keeps c.args.handler.now c.messages.handler c.messages.invariant.same_promises) (open_at c.args.limits.now rest) (ended_at c.args.limits.now rest c.in-Ended.ended) c.messages.out.items c.serve_next.new.out.items turned.1 in
+    let step = steps_as g.A.Source.Source.feed (request_of c.args.worker.now) (g.S.Service.completed c.args.service.now) (g.S.Service.completed c.messages.service)
+    (g.S.Service.promise c.args.service.now) (g.S.Service.promise c.messages.service) (g.S.Service.left c.args.service.now) (g.S.Service.left c.messages.service) (g.met.S.Service.keeps c.args.service.now c.messages.service c.messages.invariant.same_promises) (open_at c.args.limits.now rest) (ended_at c.args.limits.now rest c.in-Ended.ended) c.messages.out.items c.serve_next.new.out.items turned.1 in
     record {
       ready = c.in-Ended.ensures.ready;
-      same_promises = g.met.H.Service.same_on _ _ _ c.messages.invariant.same_promises c.in-Ended.ensures.same_promises;
+      same_promises = g.met.S.Service.same_on _ _ _ c.messages.invariant.same_promises c.in-Ended.ensures.same_promises;
       place = (c.messages.invariant.least, c.messages.invariant.inside);
       made =
           let made = c.messages.invariant.made in

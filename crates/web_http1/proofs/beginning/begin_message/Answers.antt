@@ -14,7 +14,7 @@ use Rattle.web_http1.proofs.beginning.begin_message.Goals as goal
 pub returns-clause-begun : goal.returns-clause-begun
 returns-clause-begun g c = λ used.
     let m = message_of c.args.head.value c.args.body used in
-    let s = setting_of (g.H.Service.completed c.args.handler.now) (g.H.Service.promise c.args.handler.now) (g.H.Service.left c.args.handler.now) g.A.Source.Source.feed c.args.worker.now in
+    let s = setting_of (g.S.Service.completed c.args.service.now) (g.S.Service.promise c.args.service.now) (g.S.Service.left c.args.service.now) g.A.Source.Source.feed c.args.worker.now in
     let reply = plain_reply (box_plain g.A.Source.Source.feed) c.in_ok-response.response in
     begun_or s c.args.settings.now m c.args.out.now.items c.begin_reply.new.out.items c.asked_of-asked.result reply c.begin_reply.result
     (c.asked_of-asked.ensures ∙ ap (λ (h : Head). asked_of (message_of h [] 0)) c.deref-parts.ensures)

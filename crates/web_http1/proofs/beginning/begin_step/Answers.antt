@@ -16,21 +16,21 @@ begin_turn-requires-clause-room g c =
 
 pub returns-in-Message-clause-made : goal.returns-in-Message-clause-made
 returns-in-Message-clause-made g c =
-    let s = setting_of (g.H.Service.completed c.args.handler.now) (g.H.Service.promise c.args.handler.now) (g.H.Service.left c.args.handler.now) g.A.Source.Source.feed c.args.worker.now in
+    let s = setting_of (g.S.Service.completed c.args.service.now) (g.S.Service.promise c.args.service.now) (g.S.Service.left c.args.service.now) g.A.Source.Source.feed c.args.worker.now in
     let known = rw c.in-Message.is at c.in-Ok.ensures.next in
     message_made s c.args.settings.now c.args.limits.now c.args.rest.now (message_of c.in-Message.head.value c.in-Message.body c.in-Message.used) known
     c.args.out.now.items c.begin_turn.new.out.items c.begin_turn.result c.args.worker.now.made c.begin_turn.new.worker.made c.begin_turn.ensures.turned c.begin_turn.ensures.made
 
 pub returns-in-Message-clause-one : goal.returns-in-Message-clause-one
 returns-in-Message-clause-one g c =
-    let s = setting_of (g.H.Service.completed c.args.handler.now) (g.H.Service.promise c.args.handler.now) (g.H.Service.left c.args.handler.now) g.A.Source.Source.feed c.args.worker.now in
+    let s = setting_of (g.S.Service.completed c.args.service.now) (g.S.Service.promise c.args.service.now) (g.S.Service.left c.args.service.now) g.A.Source.Source.feed c.args.worker.now in
     let known = rw c.in-Message.is at c.in-Ok.ensures.next in
     message_begins s c.args.settings.now c.args.limits.now c.args.rest.now (message_of c.in-Message.head.value c.in-Message.body c.in-Message.used) known
     c.args.out.now.items c.begin_turn.new.out.items c.begin_turn.result c.begin_turn.ensures.turned
 
 pub returns-in-Refused-clause-one : goal.returns-in-Refused-clause-one
 returns-in-Refused-clause-one g c =
-    let s = setting_of (g.H.Service.completed c.args.handler.now) (g.H.Service.promise c.args.handler.now) (g.H.Service.left c.args.handler.now) g.A.Source.Source.feed c.args.worker.now in
+    let s = setting_of (g.S.Service.completed c.args.service.now) (g.S.Service.promise c.args.service.now) (g.S.Service.left c.args.service.now) g.A.Source.Source.feed c.args.worker.now in
     let known = rw c.in-Refused.is at c.in-Ok.ensures.next in (
       refused_none s c.args.settings.now c.in-Refused.wrong c.refuse_as.result c.args.out.now.items c.refuse_as.new.out.items c.refuse_as.ensures,
       λ off. refused_steps s c.args.limits.now c.args.rest.now c.in-Refused.wrong c.refuse_as.result c.args.out.now.items c.refuse_as.new.out.items known.0 known.1
@@ -45,7 +45,7 @@ returns-in-Unfinished-clause-made g c =
 
 pub returns-in-Unfinished-clause-one : goal.returns-in-Unfinished-clause-one
 returns-in-Unfinished-clause-one g c =
-    let s = setting_of (g.H.Service.completed c.args.handler.now) (g.H.Service.promise c.args.handler.now) (g.H.Service.left c.args.handler.now) g.A.Source.Source.feed c.args.worker.now in
+    let s = setting_of (g.S.Service.completed c.args.service.now) (g.S.Service.promise c.args.service.now) (g.S.Service.left c.args.service.now) g.A.Source.Source.feed c.args.worker.now in
     let waits = rw c.in-Unfinished.is at c.in-Ok.ensures.next in
     let behind = c.wait.ensures c.args.rest.now waits.0 waits.1 waits.2 in (
       waits_none s c.args.settings.now c.args.limits.now c.args.rest.now c.wait.result behind,

@@ -13,11 +13,11 @@ use Rattle.web_http1.proofs.serving.serve_connection_with.Goals as goal
 
 pub turns-init : goal.turns-init
 turns-init g c =
-    let s = setting_of (g.H.Service.completed c.args.handler.now) (g.H.Service.promise c.args.handler.now) (g.H.Service.left c.args.handler.now) g.A.Source.Source.feed c.args.worker.now in
+    let s = setting_of (g.S.Service.completed c.args.service.now) (g.S.Service.promise c.args.service.now) (g.S.Service.left c.args.service.now) g.A.Source.Source.feed c.args.worker.now in
     let is_new = c.with_room-connection.ensures in
     record {
       ready = c.requires.ready;
-      same_promises = g.met.H.Service.same_itself c.args.handler.now;
+      same_promises = g.met.S.Service.same_itself c.args.service.now;
       unended = ap (λ (k : ConnectionView). k.ended) is_new;
       limits_are = ap (λ (k : ConnectionView). k.limits) is_new;
       waits = waits_empty c.args.limits c.with_room-connection.result is_new;
@@ -28,7 +28,7 @@ turns-init g c =
       lacked = refl;
       grows = appends_none c.args.out.now.items;
       so_far = λ marks is.
-          starts s c.args.limits marks (g.S.Source.feed c.args.source.now) c.with_room-connection.result c.args.out.now.items is
+          starts s c.args.limits marks (g.I.Source.feed c.args.source.now) c.with_room-connection.result c.args.out.now.items is
           (ap (λ (k : ConnectionView). k.limits) is_new) (ap (λ (k : ConnectionView). k.left) is_new) (ap (λ (k : ConnectionView). k.ended) is_new);
     }
 
@@ -48,26 +48,26 @@ take_piece-ended-requires-clause-room g c =
     omega (arith, made, given, bounded, least, room)
 
 pub returns-in-Some-clause-same_promises : goal.returns-in-Some-clause-same_promises
-returns-in-Some-clause-same_promises g c = g.met.H.Service.same_on _ _ _ c.turns.invariant.same_promises c.take_piece-ended.ensures.same_promises
+returns-in-Some-clause-same_promises g c = g.met.S.Service.same_on _ _ _ c.turns.invariant.same_promises c.take_piece-ended.ensures.same_promises
 
 pub returns-in-Some-clause-whole : goal.returns-in-Some-clause-whole
 returns-in-Some-clause-whole g c = λ marks is no.
-    let s = setting_of (g.H.Service.completed c.args.handler.now) (g.H.Service.promise c.args.handler.now) (g.H.Service.left c.args.handler.now) g.A.Source.Source.feed c.args.worker.now in
+    let s = setting_of (g.S.Service.completed c.args.service.now) (g.S.Service.promise c.args.service.now) (g.S.Service.left c.args.service.now) g.A.Source.Source.feed c.args.worker.now in
     let takes = rw (c.turns.invariant.kept, c.in-Some.is) at c.take_piece-ended.ensures.takes in
-    let step = steps_as g.A.Source.Source.feed (request_of c.args.worker.now) (g.H.Service.completed c.args.handler.now) (g.H.Service.completed c.turns.handler)
-    (g.H.Service.promise c.args.handler.now) (g.H.Service.promise c.turns.handler) (g.H.Service.left c.args.handler.now) (g.H.Service.left c.turns.handler) (g.met.H.Service.keeps c.args.handler.now c.turns.handler c.turns.invariant.same_promises) (with_piece c.turns.connection c.in-Piece.piece) (ended_at c.turns.connection.limits [] c.in-Some.ended) c.turns.out.items c.take_piece-ended.new.out.items takes.1 in
-    ended_all s c.args.limits marks (g.S.Source.feed c.next.new.self) (ended_at c.turns.connection.limits [] c.in-Some.ended) c.args.out.now.items c.take_piece-ended.new.out.items
-    (pieced s c.args.limits marks (g.S.Source.feed c.turns.source) (g.S.Source.feed c.next.new.self) c.turns.connection c.args.out.now.items c.turns.out.items c.turns.invariant.unended c.turns.invariant.limits_are (c.turns.invariant.so_far marks is) c.in-Piece.piece (ended_at c.turns.connection.limits [] c.in-Some.ended) c.take_piece-ended.new.out.items refl c.in-Piece.ensures.next step)
+    let step = steps_as g.A.Source.Source.feed (request_of c.args.worker.now) (g.S.Service.completed c.args.service.now) (g.S.Service.completed c.turns.service)
+    (g.S.Service.promise c.args.service.now) (g.S.Service.promise c.turns.service) (g.S.Service.left c.args.service.now) (g.S.Service.left c.turns.service) (g.met.S.Service.keeps c.args.service.now c.turns.service c.turns.invariant.same_promises) (with_piece c.turns.connection c.in-Piece.piece) (ended_at c.turns.connection.limits [] c.in-Some.ended) c.turns.out.items c.take_piece-ended.new.out.items takes.1 in
+    ended_all s c.args.limits marks (g.I.Source.feed c.next.new.self) (ended_at c.turns.connection.limits [] c.in-Some.ended) c.args.out.now.items c.take_piece-ended.new.out.items
+    (pieced s c.args.limits marks (g.I.Source.feed c.turns.source) (g.I.Source.feed c.next.new.self) c.turns.connection c.args.out.now.items c.turns.out.items c.turns.invariant.unended c.turns.invariant.limits_are (c.turns.invariant.so_far marks is) c.in-Piece.piece (ended_at c.turns.connection.limits [] c.in-Some.ended) c.take_piece-ended.new.out.items refl c.in-Piece.ensures.next step)
     c.in-Some.ended refl c.turns.invariant.limits_are
 
 pub returns-in-Some-clause-fault : goal.returns-in-Some-clause-fault
 returns-in-Some-clause-fault g c = λ marks is yes.
-    let s = setting_of (g.H.Service.completed c.args.handler.now) (g.H.Service.promise c.args.handler.now) (g.H.Service.left c.args.handler.now) g.A.Source.Source.feed c.args.worker.now in
+    let s = setting_of (g.S.Service.completed c.args.service.now) (g.S.Service.promise c.args.service.now) (g.S.Service.left c.args.service.now) g.A.Source.Source.feed c.args.worker.now in
     let takes = rw (c.turns.invariant.kept, c.in-Some.is) at c.take_piece-ended.ensures.takes in
-    let step = steps_as g.A.Source.Source.feed (request_of c.args.worker.now) (g.H.Service.completed c.args.handler.now) (g.H.Service.completed c.turns.handler)
-    (g.H.Service.promise c.args.handler.now) (g.H.Service.promise c.turns.handler) (g.H.Service.left c.args.handler.now) (g.H.Service.left c.turns.handler) (g.met.H.Service.keeps c.args.handler.now c.turns.handler c.turns.invariant.same_promises) (with_piece c.turns.connection c.in-Piece.piece) (ended_at c.turns.connection.limits [] c.in-Some.ended) c.turns.out.items c.take_piece-ended.new.out.items takes.1 in
-    ended_up_to s c.args.limits marks (g.S.Source.feed c.next.new.self) (ended_at c.turns.connection.limits [] c.in-Some.ended) c.args.out.now.items c.take_piece-ended.new.out.items
-    (pieced s c.args.limits marks (g.S.Source.feed c.turns.source) (g.S.Source.feed c.next.new.self) c.turns.connection c.args.out.now.items c.turns.out.items c.turns.invariant.unended c.turns.invariant.limits_are (c.turns.invariant.so_far marks is) c.in-Piece.piece (ended_at c.turns.connection.limits [] c.in-Some.ended) c.take_piece-ended.new.out.items refl c.in-Piece.ensures.next step)
+    let step = steps_as g.A.Source.Source.feed (request_of c.args.worker.now) (g.S.Service.completed c.args.service.now) (g.S.Service.completed c.turns.service)
+    (g.S.Service.promise c.args.service.now) (g.S.Service.promise c.turns.service) (g.S.Service.left c.args.service.now) (g.S.Service.left c.turns.service) (g.met.S.Service.keeps c.args.service.now c.turns.service c.turns.invariant.same_promises) (with_piece c.turns.connection c.in-Piece.piece) (ended_at c.turns.connection.limits [] c.in-Some.ended) c.turns.out.items c.take_piece-ended.new.out.items takes.1 in
+    ended_up_to s c.args.limits marks (g.I.Source.feed c.next.new.self) (ended_at c.turns.connection.limits [] c.in-Some.ended) c.args.out.now.items c.take_piece-ended.new.out.items
+    (pieced s c.args.limits marks (g.I.Source.feed c.turns.source) (g.I.Source.feed c.next.new.self) c.turns.connection c.args.out.now.items c.turns.out.items c.turns.invariant.unended c.turns.invariant.limits_are (c.turns.invariant.so_far marks is) c.in-Piece.piece (ended_at c.turns.connection.limits [] c.in-Some.ended) c.take_piece-ended.new.out.items refl c.in-Piece.ensures.next step)
     c.in-Some.ended refl c.turns.invariant.limits_are
 
 pub returns-in-Some-clause-faults : goal.returns-in-Some-clause-faults
@@ -91,13 +91,13 @@ returns-in-Some-clause-kept g c = c.take_piece-ended.ensures.kept ∙ ap (λ (z 
 
 pub turns-preserved-in_default : goal.turns-preserved-in_default
 turns-preserved-in_default g c =
-    let s = setting_of (g.H.Service.completed c.args.handler.now) (g.H.Service.promise c.args.handler.now) (g.H.Service.left c.args.handler.now) g.A.Source.Source.feed c.args.worker.now in
+    let s = setting_of (g.S.Service.completed c.args.service.now) (g.S.Service.promise c.args.service.now) (g.S.Service.left c.args.service.now) g.A.Source.Source.feed c.args.worker.now in
     let takes = rw (c.turns.invariant.kept, c.in_default.is) at c.take_piece-ended.ensures.takes in
-    let step = steps_as g.A.Source.Source.feed (request_of c.args.worker.now) (g.H.Service.completed c.args.handler.now) (g.H.Service.completed c.turns.handler)
-    (g.H.Service.promise c.args.handler.now) (g.H.Service.promise c.turns.handler) (g.H.Service.left c.args.handler.now) (g.H.Service.left c.turns.handler) (g.met.H.Service.keeps c.args.handler.now c.turns.handler c.turns.invariant.same_promises) (with_piece c.turns.connection c.in-Piece.piece) c.take_piece-ended.new.connection c.turns.out.items c.take_piece-ended.new.out.items takes.3 in
+    let step = steps_as g.A.Source.Source.feed (request_of c.args.worker.now) (g.S.Service.completed c.args.service.now) (g.S.Service.completed c.turns.service)
+    (g.S.Service.promise c.args.service.now) (g.S.Service.promise c.turns.service) (g.S.Service.left c.args.service.now) (g.S.Service.left c.turns.service) (g.met.S.Service.keeps c.args.service.now c.turns.service c.turns.invariant.same_promises) (with_piece c.turns.connection c.in-Piece.piece) c.take_piece-ended.new.connection c.turns.out.items c.take_piece-ended.new.out.items takes.3 in
     record {
       ready = c.take_piece-ended.ensures.ready;
-      same_promises = g.met.H.Service.same_on _ _ _ c.turns.invariant.same_promises c.take_piece-ended.ensures.same_promises;
+      same_promises = g.met.S.Service.same_on _ _ _ c.turns.invariant.same_promises c.take_piece-ended.ensures.same_promises;
       unended = takes.0;
       limits_are = takes.1 ∙ c.turns.invariant.limits_are;
       waits = takes.2;
@@ -113,18 +113,18 @@ turns-preserved-in_default g c =
       lacked = c.in-Piece.ensures.next.lacked ∙ c.turns.invariant.lacked;
       grows = appends_then c.args.out.now.items c.turns.out.items c.take_piece-ended.new.out.items c.turns.invariant.grows (step.0, step.1);
       so_far = λ marks is.
-          pieced s c.args.limits marks (g.S.Source.feed c.turns.source) (g.S.Source.feed c.next.new.self) c.turns.connection c.args.out.now.items c.turns.out.items c.turns.invariant.unended c.turns.invariant.limits_are (c.turns.invariant.so_far marks is) c.in-Piece.piece c.take_piece-ended.new.connection c.take_piece-ended.new.out.items takes.1 c.in-Piece.ensures.next step;
+          pieced s c.args.limits marks (g.I.Source.feed c.turns.source) (g.I.Source.feed c.next.new.self) c.turns.connection c.args.out.now.items c.turns.out.items c.turns.invariant.unended c.turns.invariant.limits_are (c.turns.invariant.so_far marks is) c.in-Piece.piece c.take_piece-ended.new.connection c.take_piece-ended.new.out.items takes.1 c.in-Piece.ensures.next step;
     }
 
 pub turns-preserved-in_default-2 : goal.turns-preserved-in_default-2
 turns-preserved-in_default-2 g c =
-    let s = setting_of (g.H.Service.completed c.args.handler.now) (g.H.Service.promise c.args.handler.now) (g.H.Service.left c.args.handler.now) g.A.Source.Source.feed c.args.worker.now in
+    let s = setting_of (g.S.Service.completed c.args.service.now) (g.S.Service.promise c.args.service.now) (g.S.Service.left c.args.service.now) g.A.Source.Source.feed c.args.worker.now in
     let takes = rw (c.turns.invariant.kept, c.in_default.is) at c.take_piece-ended.ensures.takes in
-    let step = steps_as g.A.Source.Source.feed (request_of c.args.worker.now) (g.H.Service.completed c.args.handler.now) (g.H.Service.completed c.turns.handler)
-    (g.H.Service.promise c.args.handler.now) (g.H.Service.promise c.turns.handler) (g.H.Service.left c.args.handler.now) (g.H.Service.left c.turns.handler) (g.met.H.Service.keeps c.args.handler.now c.turns.handler c.turns.invariant.same_promises) (with_piece c.turns.connection c.in-Piece.piece) c.take_piece-ended.new.connection c.turns.out.items c.take_piece-ended.new.out.items takes.3 in
+    let step = steps_as g.A.Source.Source.feed (request_of c.args.worker.now) (g.S.Service.completed c.args.service.now) (g.S.Service.completed c.turns.service)
+    (g.S.Service.promise c.args.service.now) (g.S.Service.promise c.turns.service) (g.S.Service.left c.args.service.now) (g.S.Service.left c.turns.service) (g.met.S.Service.keeps c.args.service.now c.turns.service c.turns.invariant.same_promises) (with_piece c.turns.connection c.in-Piece.piece) c.take_piece-ended.new.connection c.turns.out.items c.take_piece-ended.new.out.items takes.3 in
     record {
       ready = c.take_piece-ended.ensures.ready;
-      same_promises = g.met.H.Service.same_on _ _ _ c.turns.invariant.same_promises c.take_piece-ended.ensures.same_promises;
+      same_promises = g.met.S.Service.same_on _ _ _ c.turns.invariant.same_promises c.take_piece-ended.ensures.same_promises;
       unended = takes.0;
       limits_are = takes.1 ∙ c.turns.invariant.limits_are;
       waits = takes.2;
@@ -140,12 +140,12 @@ turns-preserved-in_default-2 g c =
       lacked = c.in-Piece.ensures.next.lacked ∙ c.turns.invariant.lacked;
       grows = appends_then c.args.out.now.items c.turns.out.items c.take_piece-ended.new.out.items c.turns.invariant.grows (step.0, step.1);
       so_far = λ marks is.
-          pieced s c.args.limits marks (g.S.Source.feed c.turns.source) (g.S.Source.feed c.next.new.self) c.turns.connection c.args.out.now.items c.turns.out.items c.turns.invariant.unended c.turns.invariant.limits_are (c.turns.invariant.so_far marks is) c.in-Piece.piece c.take_piece-ended.new.connection c.take_piece-ended.new.out.items takes.1 c.in-Piece.ensures.next step;
+          pieced s c.args.limits marks (g.I.Source.feed c.turns.source) (g.I.Source.feed c.next.new.self) c.turns.connection c.args.out.now.items c.turns.out.items c.turns.invariant.unended c.turns.invariant.limits_are (c.turns.invariant.so_far marks is) c.in-Piece.piece c.take_piece-ended.new.connection c.take_piece-ended.new.out.items takes.1 c.in-Piece.ensures.next step;
     }
 
 pub turns-preserved : goal.turns-preserved
 turns-preserved g c =
-    let s = setting_of (g.H.Service.completed c.args.handler.now) (g.H.Service.promise c.args.handler.now) (g.H.Service.left c.args.handler.now) g.A.Source.Source.feed c.args.worker.now in
+    let s = setting_of (g.S.Service.completed c.args.service.now) (g.S.Service.promise c.args.service.now) (g.S.Service.left c.args.service.now) g.A.Source.Source.feed c.args.worker.now in
     record {
       ready = c.turns.invariant.ready;
       same_promises = c.turns.invariant.same_promises;
@@ -161,7 +161,7 @@ turns-preserved g c =
       faults = c.in-Stall.ensures.next.faults ∙ c.turns.invariant.faults;
       lacked = c.in-Stall.ensures.next.lacked ∙ c.turns.invariant.lacked;
       grows = c.turns.invariant.grows;
-      so_far = λ marks is. stalled s c.args.limits marks (g.S.Source.feed c.turns.source) (g.S.Source.feed c.next.new.self) c.turns.connection c.args.out.now.items c.turns.out.items c.turns.invariant.unended c.turns.invariant.limits_are (c.turns.invariant.so_far marks is) c.in-Stall.ensures.next;
+      so_far = λ marks is. stalled s c.args.limits marks (g.I.Source.feed c.turns.source) (g.I.Source.feed c.next.new.self) c.turns.connection c.args.out.now.items c.turns.out.items c.turns.invariant.unended c.turns.invariant.limits_are (c.turns.invariant.so_far marks is) c.in-Stall.ensures.next;
     }
 
 pub returns-in-Fault-clause-ready : goal.returns-in-Fault-clause-ready
@@ -172,18 +172,18 @@ returns-in-Fault-clause-same_promises g c = c.turns.invariant.same_promises
 
 pub returns-in-Fault-clause-whole : goal.returns-in-Fault-clause-whole
 returns-in-Fault-clause-whole g c = λ marks is no.
-    let s = setting_of (g.H.Service.completed c.args.handler.now) (g.H.Service.promise c.args.handler.now) (g.H.Service.left c.args.handler.now) g.A.Source.Source.feed c.args.worker.now in
-    absurd (cc (is_faulty s c.args.limits marks (g.S.Source.feed c.turns.source) (g.S.Source.feed c.next.new.self) c.turns.connection c.args.out.now.items c.turns.out.items c.turns.invariant.unended c.turns.invariant.limits_are (c.turns.invariant.so_far marks is) c.in-Fault.ensures.next, no))
+    let s = setting_of (g.S.Service.completed c.args.service.now) (g.S.Service.promise c.args.service.now) (g.S.Service.left c.args.service.now) g.A.Source.Source.feed c.args.worker.now in
+    absurd (cc (is_faulty s c.args.limits marks (g.I.Source.feed c.turns.source) (g.I.Source.feed c.next.new.self) c.turns.connection c.args.out.now.items c.turns.out.items c.turns.invariant.unended c.turns.invariant.limits_are (c.turns.invariant.so_far marks is) c.in-Fault.ensures.next, no))
 
 pub returns-in-Fault-clause-fault : goal.returns-in-Fault-clause-fault
 returns-in-Fault-clause-fault g c = λ marks is yes.
-    let s = setting_of (g.H.Service.completed c.args.handler.now) (g.H.Service.promise c.args.handler.now) (g.H.Service.left c.args.handler.now) g.A.Source.Source.feed c.args.worker.now in
-    failed_up_to s c.args.limits marks (g.S.Source.feed c.turns.source) c.turns.connection c.args.out.now.items c.turns.out.items (c.turns.invariant.so_far marks is) c.turns.invariant.unended c.turns.invariant.limits_are c.turns.invariant.waits
-    (last_fault s c.args.limits marks (g.S.Source.feed c.turns.source) (g.S.Source.feed c.next.new.self) c.turns.connection c.args.out.now.items c.turns.out.items c.turns.invariant.unended c.turns.invariant.limits_are (c.turns.invariant.so_far marks is) c.in-Fault.ensures.next)
+    let s = setting_of (g.S.Service.completed c.args.service.now) (g.S.Service.promise c.args.service.now) (g.S.Service.left c.args.service.now) g.A.Source.Source.feed c.args.worker.now in
+    failed_up_to s c.args.limits marks (g.I.Source.feed c.turns.source) c.turns.connection c.args.out.now.items c.turns.out.items (c.turns.invariant.so_far marks is) c.turns.invariant.unended c.turns.invariant.limits_are c.turns.invariant.waits
+    (last_fault s c.args.limits marks (g.I.Source.feed c.turns.source) (g.I.Source.feed c.next.new.self) c.turns.connection c.args.out.now.items c.turns.out.items c.turns.invariant.unended c.turns.invariant.limits_are (c.turns.invariant.so_far marks is) c.in-Fault.ensures.next)
 
 pub returns-in-Fault-clause-faults : goal.returns-in-Fault-clause-faults
 returns-in-Fault-clause-faults g c =
-    subst (λ (n : ℕ). Rose n (g.S.Source.feed c.next.new.self).faults) c.turns.invariant.faults c.in-Fault.ensures.next.rose
+    subst (λ (n : ℕ). Rose n (g.I.Source.feed c.next.new.self).faults) c.turns.invariant.faults c.in-Fault.ensures.next.rose
 
 pub returns-in-Fault-clause-lacked : goal.returns-in-Fault-clause-lacked
 returns-in-Fault-clause-lacked g c = c.in-Fault.ensures.next.lacked ∙ c.turns.invariant.lacked
@@ -208,16 +208,16 @@ returns-in-End-clause-same_promises g c = c.turns.invariant.same_promises
 
 pub returns-in-End-clause-whole : goal.returns-in-End-clause-whole
 returns-in-End-clause-whole g c = λ marks is no.
-    let s = setting_of (g.H.Service.completed c.args.handler.now) (g.H.Service.promise c.args.handler.now) (g.H.Service.left c.args.handler.now) g.A.Source.Source.feed c.args.worker.now in
+    let s = setting_of (g.S.Service.completed c.args.service.now) (g.S.Service.promise c.args.service.now) (g.S.Service.left c.args.service.now) g.A.Source.Source.feed c.args.worker.now in
     let done = finishes_open c.turns.connection c.finish.result c.turns.out.items c.finish.new.out.items c.turns.invariant.unended c.finish.ensures.finishes in
-    finished s c.args.limits marks (g.S.Source.feed c.turns.source) c.turns.connection c.args.out.now.items c.turns.out.items (c.turns.invariant.so_far marks is) c.turns.invariant.unended c.turns.invariant.limits_are c.turns.invariant.waits
-    c.finish.result c.finish.new.out.items (none_after s c.args.limits marks (g.S.Source.feed c.turns.source) (g.S.Source.feed c.next.new.self) c.turns.connection c.args.out.now.items c.turns.out.items c.turns.invariant.unended c.turns.invariant.limits_are (c.turns.invariant.so_far marks is) c.in-End.ensures.next)
+    finished s c.args.limits marks (g.I.Source.feed c.turns.source) c.turns.connection c.args.out.now.items c.turns.out.items (c.turns.invariant.so_far marks is) c.turns.invariant.unended c.turns.invariant.limits_are c.turns.invariant.waits
+    c.finish.result c.finish.new.out.items (none_after s c.args.limits marks (g.I.Source.feed c.turns.source) (g.I.Source.feed c.next.new.self) c.turns.connection c.args.out.now.items c.turns.out.items c.turns.invariant.unended c.turns.invariant.limits_are (c.turns.invariant.so_far marks is) c.in-End.ensures.next)
     (subst (λ (l : Limits). FinishesWith l c.turns.connection.left c.finish.result c.turns.out.items c.finish.new.out.items) c.turns.invariant.limits_are done)
 
 pub returns-in-End-clause-fault : goal.returns-in-End-clause-fault
 returns-in-End-clause-fault g c = λ marks is yes.
-    let s = setting_of (g.H.Service.completed c.args.handler.now) (g.H.Service.promise c.args.handler.now) (g.H.Service.left c.args.handler.now) g.A.Source.Source.feed c.args.worker.now in
-    absurd (cc (is_faultless s c.args.limits marks (g.S.Source.feed c.turns.source) (g.S.Source.feed c.next.new.self) c.turns.connection c.args.out.now.items c.turns.out.items c.turns.invariant.unended c.turns.invariant.limits_are (c.turns.invariant.so_far marks is) c.in-End.ensures.next, yes))
+    let s = setting_of (g.S.Service.completed c.args.service.now) (g.S.Service.promise c.args.service.now) (g.S.Service.left c.args.service.now) g.A.Source.Source.feed c.args.worker.now in
+    absurd (cc (is_faultless s c.args.limits marks (g.I.Source.feed c.turns.source) (g.I.Source.feed c.next.new.self) c.turns.connection c.args.out.now.items c.turns.out.items c.turns.invariant.unended c.turns.invariant.limits_are (c.turns.invariant.so_far marks is) c.in-End.ensures.next, yes))
 
 pub returns-in-End-clause-faults : goal.returns-in-End-clause-faults
 returns-in-End-clause-faults g c =
@@ -245,8 +245,8 @@ returns-in-NoMemory-clause-same_promises g c = c.turns.invariant.same_promises
 
 pub returns-in-NoMemory-clause-whole : goal.returns-in-NoMemory-clause-whole
 returns-in-NoMemory-clause-whole g c = λ marks is no.
-    let s = setting_of (g.H.Service.completed c.args.handler.now) (g.H.Service.promise c.args.handler.now) (g.H.Service.left c.args.handler.now) g.A.Source.Source.feed c.args.worker.now in
-    lacks_memory s c.args.limits marks (g.S.Source.feed c.turns.source) c.turns.connection c.args.out.now.items c.turns.out.items (c.turns.invariant.so_far marks is) (inl c.turns.invariant.unended)
+    let s = setting_of (g.S.Service.completed c.args.service.now) (g.S.Service.promise c.args.service.now) (g.S.Service.left c.args.service.now) g.A.Source.Source.feed c.args.worker.now in
+    lacks_memory s c.args.limits marks (g.I.Source.feed c.turns.source) c.turns.connection c.args.out.now.items c.turns.out.items (c.turns.invariant.so_far marks is) (inl c.turns.invariant.unended)
 
 pub returns-in-NoMemory-clause-made : goal.returns-in-NoMemory-clause-made
 returns-in-NoMemory-clause-made g c =

@@ -28,7 +28,7 @@ returns-clause-made g c =
 
 pub returns-clause-one : goal.returns-clause-one
 returns-clause-one g c =
-    let s = setting_of (g.H.Service.completed c.args.handler.now) (g.H.Service.promise c.args.handler.now) (g.H.Service.left c.args.handler.now) g.A.Source.Source.feed c.args.worker.now in
+    let s = setting_of (g.S.Service.completed c.args.service.now) (g.S.Service.promise c.args.service.now) (g.S.Service.left c.args.service.now) g.A.Source.Source.feed c.args.worker.now in
     let rest = rest_is c.deref.result.now c.self.inside.buffer.items c.self.inside.start c.deref.ensures.value in
     rw (← c.self.view_is)
     (subst (λ (t : List ℕ). BeginsOne s c.args.settings.now c.self.inside.limits t c.args.out.now.items c.begin_step.new.out.items c.begin_step.result) rest c.begin_step.ensures.one)

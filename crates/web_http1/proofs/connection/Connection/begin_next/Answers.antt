@@ -11,7 +11,7 @@ begin-requires-clause-room g c =
 
 pub after_reply-requires : goal.after_reply-requires
 after_reply-requires g c =
-    let s = setting_of (g.H.Service.completed c.args.handler.now) (g.H.Service.promise c.args.handler.now) (g.H.Service.left c.args.handler.now) g.A.Source.Source.feed c.args.worker.now in
+    let s = setting_of (g.S.Service.completed c.args.service.now) (g.S.Service.promise c.args.service.now) (g.S.Service.left c.args.service.now) g.A.Source.Source.feed c.args.worker.now in
     record {
       inside = subst (λ (v : ConnectionView). c.in-Begun.used ≤ length v.left) (sym c.in-Begun.ensures.same)
           (of.fits s c.args.settings.now c.args.self c.args.out.now.items c.begin.new.out.items c.in-Begun.used c.in-Begun.reply.closes c.in-Begun.reply.due c.in-Begun.ensures.one);
@@ -23,13 +23,13 @@ after_turn-requires-clause-unended g c =
 
 pub after_turn-requires-clause-inside : goal.after_turn-requires-clause-inside
 after_turn-requires-clause-inside g c =
-    let s = setting_of (g.H.Service.completed c.args.handler.now) (g.H.Service.promise c.args.handler.now) (g.H.Service.left c.args.handler.now) g.A.Source.Source.feed c.args.worker.now in
+    let s = setting_of (g.S.Service.completed c.args.service.now) (g.S.Service.promise c.args.service.now) (g.S.Service.left c.args.service.now) g.A.Source.Source.feed c.args.worker.now in
     subst (λ (v : ConnectionView). IsInside v c.in-Turned.turned) (sym c.in-Turned.ensures.same)
     (of.turn_inside s c.args.settings.now c.args.self c.args.out.now.items c.begin.new.out.items c.in-Turned.turned c.in-Turned.ensures.one.0 c.in-Turned.ensures.one.2)
 
 pub returns-in-Begun-clause-made : goal.returns-in-Begun-clause-made
 returns-in-Begun-clause-made g c =
-    let s = setting_of (g.H.Service.completed c.args.handler.now) (g.H.Service.promise c.args.handler.now) (g.H.Service.left c.args.handler.now) g.A.Source.Source.feed c.args.worker.now in
+    let s = setting_of (g.S.Service.completed c.args.service.now) (g.S.Service.promise c.args.service.now) (g.S.Service.left c.args.service.now) g.A.Source.Source.feed c.args.worker.now in
     let unended = sym c.in_default.ensures in
     let used = c.in-Begun.used in
     let closes = c.in-Begun.reply.closes in
@@ -41,7 +41,7 @@ returns-in-Begun-clause-made g c =
 
 pub returns-in-Begun-clause-limits : goal.returns-in-Begun-clause-limits
 returns-in-Begun-clause-limits g c =
-    let s = setting_of (g.H.Service.completed c.args.handler.now) (g.H.Service.promise c.args.handler.now) (g.H.Service.left c.args.handler.now) g.A.Source.Source.feed c.args.worker.now in
+    let s = setting_of (g.S.Service.completed c.args.service.now) (g.S.Service.promise c.args.service.now) (g.S.Service.left c.args.service.now) g.A.Source.Source.feed c.args.worker.now in
     let unended = sym c.in_default.ensures in
     let used = c.in-Begun.used in
     let closes = c.in-Begun.reply.closes in
@@ -52,7 +52,7 @@ returns-in-Begun-clause-limits g c =
 
 pub returns-in-Begun-clause-waits : goal.returns-in-Begun-clause-waits
 returns-in-Begun-clause-waits g c =
-    let s = setting_of (g.H.Service.completed c.args.handler.now) (g.H.Service.promise c.args.handler.now) (g.H.Service.left c.args.handler.now) g.A.Source.Source.feed c.args.worker.now in
+    let s = setting_of (g.S.Service.completed c.args.service.now) (g.S.Service.promise c.args.service.now) (g.S.Service.left c.args.service.now) g.A.Source.Source.feed c.args.worker.now in
     let unended = sym c.in_default.ensures in
     let used = c.in-Begun.used in
     let closes = c.in-Begun.reply.closes in
@@ -63,7 +63,7 @@ returns-in-Begun-clause-waits g c =
 
 pub returns-in-Begun-clause-begun : goal.returns-in-Begun-clause-begun
 returns-in-Begun-clause-begun g c =
-    let s = setting_of (g.H.Service.completed c.args.handler.now) (g.H.Service.promise c.args.handler.now) (g.H.Service.left c.args.handler.now) g.A.Source.Source.feed c.args.worker.now in
+    let s = setting_of (g.S.Service.completed c.args.service.now) (g.S.Service.promise c.args.service.now) (g.S.Service.left c.args.service.now) g.A.Source.Source.feed c.args.worker.now in
     let unended = sym c.in_default.ensures in
     let used = c.in-Begun.used in
     let closes = c.in-Begun.reply.closes in
@@ -75,7 +75,7 @@ returns-in-Begun-clause-begun g c =
 
 pub returns-in-Begun-clause-steps : goal.returns-in-Begun-clause-steps
 returns-in-Begun-clause-steps g c =
-    let s = setting_of (g.H.Service.completed c.args.handler.now) (g.H.Service.promise c.args.handler.now) (g.H.Service.left c.args.handler.now) g.A.Source.Source.feed c.args.worker.now in
+    let s = setting_of (g.S.Service.completed c.args.service.now) (g.S.Service.promise c.args.service.now) (g.S.Service.left c.args.service.now) g.A.Source.Source.feed c.args.worker.now in
     let unended = sym c.in_default.ensures in
     let used = c.in-Begun.used in
     let closes = c.in-Begun.reply.closes in
@@ -87,7 +87,7 @@ returns-in-Begun-clause-steps g c =
 
 pub returns-in-Turned-clause-made : goal.returns-in-Turned-clause-made
 returns-in-Turned-clause-made g c =
-    let s = setting_of (g.H.Service.completed c.args.handler.now) (g.H.Service.promise c.args.handler.now) (g.H.Service.left c.args.handler.now) g.A.Source.Source.feed c.args.worker.now in
+    let s = setting_of (g.S.Service.completed c.args.service.now) (g.S.Service.promise c.args.service.now) (g.S.Service.left c.args.service.now) g.A.Source.Source.feed c.args.worker.now in
     let unended = sym c.in_default.ensures in
     let turned = c.in-Turned.turned in
     let one = c.in-Turned.ensures.one in
@@ -96,7 +96,7 @@ returns-in-Turned-clause-made g c =
 
 pub returns-in-Turned-clause-limits : goal.returns-in-Turned-clause-limits
 returns-in-Turned-clause-limits g c =
-    let s = setting_of (g.H.Service.completed c.args.handler.now) (g.H.Service.promise c.args.handler.now) (g.H.Service.left c.args.handler.now) g.A.Source.Source.feed c.args.worker.now in
+    let s = setting_of (g.S.Service.completed c.args.service.now) (g.S.Service.promise c.args.service.now) (g.S.Service.left c.args.service.now) g.A.Source.Source.feed c.args.worker.now in
     let unended = sym c.in_default.ensures in
     let turned = c.in-Turned.turned in
     let one = c.in-Turned.ensures.one in
@@ -105,7 +105,7 @@ returns-in-Turned-clause-limits g c =
 
 pub returns-in-Turned-clause-waits : goal.returns-in-Turned-clause-waits
 returns-in-Turned-clause-waits g c =
-    let s = setting_of (g.H.Service.completed c.args.handler.now) (g.H.Service.promise c.args.handler.now) (g.H.Service.left c.args.handler.now) g.A.Source.Source.feed c.args.worker.now in
+    let s = setting_of (g.S.Service.completed c.args.service.now) (g.S.Service.promise c.args.service.now) (g.S.Service.left c.args.service.now) g.A.Source.Source.feed c.args.worker.now in
     let unended = sym c.in_default.ensures in
     let turned = c.in-Turned.turned in
     let one = c.in-Turned.ensures.one in
@@ -114,7 +114,7 @@ returns-in-Turned-clause-waits g c =
 
 pub returns-in-Turned-clause-begun : goal.returns-in-Turned-clause-begun
 returns-in-Turned-clause-begun g c =
-    let s = setting_of (g.H.Service.completed c.args.handler.now) (g.H.Service.promise c.args.handler.now) (g.H.Service.left c.args.handler.now) g.A.Source.Source.feed c.args.worker.now in
+    let s = setting_of (g.S.Service.completed c.args.service.now) (g.S.Service.promise c.args.service.now) (g.S.Service.left c.args.service.now) g.A.Source.Source.feed c.args.worker.now in
     let unended = sym c.in_default.ensures in
     let turned = c.in-Turned.turned in
     let one = c.in-Turned.ensures.one in
@@ -123,7 +123,7 @@ returns-in-Turned-clause-begun g c =
 
 pub returns-in-Turned-clause-steps : goal.returns-in-Turned-clause-steps
 returns-in-Turned-clause-steps g c =
-    let s = setting_of (g.H.Service.completed c.args.handler.now) (g.H.Service.promise c.args.handler.now) (g.H.Service.left c.args.handler.now) g.A.Source.Source.feed c.args.worker.now in
+    let s = setting_of (g.S.Service.completed c.args.service.now) (g.S.Service.promise c.args.service.now) (g.S.Service.left c.args.service.now) g.A.Source.Source.feed c.args.worker.now in
     let unended = sym c.in_default.ensures in
     let turned = c.in-Turned.turned in
     let one = c.in-Turned.ensures.one in
