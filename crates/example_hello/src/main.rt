@@ -44,14 +44,14 @@ fn serve_connection(rt: &HostRuntime) -> Result<()> {
     };
     let services = two(
         1,
-        handler(|_none: ()| hello(alloc)),
+        handler(move |_none: ()| hello(alloc)),
         two(
             1,
-            handler(|name| greet(alloc, name)),
-            handler(|args| note(alloc, args)),
+            handler(move |name| greet(alloc, name)),
+            handler(move |args| note(alloc, args)),
         ),
     );
-    let others = HandlerService::immediate(|_none: ()| missing(alloc));
+    let others = HandlerService::immediate(move |_none: ()| missing(alloc));
     let mut site = Wrap::new(Router::new(table, services, others), ErrorsAsJson);
     let mut worker = new_worker(alloc)?;
     serve(

@@ -54,12 +54,12 @@ fn serve_connection(rt: &HostRuntime) -> Result<()> {
     let Ok(table) = routes(alloc) else {
         bail!("the routes are refused");
     };
-    let orders = handler(|order| replied(alloc, take_order(alloc, order)));
+    let orders = handler(move |order| replied(alloc, take_order(alloc, order)));
     let samples = Only(Scope::new(
         Rc::new(alloc, ShopLayer::new(SAMPLE_LIMIT))?,
-        HandlerService::immediate(|order| replied(alloc, take_order(alloc, order))),
+        HandlerService::immediate(move |order| replied(alloc, take_order(alloc, order))),
     ));
-    let others = HandlerService::immediate(|_none: ()| replied(alloc, no_such_page()));
+    let others = HandlerService::immediate(move |_none: ()| replied(alloc, no_such_page()));
     let server = SetHeader {
         name: SERVER,
         value: HeaderValue::from_static("shop"),

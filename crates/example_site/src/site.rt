@@ -80,32 +80,32 @@ pub fn serve_connection(rt: &HostRuntime) -> Result<()> {
     let (files, greetings) = (new_store(alloc)?, new_greetings(alloc)?);
     let pages = two(
         1,
-        handler(|_none: ()| home(alloc)),
+        handler(move |_none: ()| home(alloc)),
         two(
             1,
-            handler(|query| show_booking(alloc, query)),
-            handler(|id| show_item(alloc, id)),
+            handler(move |query| show_booking(alloc, query)),
+            handler(move |id| show_item(alloc, id)),
         ),
     );
     let stored = two(
         2,
         two(
             1,
-            handler(|request| show_file(alloc, &files, request)),
-            handler(|request| greet(alloc, &greetings, request)),
+            handler(move |request| show_file(alloc, &files, request)),
+            handler(move |request| greet(alloc, &greetings, request)),
         ),
         two(
             1,
-            handler(|request| count_visit(alloc, request)),
-            handler(|_none: ()| moved(alloc)),
+            handler(move |request| count_visit(alloc, request)),
+            handler(move |_none: ()| moved(alloc)),
         ),
     );
     let posts = two(
         1,
-        handler(|form| take_booking(alloc, form)),
+        handler(move |form| take_booking(alloc, form)),
         two(
             1,
-            handler(|form| list_parts(alloc, form)),
+            handler(move |form| list_parts(alloc, form)),
             handler(|item| take_item(item)),
         ),
     );
@@ -113,7 +113,7 @@ pub fn serve_connection(rt: &HostRuntime) -> Result<()> {
     let Ok(table) = routes(alloc) else {
         bail!("the routes are refused");
     };
-    let others = HandlerService::immediate(|request| other(alloc, request));
+    let others = HandlerService::immediate(move |request| other(alloc, request));
     let mut site = Wrap::new(Router::new(table, services, others), SiteReplies);
     let settings = ServeSettings {
         refusals: Some(refusal_pages(alloc)?),
