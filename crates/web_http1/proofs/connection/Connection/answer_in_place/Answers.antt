@@ -5,6 +5,9 @@ use Rattle.web_http1.specs.Connections.{ConnectionView, IsOwnEnd, bytes_open}
 use Rattle.web_http1.proofs.InPlaceLemmas.{behind_place, place_ends, place_goes, rest_limits, rest_made, rest_own, rest_waits}
 use Rattle.web_http1.proofs.connection.Connection.answer_in_place.Goals as goal
 
+pub answer_rest-answered-requires-clause-progress : goal.answer_rest-answered-requires-clause-progress
+answer_rest-answered-requires-clause-progress g c = c.start.ensures c.self.inside.limits (drop 0 c.args.piece.now)
+
 pub keep-requires-clause-unended : goal.keep-requires-clause-unended
 keep-requires-clause-unended g c = subst (λ (v : ConnectionView). v.ended ≡ None) (sym c.self.view_is) c.requires.unended
 
@@ -15,8 +18,9 @@ pub keep-requires-clause-behind : goal.keep-requires-clause-behind
 keep-requires-clause-behind g c =
     let place = c.answer_rest-answered.result.place in
     let left = rw c.in-Open.is at c.answer_rest-answered.ensures.left in
-    behind_place c.self.inside.limits (take (length c.args.piece.now - place) (drop place c.args.piece.now)) (drop place c.args.piece.now) c.in-Open.progress
-    (take_rest c.args.piece.now place) left.0 left.1 left.2 left.3
+    rw c.in-Open.is
+    (behind_place c.self.inside.limits (take (length c.args.piece.now - place) (drop place c.args.piece.now)) (drop place c.args.piece.now) c.in-Open.progress
+    (take_rest c.args.piece.now place) left.0 left.1 left.2 left.3)
 
 pub returns-in-Open-clause-made : goal.returns-in-Open-clause-made
 returns-in-Open-clause-made g c =
