@@ -1,9 +1,9 @@
 //! Runs of the command, and their comparison with what is expected.
-use demo_command::run;
 use demo_handler::DemoHandler;
+use demo_picked::Picked;
 use std::alloc::Global;
 use std::process::Abort;
-use web_cli::{Input, Output, Status};
+use web_cli::{Input, Output, Status, run};
 
 /// The arguments that serve a script.
 pub(crate) const SERVE: &[&str] = &["serve", "--pool=0"];
@@ -27,7 +27,7 @@ pub(crate) fn run_words<I: Input, O: Output>(
     output: &mut O,
 ) -> Status {
     let words = words(rt, alloc, arguments);
-    run(alloc, &words, input, output, &mut DemoHandler::new())
+    run::<I, O, Picked, DemoHandler>(alloc, &words, input, output, &mut DemoHandler::new())
 }
 
 /// What a run is compared by: its status, and whether the rest is as expected.

@@ -3,14 +3,13 @@ ghost use Rattle.std.specs.Prelude.{⊤};
 
 use crate::commands::{SERVE, assert_run, words};
 use bytes::Bytes;
-use demo_command::run;
 use demo_picked::Picked;
 use std::alloc::Global;
 use std::cell::Cell;
 use std::process::Abort;
 use std::rc::Rc;
 use web_body::{Poll, Step};
-use web_cli::{MemInput, PlainOutput, Status};
+use web_cli::{MemInput, PlainOutput, Status, run};
 use web_request::NoMemory;
 use web_worker::Handler;
 
@@ -87,7 +86,7 @@ fn serve_with(rt: &impl Abort, alloc: Global, mut handler: LoggingHandler) {
     let words = words(rt, alloc, SERVE);
     let mut input = MemInput::new(SCRIPT, 3, &[]);
     let mut output = PlainOutput::new(alloc);
-    let status = run(alloc, &words, &mut input, &mut output, &mut handler);
+    let status = run::<_, _, Picked, _>(alloc, &words, &mut input, &mut output, &mut handler);
     assert_run(
         rt,
         "two waits",

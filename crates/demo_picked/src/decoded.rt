@@ -3,7 +3,7 @@ ghost use Rattle.std.specs.Prelude.{◌≡◌, ◌⊎◌, IfOk, false};
 ghost use Rattle.web_body.specs.Payload.{payload_feed};
 ghost use Rattle.web_extract.specs.Extracts.{Extracts};
 ghost use Rattle.demo_arguments.specs.declared.choice.DecodedChoice.TheVariants as decoded;
-ghost use Rattle.demo_picked.specs.BoxedFutures.{GivesOrAll, GivesWithin};
+ghost use Rattle.demo_picked.specs.BoxedFutures.{GivesOrAll};
 ghost use Rattle.demo_picked.specs.PickedArguments.{MeansDecoded};
 
 use crate::boxed_future::BoxedFuture;
@@ -34,20 +34,6 @@ type JsonItem = FutureOf<Json<Item>>;
 #[derive(Drop)]
 pub struct JsonFuture {
     future: BoxedFuture<JsonItem>,
-}
-
-impl JsonFuture {
-    fn new(alloc: Global, future: JsonItem) -> Result<JsonFuture, NoMemory>
-        requires unfinished { ⟦<JsonItem as Poll>⟧.is_finished future ≡ false }
-        ensures fresh { IfOk result (λ made. ⟦<JsonFuture as Poll>⟧.is_finished made ≡ false) }
-        ensures gives { IfOk result (λ made. GivesWithin
-            (λ n x. ⟦<JsonFuture as Poll>⟧.gives made n x)
-            (λ n x. ⟦<JsonItem as Poll>⟧.gives future n x)) }
-    {
-        Ok(JsonFuture {
-            future: BoxedFuture::new(alloc, future)?,
-        })
-    }
 }
 
 impl Poll for JsonFuture {
@@ -84,20 +70,6 @@ pub struct FormFuture {
     future: BoxedFuture<FormItem>,
 }
 
-impl FormFuture {
-    fn new(alloc: Global, future: FormItem) -> Result<FormFuture, NoMemory>
-        requires unfinished { ⟦<FormItem as Poll>⟧.is_finished future ≡ false }
-        ensures fresh { IfOk result (λ made. ⟦<FormFuture as Poll>⟧.is_finished made ≡ false) }
-        ensures gives { IfOk result (λ made. GivesWithin
-            (λ n x. ⟦<FormFuture as Poll>⟧.gives made n x)
-            (λ n x. ⟦<FormItem as Poll>⟧.gives future n x)) }
-    {
-        Ok(FormFuture {
-            future: BoxedFuture::new(alloc, future)?,
-        })
-    }
-}
-
 impl Poll for FormFuture {
     ghost use Rattle.std.specs.Prelude.{Ok};
     ghost use Rattle.demo_picked.specs.BoxedFutures.{gives_or_all_some};
@@ -128,21 +100,6 @@ impl Poll for FormFuture {
 #[derive(Drop)]
 pub struct CappedOrPartsFuture {
     future: BoxedFuture<CappedOrParts>,
-}
-
-impl CappedOrPartsFuture {
-    fn new(alloc: Global, future: CappedOrParts) -> Result<CappedOrPartsFuture, NoMemory>
-        requires unfinished { ⟦<CappedOrParts as Poll>⟧.is_finished future ≡ false }
-        ensures fresh { IfOk result (λ made.
-            ⟦<CappedOrPartsFuture as Poll>⟧.is_finished made ≡ false) }
-        ensures gives { IfOk result (λ made. GivesWithin
-            (λ n x. ⟦<CappedOrPartsFuture as Poll>⟧.gives made n x)
-            (λ n x. ⟦<CappedOrParts as Poll>⟧.gives future n x)) }
-    {
-        Ok(CappedOrPartsFuture {
-            future: BoxedFuture::new(alloc, future)?,
-        })
-    }
 }
 
 impl Poll for CappedOrPartsFuture {
@@ -181,21 +138,6 @@ pub struct EitherItemFuture {
     future: BoxedFuture<JsonElseForm>,
 }
 
-impl EitherItemFuture {
-    fn new(alloc: Global, future: JsonElseForm) -> Result<EitherItemFuture, NoMemory>
-        requires unfinished { ⟦<JsonElseForm as Poll>⟧.is_finished future ≡ false }
-        ensures fresh { IfOk result (λ made.
-            ⟦<EitherItemFuture as Poll>⟧.is_finished made ≡ false) }
-        ensures gives { IfOk result (λ made. GivesWithin
-            (λ n x. ⟦<EitherItemFuture as Poll>⟧.gives made n x)
-            (λ n x. ⟦<JsonElseForm as Poll>⟧.gives future n x)) }
-    {
-        Ok(EitherItemFuture {
-            future: BoxedFuture::new(alloc, future)?,
-        })
-    }
-}
-
 impl Poll for EitherItemFuture {
     ghost use Rattle.std.specs.Prelude.{Ok};
     ghost use Rattle.demo_picked.specs.BoxedFutures.{gives_or_all_some};
@@ -231,20 +173,6 @@ type OptionOrResult = EitherFuture<
 #[derive(Drop)]
 pub struct OptionalFuture {
     future: BoxedFuture<OptionOrResult>,
-}
-
-impl OptionalFuture {
-    fn new(alloc: Global, future: OptionOrResult) -> Result<OptionalFuture, NoMemory>
-        requires unfinished { ⟦<OptionOrResult as Poll>⟧.is_finished future ≡ false }
-        ensures fresh { IfOk result (λ made. ⟦<OptionalFuture as Poll>⟧.is_finished made ≡ false) }
-        ensures gives { IfOk result (λ made. GivesWithin
-            (λ n x. ⟦<OptionalFuture as Poll>⟧.gives made n x)
-            (λ n x. ⟦<OptionOrResult as Poll>⟧.gives future n x)) }
-    {
-        Ok(OptionalFuture {
-            future: BoxedFuture::new(alloc, future)?,
-        })
-    }
 }
 
 impl Poll for OptionalFuture {
@@ -295,8 +223,8 @@ fn json_future(
     ensures payload { (payload.new ≡ payload.old) ⊎ (payload.new ≡ Payload.None) }
 {
     let begun = begin::<Json<Item>>(alloc, req, payload)?;
-    let future = JsonFuture::new(alloc, begun)?;
-    Ok(future)
+    let future = BoxedFuture::new(alloc, begun)?;
+    Ok(JsonFuture { future })
 }
 
 /// Begins with a short item of the body as JSON.
@@ -316,8 +244,8 @@ fn capped_future(
     let begun = from_request_into::<Demo, Capped<Json<Item>, 16>, Picked, Error>(
         alloc, req, payload,
     )?;
-    let future = CappedOrPartsFuture::new(alloc, Left(begun))?;
-    Ok(future)
+    let future = BoxedFuture::new(alloc, Left(begun))?;
+    Ok(CappedOrPartsFuture { future })
 }
 
 /// Begins with an item of the body as a form.
@@ -335,8 +263,8 @@ fn form_future(
     ensures payload { (payload.new ≡ payload.old) ⊎ (payload.new ≡ Payload.None) }
 {
     let begun = begin::<Form<Item>>(alloc, req, payload)?;
-    let future = FormFuture::new(alloc, begun)?;
-    Ok(future)
+    let future = BoxedFuture::new(alloc, begun)?;
+    Ok(FormFuture { future })
 }
 
 /// Begins with the parts of the body.
@@ -354,8 +282,8 @@ fn parts_future(
     ensures payload { (payload.new ≡ payload.old) ⊎ (payload.new ≡ Payload.None) }
 {
     let begun = from_request_into::<Demo, Multipart<65536>, Picked, Error>(alloc, req, payload)?;
-    let future = CappedOrPartsFuture::new(alloc, Right(begun))?;
-    Ok(future)
+    let future = BoxedFuture::new(alloc, Right(begun))?;
+    Ok(CappedOrPartsFuture { future })
 }
 
 /// Begins with an item of the body as JSON, and where that is refused as a form.
@@ -373,8 +301,8 @@ fn either_future(
     ensures payload { (payload.new ≡ payload.old) ⊎ (payload.new ≡ Payload.None) }
 {
     let begun = begin::<Either<Json<Item>, Form<Item>>>(alloc, req, payload)?;
-    let future = EitherItemFuture::new(alloc, begun)?;
-    Ok(future)
+    let future = BoxedFuture::new(alloc, begun)?;
+    Ok(EitherItemFuture { future })
 }
 
 /// Begins with an item of the body that may be refused, and what is left of the body.
@@ -392,8 +320,8 @@ fn option_future(
     ensures payload { (payload.new ≡ payload.old) ⊎ (payload.new ≡ Payload.None) }
 {
     let begun = begin::<(Option<Json<Item>>, Bytes)>(alloc, req, payload)?;
-    let future = OptionalFuture::new(alloc, Left(begun))?;
-    Ok(future)
+    let future = BoxedFuture::new(alloc, Left(begun))?;
+    Ok(OptionalFuture { future })
 }
 
 /// Begins with an item of the body, or its refusal.
@@ -411,8 +339,8 @@ fn result_future(
     ensures payload { (payload.new ≡ payload.old) ⊎ (payload.new ≡ Payload.None) }
 {
     let begun = begin::<Result<Json<Item>, Error>>(alloc, req, payload)?;
-    let future = OptionalFuture::new(alloc, Right(begun))?;
-    Ok(future)
+    let future = BoxedFuture::new(alloc, Right(begun))?;
+    Ok(OptionalFuture { future })
 }
 
 /// Begins with arguments that decode the body.

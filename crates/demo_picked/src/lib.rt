@@ -3,6 +3,7 @@
 
 mod boxed_future;
 mod decoded;
+mod inline_future;
 mod lists;
 mod picked;
 mod picked_future;

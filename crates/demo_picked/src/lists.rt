@@ -3,7 +3,7 @@ ghost use Rattle.std.specs.Prelude.{◌≡◌, ◌⊎◌, IfOk, false};
 ghost use Rattle.web_body.specs.Payload.{payload_feed};
 ghost use Rattle.web_extract.specs.Extracts.{Extracts};
 ghost use Rattle.demo_arguments.specs.declared.choice.Choice.TheVariants as choice;
-ghost use Rattle.demo_picked.specs.BoxedFutures.{GivesOrAll, GivesWithin};
+ghost use Rattle.demo_picked.specs.BoxedFutures.{GivesOrAll};
 ghost use Rattle.demo_picked.specs.PickedArguments.{MeansChoice};
 
 use crate::boxed_future::BoxedFuture;
@@ -23,20 +23,6 @@ type DataList = FutureOf<(Data<u64>, ReqData<DemoLocal>, HttpRequest<Demo>)>;
 #[derive(Drop)]
 pub struct DataFuture {
     future: BoxedFuture<DataList>,
-}
-
-impl DataFuture {
-    fn new(alloc: Global, future: DataList) -> Result<DataFuture, NoMemory>
-        requires unfinished { ⟦<DataList as Poll>⟧.is_finished future ≡ false }
-        ensures fresh { IfOk result (λ made. ⟦<DataFuture as Poll>⟧.is_finished made ≡ false) }
-        ensures gives { IfOk result (λ made. GivesWithin
-            (λ n x. ⟦<DataFuture as Poll>⟧.gives made n x)
-            (λ n x. ⟦<DataList as Poll>⟧.gives future n x)) }
-    {
-        Ok(DataFuture {
-            future: BoxedFuture::new(alloc, future)?,
-        })
-    }
 }
 
 impl Poll for DataFuture {
@@ -81,8 +67,8 @@ pub(crate) fn data_future(
     ensures payload { (payload.new ≡ payload.old) ⊎ (payload.new ≡ Payload.None) }
 {
     let begun = begin::<(Data<u64>, ReqData<DemoLocal>, HttpRequest<Demo>)>(alloc, req, payload)?;
-    let future = DataFuture::new(alloc, begun)?;
-    Ok(future)
+    let future = BoxedFuture::new(alloc, begun)?;
+    Ok(DataFuture { future })
 }
 
 type LinesList = FutureOf<AllLines>;
@@ -91,20 +77,6 @@ type LinesList = FutureOf<AllLines>;
 #[derive(Drop)]
 pub struct LinesFuture {
     future: BoxedFuture<LinesList>,
-}
-
-impl LinesFuture {
-    fn new(alloc: Global, future: LinesList) -> Result<LinesFuture, NoMemory>
-        requires unfinished { ⟦<LinesList as Poll>⟧.is_finished future ≡ false }
-        ensures fresh { IfOk result (λ made. ⟦<LinesFuture as Poll>⟧.is_finished made ≡ false) }
-        ensures gives { IfOk result (λ made. GivesWithin
-            (λ n x. ⟦<LinesFuture as Poll>⟧.gives made n x)
-            (λ n x. ⟦<LinesList as Poll>⟧.gives future n x)) }
-    {
-        Ok(LinesFuture {
-            future: BoxedFuture::new(alloc, future)?,
-        })
-    }
 }
 
 impl Poll for LinesFuture {
@@ -149,8 +121,8 @@ pub(crate) fn lines_future(
     ensures payload { (payload.new ≡ payload.old) ⊎ (payload.new ≡ Payload.None) }
 {
     let begun = begin::<AllLines>(alloc, req, payload)?;
-    let future = LinesFuture::new(alloc, begun)?;
-    Ok(future)
+    let future = BoxedFuture::new(alloc, begun)?;
+    Ok(LinesFuture { future })
 }
 
 type BothList = FutureOf<(String, Late)>;
@@ -159,20 +131,6 @@ type BothList = FutureOf<(String, Late)>;
 #[derive(Drop)]
 pub struct BothFuture {
     future: BoxedFuture<BothList>,
-}
-
-impl BothFuture {
-    fn new(alloc: Global, future: BothList) -> Result<BothFuture, NoMemory>
-        requires unfinished { ⟦<BothList as Poll>⟧.is_finished future ≡ false }
-        ensures fresh { IfOk result (λ made. ⟦<BothFuture as Poll>⟧.is_finished made ≡ false) }
-        ensures gives { IfOk result (λ made. GivesWithin
-            (λ n x. ⟦<BothFuture as Poll>⟧.gives made n x)
-            (λ n x. ⟦<BothList as Poll>⟧.gives future n x)) }
-    {
-        Ok(BothFuture {
-            future: BoxedFuture::new(alloc, future)?,
-        })
-    }
 }
 
 impl Poll for BothFuture {
@@ -217,6 +175,6 @@ pub(crate) fn both_future(
     ensures payload { (payload.new ≡ payload.old) ⊎ (payload.new ≡ Payload.None) }
 {
     let begun = begin::<(String, Late)>(alloc, req, payload)?;
-    let future = BothFuture::new(alloc, begun)?;
-    Ok(future)
+    let future = BoxedFuture::new(alloc, begun)?;
+    Ok(BothFuture { future })
 }

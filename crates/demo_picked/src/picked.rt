@@ -1,11 +1,16 @@
 //! The arguments that the first segment of a path asks for.
-ghost use Rattle.std.specs.Prelude.{◌≡◌, ℕ, List, Result};
+ghost use Rattle.std.specs.Prelude.{◌≡◌, ◌⊎◌, ℕ, IfOk, IsOk, List, Result, false};
 ghost use Rattle.web_request.specs.declared.source.Mark.{Mark};
+ghost use Rattle.web_body.specs.Payload.{payload_feed};
+ghost use Rattle.web_extract.specs.Extracts.{Extracts};
 ghost use Rattle.web_reply.specs.Replies.{Fault};
 ghost use Rattle.demo_app.specs.DemoRequests.{DemoRequest};
-ghost use Rattle.demo_picked.specs.PickedArguments.{MeansPicked, picked_delay, picked_result};
+ghost use Rattle.demo_picked.specs.BoxedFutures.{GivesOrAll};
+ghost use Rattle.demo_picked.specs.PickedArguments.{MeansPicked, PickedNeedsNoMemory};
+ghost use Rattle.demo_picked.specs.PickedArguments.{picked_delay, picked_result};
 
 use crate::decoded::{DecodedFuture, decoded_future};
+use crate::inline_future::InlineFuture;
 use crate::lists::{BothFuture, DataFuture, LinesFuture, both_future, data_future, lines_future};
 use crate::picked_future::{FutureOf, begin};
 use crate::ready::{head_future, read_future};
@@ -16,7 +21,7 @@ use demo_arguments::{
     choice_of,
 };
 use std::alloc::Global;
-use web_body::{Marks, Payload};
+use web_body::{Marks, Payload, Poll, Step};
 use web_extract::EitherFuture::{Left, Right};
 use web_extract::{Capped, EitherFuture, FromRequest, Ready};
 use web_extract_body::{Either, Form, Json};
@@ -78,10 +83,10 @@ pub enum Picked {
     Other,
 }
 
-/// The future of the arguments that were chosen.
+/// The futures of all extractors, of which one is there.
 ///
 /// That of `/bytes` stands first, since each further level copies it where it is dropped.
-pub type PickedFuture = EitherFuture<
+type ChosenFuture = EitherFuture<
     FutureOf<Bytes>,
     EitherFuture<
         EitherFuture<FutureOf<String>, FutureOf<Capped<Bytes, 4>>>,
@@ -92,7 +97,90 @@ pub type PickedFuture = EitherFuture<
     >,
 >;
 
-/// The arguments that the first segment of the path asks for, and no others.
+/// The future of the extractors that were chosen.
+///
+/// It is a struct without parameters, so that what holds it names none of the futures inside.
+#[derive(Drop)]
+pub struct PickedFuture {
+    future: InlineFuture<ChosenFuture>,
+}
+
+impl Poll for PickedFuture {
+    ghost use Rattle.std.specs.Prelude.{Ok};
+    ghost use Rattle.demo_picked.specs.BoxedFutures.{gives_or_all_some};
+    ghost use Rattle.demo_picked.specs.declared.picked.Picked.TheVariants as picked;
+
+    type Output = Result<Picked, Error>;
+
+    ghost is_finished = { λ f. ⟦<ChosenFuture as Poll>⟧.is_finished f.future.future };
+
+    ghost gives = { λ f n x. GivesOrAll
+        (λ k y. ⟦<ChosenFuture as Poll>⟧.gives f.future.future k y) n x };
+
+    ghost needs_no_memory = { λ f. ⟦<ChosenFuture as Poll>⟧.needs_no_memory f.future.future };
+
+    ghost some = { λ f h. gives_or_all_some
+        (λ k y. ⟦<ChosenFuture as Poll>⟧.gives f.future.future k y) (Ok picked.Other) };
+
+    fn finished(&self) -> bool {
+        self.future.finished()
+    }
+
+    fn poll(&mut self, alloc: Global) -> Step<Result<Picked, Error>> {
+        self.future.poll(alloc)
+    }
+}
+
+/// Begins with the extractors that the first segment of the path asks for.
+fn chosen_future(
+    alloc: Global,
+    req: &HttpRequest<Demo>,
+    payload: &mut Payload<Marks>,
+) -> Result<ChosenFuture, NoMemory>
+    ensures fresh { IfOk result (λ f. ⟦<ChosenFuture as Poll>⟧.is_finished f ≡ false) }
+    ensures extracts { IfOk result (λ f. Extracts
+        (λ m rest n x. MeansPicked req.now.request m rest n x)
+        (λ n x. ⟦<ChosenFuture as Poll>⟧.gives f n x)
+        (payload_feed (λ feed. feed) payload.old).marks
+        (payload_feed (λ feed. feed) payload.new).marks) }
+    ensures payload { (payload.new ≡ payload.old) ⊎ (payload.new ≡ Payload.None) }
+    ensures memory { PickedNeedsNoMemory req.now.request → IsOk result }
+{
+    match choice_of(req.path()) {
+        Choice::Bytes => Ok(Left(begin::<Bytes>(alloc, req, payload)?)),
+        Choice::Text => Ok(Right(Left(Left(begin::<String>(alloc, req, payload)?)))),
+        Choice::Capped => {
+            let future = begin::<Capped<Bytes, 4>>(alloc, req, payload)?;
+            Ok(Right(Left(Right(future))))
+        }
+        Choice::Both => {
+            let future = both_future(alloc, req, payload)?;
+            Ok(Right(Right(Right(Left(future)))))
+        }
+        Choice::Data => {
+            let future = data_future(alloc, req, payload)?;
+            Ok(Right(Right(Right(Right(Left(future))))))
+        }
+        Choice::Lines => {
+            let future = lines_future(alloc, req, payload)?;
+            Ok(Right(Right(Right(Right(Right(future))))))
+        }
+        Choice::Decoded(choice) => {
+            let future = decoded_future(alloc, req, payload, choice)?;
+            Ok(Right(Right(Left(Right(future)))))
+        }
+        Choice::Read(choice) => {
+            let future = read_future(alloc, req, payload, choice)?;
+            Ok(Right(Right(Left(Left(future)))))
+        }
+        Choice::Head(choice) => {
+            let future = head_future(alloc, req, payload, choice)?;
+            Ok(Right(Right(Left(Left(future)))))
+        }
+    }
+}
+
+/// The extractors that the first segment of the path asks for, and no others.
 impl FromRequest<Demo> for Picked {
     ghost use Rattle.web_extract.specs.SomeAnswer.{itself};
     ghost use Rattle.demo_picked.specs.PickedArguments.{MeansPicked, PickedNeedsNoMemory};
@@ -115,38 +203,9 @@ impl FromRequest<Demo> for Picked {
         req: &HttpRequest<Demo>,
         payload: &mut Payload<Marks>,
     ) -> Result<PickedFuture, NoMemory> {
-        match choice_of(req.path()) {
-            Choice::Bytes => Ok(Left(begin::<Bytes>(alloc, req, payload)?)),
-            Choice::Text => Ok(Right(Left(Left(begin::<String>(alloc, req, payload)?)))),
-            Choice::Capped => {
-                let future = begin::<Capped<Bytes, 4>>(alloc, req, payload)?;
-                Ok(Right(Left(Right(future))))
-            }
-            Choice::Both => {
-                let future = both_future(alloc, req, payload)?;
-                Ok(Right(Right(Right(Left(future)))))
-            }
-            Choice::Data => {
-                let future = data_future(alloc, req, payload)?;
-                Ok(Right(Right(Right(Right(Left(future))))))
-            }
-            Choice::Lines => {
-                let future = lines_future(alloc, req, payload)?;
-                Ok(Right(Right(Right(Right(Right(future))))))
-            }
-            Choice::Decoded(choice) => {
-                let future = decoded_future(alloc, req, payload, choice)?;
-                Ok(Right(Right(Left(Right(future)))))
-            }
-            Choice::Read(choice) => {
-                let future = read_future(alloc, req, payload, choice)?;
-                Ok(Right(Right(Left(Left(future)))))
-            }
-            Choice::Head(choice) => {
-                let future = head_future(alloc, req, payload, choice)?;
-                Ok(Right(Right(Left(Left(future)))))
-            }
-        }
+        let begun = chosen_future(alloc, req, payload)?;
+        let future = InlineFuture::new(begun);
+        Ok(PickedFuture { future })
     }
 }
 

@@ -3,22 +3,28 @@ use Rattle.std.proofs.Common.{◌≡◌, ℕ, List, inl, inr, ◌⊎◌, subst, 
 use Rattle.cli_io.specs.IoState.{InputState, OutputState}
 use Rattle.web_http1.specs.Answers.{Answers, HasAnswers}
 use Rattle.web_http1.proofs.AnswersExistLemmas.{has_answers}
-use Rattle.web_cli.specs.ConnectionAnswers.{AllAnswered, ConnectionResult, WritesAnswers, connection_limits}
+use Rattle.web_cli.specs.ConnectionAnswers.{AllAnswered, AreAnswers, ConnectionResult, WritesAnswers, connection_limits}
 use Rattle.web_cli.specs.Run.{HasNoMemory}
 use Rattle.web_cli.specs.declared.status.Status.{Status}
 use Rattle.web_cli.specs.declared.status.Status.TheVariants as status
-use Rattle.demo_command.specs.PickedScripts.{ArePickedAnswers}
 use Rattle.demo_content.specs.AnswerReplies.{output_reply}
 use Rattle.demo_handler.specs.DemoReplies.{HandlerAnswers}
+use Rattle.demo_picked.specs.PickedArguments.{MeansPicked}
 use Rattle.rothveng.specs.DemoAnswers.{AreDemoAnswers, demo_setting}
 use Rattle.rothveng.proofs.MessageRepliesLemmas.{all_replied}
 
 pub some_answers : (capacity : ℕ) (bytes : List ℕ) → HasAnswers (demo_setting capacity) connection_limits bytes
 some_answers capacity = has_answers (demo_setting capacity) connection_limits (all_replied capacity)
 
+-- the answers by the program's extractors and its handler
+abbrev pub ProgramAnswers : ℕ → List ℕ → List ℕ → Type 0
+ProgramAnswers capacity bytes text =
+    AreAnswers (λ q m rest n x. MeansPicked q m rest n x) (λ e f. f ≡ e)
+    (λ p n y. HandlerAnswers p n y) (λ y q r. r ≡ output_reply y) capacity bytes text
+
 -- a text that is all answers of the bytes is one of them
 pub text_answers : (capacity : ℕ) (bytes text : List ℕ)
-    → ArePickedAnswers (λ p n y. HandlerAnswers p n y) (λ y q r. r ≡ output_reply y) capacity bytes text
+    → ProgramAnswers capacity bytes text
     → AreDemoAnswers capacity bytes text
 text_answers capacity bytes text only = record {
   answers = λ none. some_answers capacity bytes (λ given end is.

@@ -30,7 +30,8 @@ use Rattle.demo_handler.specs.DemoReplies.{HandlerAnswers, demo_reply, wait_of}
 use Rattle.rothveng.specs.DemoAnswers.{demo_setting}
 use Rattle.rothveng.proofs.PickedWholeLemmas.{ComesNow, RepliesNow, choice_now, states_whole}
 
-abbrev rules : Rules DemoLayer DemoLocal DemoConn Picked Fault (Output Feed)
+-- what the program's extractors and its handler promise
+abbrev pub rules : Rules DemoLayer DemoLocal DemoConn Picked Fault (Output Feed)
 rules =
     rules_of (λ q m rest n x. MeansPicked q m rest n x) (λ e f. f ≡ e)
     (λ p n y. HandlerAnswers p n y) (λ y q r. r ≡ output_reply y)

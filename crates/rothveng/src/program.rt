@@ -8,12 +8,12 @@ ghost use Rattle.web_cli.specs.Run.{Headline, ReadFaultIsReported, RefusesWords,
 ghost use Rattle.web_cli.specs.Run.{TooLongIsReported, WriteFaultIsReported, WritesAlone};
 ghost use Rattle.rothveng.specs.DemoAnswers.{AreDemoAnswers, IsDemoSummary, IsDemoText};
 
-use demo_command::run;
 use demo_handler::DemoHandler;
+use demo_picked::Picked;
 use std::alloc::Global;
-use web_cli::{Input, Output, Status};
+use web_cli::{Input, Output, Status, run};
 
-/// [`run`] with the program's own handler.
+/// [`run`] with the program's own extractors and its handler.
 pub fn run_program<I: Input, O: Output>(
     alloc: Global,
     words: &[String],
@@ -45,5 +45,5 @@ pub fn run_program<I: Input, O: Output>(
     ensures write_fault { WriteFaultIsReported result (O.state output.old) (O.state output.new) }
     ensures too_long { TooLongIsReported result (I.state input.old) (I.state input.new) }
 {
-    run(alloc, words, input, output, &mut DemoHandler::new())
+    run::<I, O, Picked, DemoHandler>(alloc, words, input, output, &mut DemoHandler::new())
 }

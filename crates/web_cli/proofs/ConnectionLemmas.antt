@@ -106,7 +106,7 @@ module _ (answers : List ℕ → List ℕ → Type 0) (untouched : Type 0) where
       rw failed (inr (record { read = long; cut = cut; handler = same }))
 
 -- what was left, where all of it was read
-consumed : (left new : Option (List ℕ)) (bytes came : List ℕ) → left ≡ Some bytes → Consumes left new came → IsAtEnd new
+pub consumed : (left new : Option (List ℕ)) (bytes came : List ℕ) → left ≡ Some bytes → Consumes left new came → IsAtEnd new
     → (bytes ≡ came) × (new ≡ Some [])
 consumed None new bytes came is takes ended = absurd cc
 consumed (Some xs) None bytes came is takes ended = absurd takes
@@ -115,7 +115,7 @@ consumed (Some xs) (Some ys) bytes came is takes ended =
     let all : came ++ ys ≡ came = ap (λ rest. came ++ rest) ended ∙ append-nil came in
     (sym same ∙ takes ∙ all, ap Some ended)
 
-no_longer : (left new : Option (List ℕ)) (bytes came : List ℕ) → left ≡ Some bytes → Consumes left new came → length came ≤ length bytes
+pub no_longer : (left new : Option (List ℕ)) (bytes came : List ℕ) → left ≡ Some bytes → Consumes left new came → length came ≤ length bytes
 no_longer None new bytes came is takes = absurd cc
 no_longer (Some xs) None bytes came is takes = absurd takes
 no_longer (Some xs) (Some ys) bytes came is takes =

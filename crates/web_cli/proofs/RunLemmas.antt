@@ -7,7 +7,7 @@ use Rattle.web_cli.specs.ScriptAnswers.{is_valid_script}
 use Rattle.web_cli.specs.Run.{HasNoMemory, Headline, IsRefused, ServeResult, WritesAlone, WritesReplies}
 use Rattle.web_cli.specs.CommandWords.{usage}
 use Rattle.web_cli.specs.Run.{WritesText, WritesUsage}
-use Rattle.web_cli.specs.declared.words.Command.TheVariants.{Replay, Serve}
+use Rattle.web_cli.specs.declared.words.Command.TheVariants.{Connect, Replay, Serve}
 use Rattle.cli_load.specs.declared.load.Load.{Load}
 use Rattle.web_cli.specs.WriteOrFault.{WritesOrFaults}
 use Rattle.web_cli.specs.declared.status.Status.{Status}
@@ -94,6 +94,9 @@ usage_written a o p (inr (failed, cut)) = rw failed cut
 
 pub served_capacity : (m n : ℕ) → Some (Serve m) ≡ Some (Serve n) → m ≡ n
 served_capacity m n same = cc
+
+pub connected_capacity : (m n : ℕ) → Some (Connect m) ≡ Some (Connect n) → m ≡ n
+connected_capacity m n same = cc
 
 pub replayed_load : (x y : Load) → Some (Replay x) ≡ Some (Replay y) → x ≡ y
 replayed_load x y same = cc

@@ -3,7 +3,7 @@ ghost use Rattle.std.specs.Prelude.{◌≡◌, ◌<◌, ◌^◌, ◌∷◌, [], 
 ghost use Rattle.web_body.specs.MemoryBodies.{marks_feed};
 ghost use Rattle.web_request.specs.declared.source.Mark.TheVariants.{Piece};
 ghost use Rattle.web_worker.specs.HandlerPromises.{SamePromises};
-ghost use Rattle.web_cli.specs.ConnectionAnswers.{AllAnswered, AreAnswers, ConnectionResult};
+ghost use Rattle.web_cli.specs.ConnectionAnswers.{AreAnswers, ConnectionResult};
 
 use crate::demo_worker::new_worker;
 use crate::status::Status;
@@ -73,8 +73,9 @@ where
     }
 }
 
-/// Reads the bytes of a connection, serves it with a pool of this capacity, and writes its answers.
-fn read_and_answer<I: Input, O: Output, Args: FromRequest<Demo>, H: Handler<Args>>(
+/// `http1`: reads the bytes of a connection, serves it with a pool of this capacity, and writes its
+/// answers.
+pub(crate) fn connect<I: Input, O: Output, Args: FromRequest<Demo>, H: Handler<Args>>(
     alloc: Global,
     capacity: u16,
     input: &mut I,
@@ -103,30 +104,4 @@ where
             Ok(text) => write_or_fault(output, &text, Status::Done),
         },
     }
-}
-
-/// `http1`: what was read and written, also where no read and no write fails.
-pub(crate) fn connect<I: Input, O: Output, Args: FromRequest<Demo>, H: Handler<Args>>(
-    alloc: Global,
-    capacity: u16,
-    input: &mut I,
-    output: &mut O,
-    handler: &mut H,
-) -> Status
-where
-    H::Output: Responder<Demo>,
-    requires ready { H.ready handler.old }
-    ensures ready { H.ready handler.new }
-    ensures same_promises { SamePromises (H.answers handler.old) (H.answers handler.new) }
-    ensures connects { (came : List ℕ) × ConnectionResult
-        (AreAnswers Args.means Args.Error.converts (H.answers handler.old) H.Output.responds
-        capacity)
-        (handler.new ≡ handler.old) result came
-        (I.state input.old) (I.state input.new) (O.state output.old) (O.state output.new) }
-    ensures answered { AllAnswered
-        (AreAnswers Args.means Args.Error.converts (H.answers handler.old) H.Output.responds
-        capacity) result
-        (I.state input.old) (I.state input.new) (O.state output.old) (O.state output.new) }
-{
-    read_and_answer::<I, O, Args, H>(alloc, capacity, input, output, handler)
 }

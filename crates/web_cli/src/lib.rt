@@ -25,6 +25,6 @@ pub use cli_script::{
 };
 pub use demo_app::{Demo, DemoConn, DemoLayer, DemoLocal, Item};
 pub use demo_flights::DemoFlights;
-pub use serving::run_over;
+pub use serving::run;
 pub use status::Status;
 pub use words::{Command, command_of};

@@ -24,8 +24,8 @@ use web_extract::FromRequest;
 use web_reply::Responder;
 use web_worker::Handler;
 
-/// Reads a script, serves it with a pool of this capacity, and writes the replies.
-fn read_and_serve<I: Input, O: Output, Args: FromRequest<Demo>, H: Handler<Args>>(
+/// `serve`: reads a script, serves it with a pool of this capacity, and writes the replies.
+fn serve<I: Input, O: Output, Args: FromRequest<Demo>, H: Handler<Args>>(
     alloc: Global,
     capacity: u16,
     input: &mut I,
@@ -61,40 +61,6 @@ where
     }
 }
 
-/// `serve`: what was read and written, also where no read and no write fails.
-fn serve<I: Input, O: Output, Args: FromRequest<Demo>, H: Handler<Args>>(
-    alloc: Global,
-    capacity: u16,
-    input: &mut I,
-    output: &mut O,
-    handler: &mut H,
-) -> Status
-where
-    H::Output: Responder<Demo>,
-    requires ready { H.ready handler.old }
-    ensures ready { H.ready handler.new }
-    ensures same_promises { SamePromises (H.answers handler.old) (H.answers handler.new) }
-    ensures serves { (came : List ℕ) × ServeResult
-        (AreReplies
-        (rules_of Args.means Args.Error.converts (H.answers handler.old) H.Output.responds)
-        capacity)
-        (AppendsScriptCalls
-        (rules_of Args.means Args.Error.converts (H.answers handler.old) H.Output.responds)
-        (H.calls handler.old) (H.calls handler.new))
-        (handler.new ≡ handler.old) result came
-        (I.state input.old) (I.state input.new) (O.state output.old) (O.state output.new) }
-    ensures headline { Headline
-        (AreReplies
-        (rules_of Args.means Args.Error.converts (H.answers handler.old) H.Output.responds)
-        capacity)
-        (AppendsScriptCalls
-        (rules_of Args.means Args.Error.converts (H.answers handler.old) H.Output.responds)
-        (H.calls handler.old) (H.calls handler.new)) result
-        (I.state input.old) (I.state input.new) (O.state output.old) (O.state output.new) }
-{
-    read_and_serve::<I, O, Args, H>(alloc, capacity, input, output, handler)
-}
-
 /// Runs the command that `words`, the arguments without the program's name, ask for.
 ///
 /// `serve --pool=N`, N of 0 to 1024, reads a script of at most 16,777,216 bytes from `input`,
@@ -119,7 +85,7 @@ where
 /// `line 0: too long` where more bytes came; so do more bytes of a connection.
 ///
 /// The status says what was read and written: see [`Status`].
-pub fn run_over<I: Input, O: Output, Args: FromRequest<Demo>, H: Handler<Args>>(
+pub fn run<I: Input, O: Output, Args: FromRequest<Demo>, H: Handler<Args>>(
     alloc: Global,
     words: &[String],
     input: &mut I,

@@ -1,7 +1,9 @@
 use Rattle.std.proofs.Common.{◌∙◌, ap, sym, refl}
 use Rattle.std.specs.Prelude.{Some}
-use Rattle.web_cli.proofs.RunLemmas.{replayed_load, served_capacity, usage_written}
-use Rattle.web_cli.proofs.serving.run_over.Goals as goal
+use Rattle.web_cli.proofs.ConnectionLemmas.{all_answered}
+use Rattle.web_cli.proofs.HeadlineLemmas.{headline_holds}
+use Rattle.web_cli.proofs.RunLemmas.{connected_capacity, replayed_load, served_capacity, usage_written}
+use Rattle.web_cli.proofs.serving.run.Goals as goal
 
 pub returns-in-Some-Serve-clause-serves : goal.returns-in-Some-Serve-clause-serves
 returns-in-Some-Serve-clause-serves g c = λ capacity words.
@@ -13,7 +15,15 @@ pub returns-in-Some-Serve-clause-headline : goal.returns-in-Some-Serve-clause-he
 returns-in-Some-Serve-clause-headline g c = λ capacity words.
     let same = served_capacity c.in-Some-Serve.capacity capacity
     (sym (c.in-Some-Serve.is ∙ ap Some c.in-Some-Serve.field-0-is) ∙ c.command_of.ensures ∙ words) in
-    rw (← same) c.serve.ensures.headline
+    rw (← same)
+    (headline_holds _ _ _ c.serve.result c.serve.ensures.serves.0 _ _ _ _ c.serve.ensures.serves.1)
+
+pub returns-in-Some-Connect-clause-answered : goal.returns-in-Some-Connect-clause-answered
+returns-in-Some-Connect-clause-answered g c = λ capacity words.
+    let same = connected_capacity c.in-Some-Connect.capacity capacity
+    (sym (c.in-Some-Connect.is ∙ ap Some c.in-Some-Connect.field-0-is) ∙ c.command_of.ensures ∙ words) in
+    rw (← same)
+    (all_answered _ _ c.connect.result c.connect.ensures.connects.0 _ _ _ _ c.connect.ensures.connects.1)
 
 pub returns-in-Some-Replay-clause-replays : goal.returns-in-Some-Replay-clause-replays
 returns-in-Some-Replay-clause-replays g c = λ load words.

@@ -2,7 +2,7 @@ use Rattle.std.proofs.Common.{◌≡◌, inr}
 use Rattle.web_cli.specs.ScriptAnswers.{AppendsScriptCalls, AreReplies}
 use Rattle.web_worker.specs.HandlerServices.{rules_of}
 use Rattle.web_cli.proofs.RunLemmas.{refused, replied}
-use Rattle.web_cli.proofs.serving.read_and_serve.Goals as goal
+use Rattle.web_cli.proofs.serving.serve.Goals as goal
 
 pub returns-in-Ok-Refused-clause-serves : goal.returns-in-Ok-Refused-clause-serves
 returns-in-Ok-Refused-clause-serves g c =
