@@ -94,10 +94,8 @@ pub(crate) fn begin<T: FromRequest<Demo> + IntoPicked>(
     ensures payload { (payload.new ≡ payload.old) ⊎ (payload.new ≡ Payload.None) }
     ensures memory { T.needs_no_memory req.now.request → IsOk result }
 {
-    match T::from_request(alloc, req, payload) {
-        Ok(future) => Ok(FutureOf { future }),
-        Err(e) => Err(e),
-    }
+    let future = T::from_request(alloc, req, payload)?;
+    Ok(FutureOf { future })
 }
 
 /// The value of a future that was not polled.
