@@ -7,7 +7,8 @@ use Rattle.web_cli.specs.LoadTexts.{IsSummary, load_script}
 use Rattle.web_cli.specs.ScriptAnswers.{AppendsScriptCalls, AreReplies}
 use Rattle.web_cli.proofs.RunLemmas.{alone_as, headline_as, result_as}
 use Rattle.rothveng.specs.DemoAnswers.{AreDemoAnswers, IsDemoSummary, IsDemoText}
-use Rattle.rothveng.proofs.DemoAnswersLemmas.{ProgramAnswers, answered_as, connection_as, text_answers}
+use Rattle.rothveng.proofs.DemoAnswersLemmas.{ProgramAnswers, answered_as, connection_as}
+use Rattle.rothveng.proofs.DemoAnswersLemmas.{text_answers}
 use Rattle.rothveng.proofs.MessageRepliesLemmas.{rules}
 use Rattle.rothveng.proofs.program.run_program.Goals as goal
 

@@ -7,5 +7,6 @@ returns-in-Ok-clause-connects g c =
     let text = c.in-Ok.ensures.text in
     let written = rw c.deref.ensures.value at c.write_or_fault-in-Ok.ensures in (
       c.in-Ok-All.bytes.items,
-      connected _ _ c.write_or_fault-in-Ok.result c.in-Ok-All.bytes.items c.in-Ok.text.items _ _ _ _ all text written,
+      connected _ _ c.write_or_fault-in-Ok.result c.in-Ok-All.bytes.items c.in-Ok.text.items
+          _ _ _ _ all text written,
     )
