@@ -94,8 +94,10 @@ pub(crate) fn begin<T: FromRequest<Demo> + IntoPicked>(
     ensures payload { (payload.new ≡ payload.old) ⊎ (payload.new ≡ Payload.None) }
     ensures memory { T.needs_no_memory req.now.request → IsOk result }
 {
-    let future = T::from_request(alloc, req, payload)?;
-    Ok(FutureOf { future })
+    match T::from_request(alloc, req, payload) {
+        Ok(future) => Ok(FutureOf { future }),
+        Err(e) => Err(e),
+    }
 }
 
 /// The value of a future that was not polled.
