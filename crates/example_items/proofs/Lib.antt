@@ -1,0 +1,5 @@
+-- Lemmas of the site.
+mod ItemLemmas
+mod SiteLemmas
+mod ConnectionLemmas
+mod AnsweredLemmas
