@@ -1,1 +1,3 @@
+pub mod Booking
 pub mod Item
+pub mod Posted

@@ -1,147 +1,121 @@
-//! The first page and its form. A booking is not kept: its page has it in the query.
-use crate::page::{Escaped, begin_page, end_page};
+//! `POST /bookings`: redirects to what was booked, or gives the form back with what was refused of
+//! it. Nothing is kept.
+use crate::booking::Booking;
+use crate::extracted::extracted;
+use crate::page::Page;
+use crate::posted::Posted;
+use crate::reply::{Answer, Plain};
+use http::StatusCode;
 use std::alloc::Global;
-use std::fmt::Write;
-use web::codec::{ReadFault, ReadPairs, field_or, pairs_text, required_field};
-use web::text::{Pair, read_digits};
-use web::{Either, Error, Fail, Form, Html, NoMemory, Query, Redirect, StatusCode, Text};
+use web_body::{Marks, Payload};
+use web_build::Redirect;
+use web_codec::pairs_text;
+use web_extract_body::Form;
+use web_extract_head::Query;
+use web_reply::Responder;
+use web_request::HttpRequest;
+use web_texts::{NoMemory, Pair, Text, read_digits};
 
 /// The most seats of a booking.
 const MOST_SEATS: u64 = 8;
 
-/// What stands below the form.
-const BELOW: &str = "<h2>Upload</h2>\n\
-    <form method=\"post\" action=\"/upload\" enctype=\"multipart/form-data\">\n\
-    <input name=\"note\"> <input type=\"file\" name=\"file\"> <button>Send</button>\n\
-    </form>\n\
-    <p><a href=\"/items/7\">An item</a>, <a href=\"/files/guide.txt\">a file</a>,\n\
-    <a href=\"/greeting\">a greeting</a>, <a href=\"/visits\">your visits</a>,\n\
-    <a href=\"/old\">the old page</a></p>\n";
-
-/// The fields of the form as they were posted. One that is missing is empty.
-#[derive(Drop)]
-pub struct Posted {
-    name: Text,
-    seats: Text,
+/// What is refused of each field.
+#[derive(Clone, Copy, Debug, Default, PartialEq, Eq)]
+pub struct Refused {
+    pub name: Option<&'static str>,
+    pub seats: Option<&'static str>,
 }
 
-impl ReadPairs for Posted {
-    fn read_pairs(alloc: Global, pairs: &[Pair]) -> Result<Posted, Fail<ReadFault>> {
-        Ok(Posted {
-            name: field_or(alloc, pairs, "name", Text::of(alloc, "")?)?,
-            seats: field_or(alloc, pairs, "seats", Text::of(alloc, "")?)?,
-        })
-    }
-}
-
-impl Posted {
-    /// What is wrong with the name, or an empty text.
-    fn name_fault(&self) -> &'static str {
-        if self.name.as_str().is_empty() {
-            "say a name"
+/// What is refused of the fields.
+fn refusals_of(posted: &Posted) -> Refused {
+    let seats = read_digits(posted.seats.as_str(), MOST_SEATS).unwrap_or(0);
+    Refused {
+        name: if posted.name.as_str().is_empty() {
+            Some("say a name")
         } else {
-            ""
-        }
-    }
-
-    /// What is wrong with the seats, or an empty text.
-    fn seats_fault(&self) -> &'static str {
-        match read_digits(self.seats.as_str(), MOST_SEATS) {
-            Some(0) | None => "one to eight",
-            Some(_) => "",
-        }
+            None
+        },
+        seats: if seats == 0 {
+            Some("one to eight")
+        } else {
+            None
+        },
     }
 }
 
-/// Writes a field of the form, with what is wrong with it.
+/// Writes a field of the form, with what is refused of it.
 fn write_field(
-    html: &mut String,
+    page: &mut Page,
     label: &str,
     name: &str,
-    value: &Text,
-    fault: &str,
+    value: &str,
+    refused: Option<&str>,
 ) -> Result<(), NoMemory> {
-    let value = Escaped(value.as_str());
-    write!(
-        html,
-        "<label>{label} <input name=\"{name}\" value=\"{value}\"></label> <em>{fault}</em><br>\n"
-    )?;
-    Ok(())
+    page.push("<label>")?;
+    page.push(label)?;
+    page.push(" <input name=\"")?;
+    page.push(name)?;
+    page.push("\" value=\"")?;
+    page.push_text(value)?;
+    page.push("\"></label> <em>")?;
+    page.push(refused.unwrap_or(""))?;
+    page.push("</em><br>\n")
 }
 
-/// The front of the first page, with the form to its end.
-fn begin_form(alloc: Global, posted: &Posted, faults: (&str, &str)) -> Result<String, NoMemory> {
-    let mut html = begin_page(alloc, "Bookings")?;
-    html.push_str("<h1>Bookings</h1>\n<form method=\"post\" action=\"/bookings\">\n")?;
-    write_field(&mut html, "Name", "name", &posted.name, faults.0)?;
-    write_field(&mut html, "Seats", "seats", &posted.seats, faults.1)?;
-    html.push_str("<button>Book</button>\n</form>\n")?;
-    Ok(html)
+/// Writes the form with these values in it.
+pub fn write_form(page: &mut Page, posted: &Posted, refused: Refused) -> Result<(), NoMemory> {
+    page.push("<h1>Bookings</h1>\n<form method=\"post\" action=\"/bookings\">\n")?;
+    write_field(page, "Name", "name", posted.name.as_str(), refused.name)?;
+    write_field(page, "Seats", "seats", posted.seats.as_str(), refused.seats)?;
+    page.push("<button>Book</button>\n</form>\n")
 }
 
-/// `GET /`: the page with an empty form.
-pub fn home(alloc: Global) -> Result<Html, Fail<Error>> {
-    let posted = Posted {
-        name: Text::of(alloc, "")?,
-        seats: Text::of(alloc, "")?,
-    };
-    let mut html = begin_form(alloc, &posted, ("", ""))?;
-    html.push_str(BELOW)?;
-    Ok(end_page(html)?)
+/// The page with the form as it was posted, and what was refused of it.
+fn given_back(alloc: Global, posted: &Posted, refused: Refused) -> Answer {
+    let mut page = Page::new(alloc, "Bookings")?;
+    write_form(&mut page, posted, refused)?;
+    Ok(page.reply(alloc, StatusCode::UNPROCESSABLE_ENTITY)?)
 }
 
-/// The address of the page of a booking, which a browser may load again as often as it likes.
-fn booked_at(alloc: Global, posted: Posted) -> Result<Text, NoMemory> {
+/// Sends the client to the page of this booking, which it may load again as often as it likes.
+fn redirected(alloc: Global, request: &HttpRequest<Plain>, posted: &Posted) -> Answer {
     let pairs = vec![in alloc;
         Pair::new(alloc, "name", posted.name.as_str())?,
         Pair::new(alloc, "seats", posted.seats.as_str())?,
     ]?;
     let query = pairs_text(alloc, &pairs)?;
-    Ok(Text::from(format!(in alloc; "/booked?{query}")?))
+    let target = Text::from(format!(in alloc; "/booked?{query}")?);
+    let reply = Redirect::to(alloc, target)?
+        .see_other()
+        .respond_to(alloc, request)?;
+    Ok(reply.map_into_boxed_body(alloc)?)
 }
 
-/// `POST /bookings`: redirects to the page of the booking, or shows the form again with what is
-/// wrong.
+/// Takes a booking, or gives the form back with what was refused of it.
 pub fn take_booking(
     alloc: Global,
-    form: Form<Posted>,
-) -> Result<Either<Redirect, (Html, StatusCode)>, Fail<Error>> {
-    let Form(posted) = form;
-    let faults = (posted.name_fault(), posted.seats_fault());
-    if faults.0.is_empty() && faults.1.is_empty() {
-        let target = booked_at(alloc, posted)?;
-        return Ok(Either::Left(Redirect::to(alloc, target)?.see_other()));
-    }
-    let page = end_page(begin_form(alloc, &posted, faults)?)?;
-    Ok(Either::Right((page, StatusCode::UNPROCESSABLE_ENTITY)))
-}
-
-/// A booking: who books, and how many seats.
-#[derive(Drop)]
-pub struct Booking {
-    name: Text,
-    seats: u64,
-}
-
-impl ReadPairs for Booking {
-    fn read_pairs(alloc: Global, pairs: &[Pair]) -> Result<Booking, Fail<ReadFault>> {
-        let name = required_field(alloc, pairs, "name")?;
-        let seats = required_field(alloc, pairs, "seats")?;
-        if seats == 0 || seats > MOST_SEATS {
-            return Err(ReadFault::refusal(alloc, "seats: not in 1..=8"));
-        }
-        Ok(Booking { name, seats })
+    request: &HttpRequest<Plain>,
+    payload: Payload<Marks>,
+) -> Answer {
+    let mut payload = payload;
+    let Form(posted) = extracted::<Form<Posted>>(alloc, request, &mut payload)?;
+    let refused = refusals_of(&posted);
+    if refused == Refused::default() {
+        redirected(alloc, request, &posted)
+    } else {
+        given_back(alloc, &posted, refused)
     }
 }
 
-/// `GET /booked`: the page of a booking.
-pub fn show_booking(alloc: Global, query: Query<Booking>) -> Result<Html, Fail<Error>> {
-    let Query(booking) = query;
-    let mut html = begin_page(alloc, "Booked")?;
-    let (name, seats) = (Escaped(booking.name.as_str()), booking.seats);
-    write!(
-        html,
-        "<h1>Booked</h1>\n<p>{name}: {seats}</p>\n<p><a href=\"/\">Another one</a></p>\n"
-    )?;
-    Ok(end_page(html)?)
+/// `GET /booked`: the page of a booking, which stands in the query.
+pub fn show_booking(alloc: Global, request: &HttpRequest<Plain>) -> Answer {
+    let mut payload = Payload::None;
+    let Query(booking) = extracted::<Query<Booking>>(alloc, request, &mut payload)?;
+    let mut page = Page::new(alloc, "Booked")?;
+    page.push("<h1>Booked</h1>\n<p>")?;
+    page.push_text(booking.name.as_str())?;
+    page.push(": ")?;
+    page.push_number(booking.seats)?;
+    page.push("</p>\n<p><a href=\"/\">Another one</a></p>\n")?;
+    Ok(page.reply(alloc, StatusCode::OK)?)
 }

@@ -1,133 +1,103 @@
-//! The routes of the site, and the connection that they serve.
-ghost use Rattle.std.specs.Prelude.{◌≡◌, IfOk};
-
-use crate::bookings::{home, show_booking, take_booking};
-use crate::documents::{greet, new_greetings, new_store, show_file};
+//! The handler of the site, which hands each request to that of its route.
+use crate::bookings::{show_booking, take_booking};
+use crate::files::{answer_file, new_store};
+use crate::greeting::{answer_greeting, new_greetings};
+use crate::home::home;
 use crate::items::{show_item, take_item};
-use crate::replies::{Site, SiteReplies, put, refusal_pages};
+use crate::missing::{no_such_method, no_such_page, options};
+use crate::moved::moved;
+use crate::reply::{Answer, Plain, Reply, replied, with_headers};
+use crate::routes::{Found, Route, find, routes};
 use crate::upload::list_parts;
 use crate::visits::count_visit;
-use anyhow::{Result, bail};
+use anyhow::Result;
+use http::Method;
+use http_header::HeaderValue;
+use matchit::Router;
 use std::alloc::Global;
-use std::rc::Rc;
-use web::header::ALLOW;
-use web::reply::WholeBody;
-use web::routing::RouteError;
-use web::{
-    AppConfig, Error, Fail, HandlerService, HttpRequest, HttpResponse, Method, NoData, NoMemory,
-    Redirect, RouteTable, Router, ServeSettings, StatusCode, Text, Worker, Wrap, handler, serve,
-    two,
-};
+use web_body::{Marks, Payload};
+use web_docs::Store;
+use web_extract::Ready;
+use web_request::HttpRequest;
+use web_texts::NoMemory;
+use web_variants::Page;
+use web_worker::Handler;
 
-/// The patterns of GET, and those of POST, in the order of their services.
-const GET: &[&str] = &[
-    "/",
-    "/booked",
-    "/items/{id}",
-    "/files/{name}",
-    "/greeting",
-    "/visits",
-    "/old",
-];
+/// The site. It keeps nothing from one request to the next.
+#[derive(Drop)]
+pub struct Site {
+    router: Router<Route>,
+    files: Store,
+    greetings: Page,
+}
 
-const POST: &[&str] = &["/bookings", "/upload", "/items"];
-
-/// The table of these routes.
-fn routes(alloc: Global) -> Result<RouteTable, RouteError> {
-    let mut table = RouteTable::new(alloc);
-    for pattern in GET {
-        table.add(alloc, Method::GET, *pattern)?;
+impl Site {
+    /// The site before its first request.
+    pub fn new(alloc: Global) -> Result<Site> {
+        Ok(Site {
+            router: routes(alloc)?,
+            files: new_store(alloc)?,
+            greetings: new_greetings(alloc)?,
+        })
     }
-    for pattern in POST {
-        table.add(alloc, Method::POST, *pattern)?;
+
+    /// The answer of the handler of a route.
+    fn answer_route(
+        &self,
+        alloc: Global,
+        found: &Found,
+        request: HttpRequest<Plain>,
+        payload: Payload<Marks>,
+    ) -> Answer {
+        if *request.method() == Method::OPTIONS {
+            return Ok(options(alloc, found.route.allowed())?);
+        }
+        if !found.route.takes(request.method()) {
+            return Ok(no_such_method(alloc, found.route)?);
+        }
+        match found.route {
+            Route::Home => Ok(home(alloc)?),
+            Route::Bookings => take_booking(alloc, &request, payload),
+            Route::Booked => show_booking(alloc, &request),
+            Route::Upload => list_parts(alloc, &request, payload),
+            Route::Items => Ok(take_item(alloc, &request, payload)?),
+            Route::Item => Ok(show_item(alloc, found.id.as_str())?),
+            Route::Files => Ok(answer_file(alloc, &self.files, &request)?),
+            Route::Greeting => Ok(answer_greeting(alloc, &self.greetings, &request)?),
+            Route::Visits => Ok(count_visit(alloc, request)?),
+            Route::Moved => Ok(moved(alloc, &request)?),
+        }
     }
-    Ok(table)
-}
 
-/// `GET /old`: redirects to the first page, for good.
-fn moved(alloc: Global) -> Result<Redirect, Fail<Error>> {
-    Ok(Redirect::to(alloc, Text::of(alloc, "/")?)?.permanent())
-}
-
-/// All other paths: 404, and the methods of the site for `OPTIONS *`.
-fn other(
-    alloc: Global,
-    request: HttpRequest<Site>,
-) -> Result<HttpResponse<WholeBody>, Fail<Error>> {
-    if *request.method() == Method::OPTIONS && request.path() == "*" {
-        let mut reply = HttpResponse::new(alloc, StatusCode::NO_CONTENT);
-        put(reply.headers_mut(), ALLOW, "GET, HEAD, POST, OPTIONS")?;
-        return Ok(reply);
+    /// The response to a request, without the headers that each one has.
+    fn bare_reply(
+        &self,
+        alloc: Global,
+        request: HttpRequest<Plain>,
+        payload: Payload<Marks>,
+    ) -> Result<Reply, NoMemory> {
+        if *request.method() == Method::OPTIONS && request.path() == "*" {
+            return options(alloc, HeaderValue::from_static("GET, HEAD, POST, OPTIONS"));
+        }
+        match find(alloc, &self.router, request.path())? {
+            Some(found) => replied(alloc, self.answer_route(alloc, &found, request, payload)),
+            None => no_such_page(alloc),
+        }
     }
-    Ok(HttpResponse::new(alloc, StatusCode::NOT_FOUND))
 }
 
-/// A worker, which keeps the record of one request for the next.
-fn new_worker(alloc: Global) -> Result<Worker<Site>, NoMemory>
-    ensures { IfOk result (λ worker. worker.made ≡ 0) }
-{
-    let config = AppConfig::local(alloc)?;
-    Worker::new(alloc, Rc::new(alloc, NoData)?, config, 1)
-}
+impl Handler<(HttpRequest<Plain>, Payload<Marks>)> for Site {
+    type Output = Reply;
 
-/// Serves the connection that standard input and output are. Refusals have pages.
-///
-/// # Errors
-///
-/// If reading, writing or memory failed.
-pub fn serve_connection(rt: &HostRuntime) -> Result<()> {
-    let alloc = rt.alloc();
-    let (files, greetings) = (new_store(alloc)?, new_greetings(alloc)?);
-    let pages = two(
-        1,
-        handler(move |_none: ()| home(alloc)),
-        two(
-            1,
-            handler(move |query| show_booking(alloc, query)),
-            handler(move |id| show_item(alloc, id)),
-        ),
-    );
-    let stored = two(
-        2,
-        two(
-            1,
-            handler(move |request| show_file(alloc, &files, request)),
-            handler(move |request| greet(alloc, &greetings, request)),
-        ),
-        two(
-            1,
-            handler(move |request| count_visit(alloc, request)),
-            handler(move |_none: ()| moved(alloc)),
-        ),
-    );
-    let posts = two(
-        1,
-        handler(move |form| take_booking(alloc, form)),
-        two(
-            1,
-            handler(move |form| list_parts(alloc, form)),
-            handler(|item| take_item(item)),
-        ),
-    );
-    let services = two(7, two(3, pages, stored), posts);
-    let Ok(table) = routes(alloc) else {
-        bail!("the routes are refused");
-    };
-    let others = HandlerService::immediate(move |request| other(alloc, request));
-    let mut site = Wrap::new(Router::new(table, services, others), SiteReplies);
-    let settings = ServeSettings {
-        refusals: Some(refusal_pages(alloc)?),
-        ..ServeSettings::from_words(rt)?
-    };
-    let mut worker = new_worker(alloc)?;
-    serve(
-        alloc,
-        rt,
-        &mut worker,
-        &mut site,
-        settings,
-        &mut rt.stdin(),
-        &mut rt.stdout(),
-    )?;
-    Ok(())
+    type Future = Ready<Reply>;
+
+    fn call(
+        &mut self,
+        alloc: Global,
+        args: (HttpRequest<Plain>, Payload<Marks>),
+    ) -> Result<Ready<Reply>, NoMemory> {
+        let (request, payload) = args;
+        let reply = self.bare_reply(alloc, request, payload)?;
+        Ok(Ready::new(with_headers(reply)?))
+    }
 }
