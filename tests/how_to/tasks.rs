@@ -9,9 +9,8 @@ use web::header::{CACHE_CONTROL, HeaderValue};
 use web::routing::{Change, Whole};
 use web::testing::TestRequest;
 use web::{
-    App, BoxBody, Error, Fail, Form, HandlerService, HttpRequest, HttpResponse, Json, Method,
-    NoMemory, Path, Query, RouteTable, Router, Service, StatusCode, StatusError, Text, Typed, Wrap,
-    handler, replied, two,
+    App, BoxBody, Error, Fail, Form, HttpRequest, HttpResponse, Json, NoMemory, Path, Query,
+    Router, Service, StatusCode, StatusError, Text, Typed, Wrap, get, handler, post, replied,
 };
 
 #[derive(Drop, Deserialize, Serialize)]
@@ -102,36 +101,22 @@ fn nothing(_none: ()) -> Result<Option<String>, Fail<Error>> {
     Ok(None)
 }
 
-fn table(rt: &impl Abort, alloc: Global) -> RouteTable {
-    let mut table = RouteTable::new(alloc);
-    let routes = [
-        (Method::POST, "/items"),
-        (Method::GET, "/tags/{id}"),
-        (Method::POST, "/login"),
-        (Method::POST, "/orders/{count}"),
-    ];
-    for (method, pattern) in routes {
-        table.add(alloc, method, pattern).ok().expect(rt, "a route");
-    }
-    table
-}
-
 fn site(rt: &impl Abort, alloc: Global) -> impl Service<Site, Whole> {
-    let services = two(
-        2,
-        two(
-            1,
-            handler(|item| give_back(item)),
-            handler(move |args| tagged(alloc, args)),
+    let routes = (
+        (
+            post("/items", |item| give_back(item)),
+            get("/tags/{id}", move |args| tagged(alloc, args)),
         ),
-        two(
-            1,
-            handler(move |form| sign_in(alloc, form)),
-            handler(move |count| replied(alloc, order(alloc, count))),
+        (
+            post("/login", move |form| sign_in(alloc, form)),
+            post(
+                "/orders/{count}",
+                move |count| replied(alloc, order(alloc, count)),
+            ),
         ),
     );
-    let others = HandlerService::immediate(|none| nothing(none));
-    Wrap::new(Router::new(table(rt, alloc), services, others), Fresh)
+    let router = Router::new(alloc, routes, handler(|none| nothing(none)));
+    Wrap::new(router.ok().expect(rt, "the routes"), Fresh)
 }
 
 #[test]

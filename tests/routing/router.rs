@@ -10,29 +10,11 @@ use web_http1::{Connection, Ended};
 use web_messages::Limits;
 use web_reply::Error;
 use web_request::{NoData, PlainApp};
-use web_routing::{HandlerService, Only, RouteTable, Router, Service, Two, Whole, serve_to_end};
+use web_routing::{Endpoint, HandlerService, Router, Service, Whole, serve_to_end};
 use web_testing::{TestReply, TestRequest, test_worker};
 use web_texts::{Fail, Text};
 
 type Site = PlainApp<Marks>;
-
-/// The routes: all items, one item, and what is said of one.
-fn table(rt: &impl Abort, alloc: Global) -> RouteTable {
-    let mut table = RouteTable::new(alloc);
-    table
-        .add(alloc, Method::GET, "/items")
-        .ok()
-        .expect(rt, "a route");
-    table
-        .add(alloc, Method::GET, "/items/{id}")
-        .ok()
-        .expect(rt, "a route");
-    table
-        .add(alloc, Method::POST, "/items/{id}")
-        .ok()
-        .expect(rt, "a route");
-    table
-}
 
 fn all(alloc: Global) -> Result<Text, Fail<Error>> {
     Ok(Text::of(alloc, "all items")?)
@@ -51,21 +33,80 @@ fn nothing(_none: ()) -> Result<Option<String>, Fail<Error>> {
     Ok(None)
 }
 
-/// The site of these routes.
+/// The site: all items, one item, and what is said of one.
 fn site(rt: &impl Abort, alloc: Global) -> impl Service<Site, Whole> {
-    Router::new(
-        table(rt, alloc),
-        Two {
-            middle: 1,
-            below: Only(HandlerService::immediate(move |_none: ()| all(alloc))),
-            above: Two {
-                middle: 1,
-                below: Only(HandlerService::immediate(move |id| one(alloc, id))),
-                above: Only(HandlerService::immediate(move |args| said(alloc, args))),
-            },
-        },
-        HandlerService::immediate(|none| nothing(none)),
-    )
+    let routes = (
+        Endpoint::new(
+            Method::GET,
+            "/items",
+            HandlerService::immediate(move |_none: ()| all(alloc)),
+        ),
+        (
+            Endpoint::new(
+                Method::GET,
+                "/items/{id}",
+                HandlerService::immediate(move |id| one(alloc, id)),
+            ),
+            Endpoint::new(
+                Method::POST,
+                "/items/{id}",
+                HandlerService::immediate(move |args| said(alloc, args)),
+            ),
+        ),
+    );
+    let others = HandlerService::immediate(|none| nothing(none));
+    Router::new(alloc, routes, others)
+        .ok()
+        .expect(rt, "the routes")
+}
+
+/// What is printed of the route that is refused, where each has the methods and patterns of these.
+fn refusal(alloc: Global, first: (Method, &'static str), second: (Method, &'static str)) -> String {
+    let routes = (
+        Endpoint::new(
+            first.0,
+            first.1,
+            HandlerService::immediate(|none| nothing(none)),
+        ),
+        Endpoint::new(
+            second.0,
+            second.1,
+            HandlerService::immediate(|none| nothing(none)),
+        ),
+    );
+    let others = HandlerService::<(), _>::immediate(|none| nothing(none));
+    match Router::new(alloc, routes, others) {
+        Ok(_) => String::new(alloc),
+        Err(error) => format!(in alloc; "{error}").unwrap_or(String::new(alloc)),
+    }
+}
+
+#[test]
+fn a_route_that_is_refused_is_named(rt: HostRuntime) {
+    let alloc = rt.alloc();
+    let items = || (Method::GET, "/items/{id}");
+    for (second, expected) in [
+        (
+            items(),
+            "/items/{id}: The pattern has a route of this method already",
+        ),
+        ((Method::PUT, "/items/{id}"), ""),
+        (
+            (Method::GET, "/items/{name}"),
+            "/items/{name}: Insertion failed due to conflict with previously registered route: \
+             /items/{id}",
+        ),
+        (
+            (Method::GET, "/caf\u{e9}"),
+            "/caf\u{e9}: The pattern has bytes that are not ASCII",
+        ),
+        (
+            (Method::GET, "/{id"),
+            "/{id: Parameters must be registered with a valid name",
+        ),
+    ] {
+        assert_same(&rt, refusal(alloc, items(), second).as_str(), expected);
+    }
 }
 
 #[test]

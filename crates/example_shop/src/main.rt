@@ -2,8 +2,6 @@
 //! `docs/FIRST-APPLICATION.md` builds.
 #![tactic(auto)]
 
-ghost use Rattle.std.specs.Prelude.{◌≡◌, IfOk};
-
 mod error;
 mod handler;
 mod item;
@@ -15,15 +13,13 @@ mod price;
 
 use crate::handler::{no_such_page, take_order};
 use crate::layer::{Shop, ShopLayer};
-use anyhow::{Result, bail};
-use std::alloc::Global;
+use anyhow::Result;
 use std::process::ExitCode;
 use std::rc::Rc;
 use web::header::{HeaderValue, SERVER};
-use web::routing::{Only, RouteError};
 use web::{
-    AppConfig, HandlerService, Method, NoMemory, RouteTable, Router, Scope, ServeSettings,
-    SetHeader, Worker, Wrap, handler, replied, serve, two,
+    Endpoint, Method, Router, Scope, ServeSettings, SetHeader, Worker, Wrap, handler, post,
+    replied, serve,
 };
 
 /// The most bytes of an item.
@@ -32,40 +28,22 @@ const LIMIT: usize = 200;
 /// The most bytes of an item of which a sample is ordered.
 const SAMPLE_LIMIT: usize = 40;
 
-/// A worker, which keeps the record of one request for the next.
-fn new_worker(alloc: Global) -> Result<Worker<Shop>, NoMemory>
-    ensures { IfOk result (λ worker. worker.made ≡ 0) }
-{
-    let config = AppConfig::local(alloc)?;
-    Worker::new(alloc, Rc::new(alloc, ShopLayer::new(LIMIT))?, config, 1)
-}
-
-/// The routes, in the order of their services.
-fn routes(alloc: Global) -> Result<RouteTable, RouteError> {
-    let mut table = RouteTable::new(alloc);
-    table.add(alloc, Method::POST, "/orders")?;
-    table.add(alloc, Method::POST, "/samples")?;
-    Ok(table)
-}
-
 /// Serves the connection that standard input and output are.
 fn serve_connection(rt: &HostRuntime) -> Result<()> {
     let alloc = rt.alloc();
-    let Ok(table) = routes(alloc) else {
-        bail!("the routes are refused");
-    };
-    let orders = handler(move |order| replied(alloc, take_order(alloc, order)));
-    let samples = Only(Scope::new(
+    let orders = post("/orders", move |order| replied(alloc, take_order(alloc, order)));
+    let samples = Scope::new(
         Rc::new(alloc, ShopLayer::new(SAMPLE_LIMIT))?,
-        HandlerService::immediate(move |order| replied(alloc, take_order(alloc, order))),
-    ));
-    let others = HandlerService::immediate(move |_none: ()| replied(alloc, no_such_page()));
+        handler(move |order| replied(alloc, take_order(alloc, order))),
+    );
+    let routes = (orders, Endpoint::new(Method::POST, "/samples", samples));
+    let others = handler(move |_none: ()| replied(alloc, no_such_page()));
     let server = SetHeader {
         name: SERVER,
         value: HeaderValue::from_static("shop"),
     };
-    let mut shop = Wrap::new(Router::new(table, two(1, orders, samples), others), server);
-    let mut worker = new_worker(alloc)?;
+    let mut shop = Wrap::new(Router::new(alloc, routes, others)?, server);
+    let mut worker = Worker::<Shop>::local(alloc, ShopLayer::new(LIMIT))?;
     serve(
         alloc,
         rt,

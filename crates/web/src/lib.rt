@@ -4,17 +4,17 @@
 //! library of its own: `cookie`, `header`, `headers`, `multipart` and so on.
 #![tactic(auto)]
 
+mod endpoints;
 mod errors_as_json;
-mod route_services;
 mod status_error;
 
 pub use bytes::Bytes;
+pub use endpoints::{delete, get, handler, patch, post, put};
 pub use errors_as_json::ErrorsAsJson;
 pub use http::{Method, StatusCode, Version};
 pub use http_header as header;
 pub use http_uri::Uri;
 pub use httpdate;
-pub use route_services::{handler, two};
 pub use status_error::{StatusError, replied};
 pub use web_body as body;
 pub use web_body::{Marks, Payload};
@@ -43,8 +43,8 @@ pub use web_request::{
 };
 pub use web_routing as routing;
 pub use web_routing::{
-    Any, Both, HandlerService, Immediate, MethodIs, Only, PathIs, Route, RouteTable, Router, Scope,
-    Service, SetHeader, Two, Whole, Wrap, serve_to_end,
+    Any, Both, Endpoint, HandlerService, Immediate, MethodIs, PathIs, Route, Router, Scope, Service,
+    SetHeader, Whole, Wrap, serve_to_end,
 };
 pub use web_status as status;
 pub use web_stdio as stdio;

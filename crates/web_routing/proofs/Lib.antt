@@ -5,3 +5,4 @@ pub mod ServiceLawLemmas
 pub mod ServedLemmas
 pub mod StateLemmas
 pub mod Refused
+pub mod TableLemmas

@@ -11,6 +11,7 @@ use Rattle.matchit.specs.Rows.{RowsOf}
 use Rattle.matchit.specs.declared.params.Params.{Params}
 use Rattle.web_routing.specs.RoutedPaths.{ResourceView, TableView, route_of}
 use Rattle.web_routing.specs.declared.route_table.MethodRoute.{MethodRoute}
+use Rattle.web_routing.specs.declared.route_table.RefusedRoute.{RefusedRoute}
 use Rattle.web_routing.specs.declared.route_table.RouteError.{RouteError}
 use Rattle.web_routing.specs.declared.route_table.RouteError.TheVariants.{Pattern, NotAscii}
 use Rattle.web_routing.specs.declared.route_table.RouteError.TheVariants.{Twice, NoMemory}
@@ -99,3 +100,26 @@ RefusesRoute method pattern old Twice =
     (k : ℕ) × (r : ResourceView) × (slice_get old.resources k ≡ Some r) × HasPattern pattern r
     × RefusesMethod method r Twice
 RefusesRoute method pattern old NoMemory = ⊤
+
+-- ---- routes one after another
+
+-- the method and the pattern of a route
+pub record RouteRow : Type 0 where
+  pub method : List ℕ
+  pub pattern : List ℕ
+
+-- these routes, added in their order
+abbrev pub AddedAll : List RouteRow → TableView → TableView → Type 0
+AddedAll [] old new = new ≡ old
+AddedAll (r ∷ rs) old new = (t : TableView) × Added r.method r.pattern old t × AddedAll rs t new
+
+-- one of these routes is refused, after those before it were added
+pub record RefusesOneOf (rows : List RouteRow) (old : TableView) (e : RefusedRoute) : Type 0 where
+  pub before : List RouteRow
+  pub row : RouteRow
+  pub after : List RouteRow
+  pub are : rows ≡ before ++ row ∷ after
+  pub table : TableView
+  pub added : AddedAll before old table
+  pub pattern : e.pattern.now ≡ row.pattern
+  pub refused : RefusesRoute row.method row.pattern table e.cause

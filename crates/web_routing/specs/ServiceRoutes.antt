@@ -191,26 +191,26 @@ route_keeps chosen a b c1 c2 p1 p2 l1 l2 d1 d2 q1 q2 k1 k2 e f g = rw e (record 
 })
 
 -- two of many, of which the number decides
-pub two_keeps : {V Q C D : Type 0} (n a b : ℕ)
+pub two_keeps : {V Q C D : Type 0} (n count : ℕ)
     (c1 c2 : ℕ → Q → Q) (p1 p2 : ℕ → Q → List Mark → Promise V) (l1 l2 : C → Q → Promise V)
-    (d1 d2 : ℕ → Q → Q) (q1 q2 : ℕ → Q → List Mark → Promise V) (k1 k2 : D → Q → Promise V) → b ≡ a
+    (d1 d2 : ℕ → Q → Q) (q1 q2 : ℕ → Q → List Mark → Promise V) (k1 k2 : D → Q → Promise V)
     → ((k : ℕ) → SameService (c1 k) (c2 k) (p1 k) (p2 k) l1 l2)
     → ((k : ℕ) → SameService (d1 k) (d2 k) (q1 k) (q2 k) k1 k2) → SameService
-    (λ q. chosen_request (nat_lt n a) (c1 n q) (d1 (n - a) q))
-    (λ q. chosen_request (nat_lt n b) (c2 n q) (d2 (n - b) q))
-    (λ q m. chosen_promise (nat_lt n a) (p1 n q m) (q1 (n - a) q m))
-    (λ q m. chosen_promise (nat_lt n b) (p2 n q m) (q2 (n - b) q m))
+    (λ q. chosen_request (nat_lt n count) (c1 n q) (d1 (n - count) q))
+    (λ q. chosen_request (nat_lt n count) (c2 n q) (d2 (n - count) q))
+    (λ q m. chosen_promise (nat_lt n count) (p1 n q m) (q1 (n - count) q m))
+    (λ q m. chosen_promise (nat_lt n count) (p2 n q m) (q2 (n - count) q m))
     (λ c q. one_promise l1 k1 c q) (λ c q. one_promise l2 k2 c q)
-two_keeps n a b c1 c2 p1 p2 l1 l2 d1 d2 q1 q2 k1 k2 e f g = rw e (record {
-  completed = λ q. chosen_equal (nat_lt n a) (c2 n q) (d2 (n - a) q) (c1 n q) (d1 (n - a) q)
-      ((f n).completed q) ((g (n - a)).completed q);
-  requests = λ q m. chosen_narrows (nat_lt n a) (p2 n q m) (q2 (n - a) q m) (p1 n q m)
-      (q1 (n - a) q m) ((f n).requests q m) ((g (n - a)).requests q m);
-  requests_back = λ q m. chosen_narrows (nat_lt n a) (p1 n q m) (q1 (n - a) q m) (p2 n q m)
-      (q2 (n - a) q m) ((f n).requests_back q m) ((g (n - a)).requests_back q m);
-  calls = λ c q. one_narrows l2 l1 k2 k1 (f n).calls (g (n - a)).calls c q;
-  calls_back = λ c q. one_narrows l1 l2 k1 k2 (f n).calls_back (g (n - a)).calls_back c q;
-})
+two_keeps n count c1 c2 p1 p2 l1 l2 d1 d2 q1 q2 k1 k2 f g = record {
+  completed = λ q. chosen_equal (nat_lt n count) (c2 n q) (d2 (n - count) q) (c1 n q)
+      (d1 (n - count) q) ((f n).completed q) ((g (n - count)).completed q);
+  requests = λ q m. chosen_narrows (nat_lt n count) (p2 n q m) (q2 (n - count) q m) (p1 n q m)
+      (q1 (n - count) q m) ((f n).requests q m) ((g (n - count)).requests q m);
+  requests_back = λ q m. chosen_narrows (nat_lt n count) (p1 n q m) (q1 (n - count) q m)
+      (p2 n q m) (q2 (n - count) q m) ((f n).requests_back q m) ((g (n - count)).requests_back q m);
+  calls = λ c q. one_narrows l2 l1 k2 k1 (f n).calls (g (n - count)).calls c q;
+  calls_back = λ c q. one_narrows l1 l2 k1 k2 (f n).calls_back (g (n - count)).calls_back c q;
+}
 
 -- a service that adds to each request
 pub with_keeps : {X V Q C : Type 0} (with : X → Q → Q) (a b : X)

@@ -2,6 +2,7 @@
 //! and what changes their replies.
 #![tactic(auto)]
 
+mod endpoint;
 mod handler_service;
 mod immediate;
 mod laws;
@@ -18,16 +19,17 @@ mod state_service;
 mod three_routes;
 mod wrap;
 
+pub use endpoint::Endpoint;
 pub use handler_service::HandlerService;
 pub use immediate::Immediate;
 pub use laws::{route_law, wrap_law};
 pub use path_is::{Any, Both, MethodIs, PathBelow, PathIs};
 pub use plain_scope::{PlainScope, ScopedApp};
 pub use route::{Choose, OneOf, Route};
-pub use route_table::{Found, RouteError, RouteTable};
+pub use route_table::{Found, RefusedRoute, RouteError, RouteTable};
 pub use router::{Router, RouterCall};
 pub use scope::Scope;
-pub use services::{Only, Services, Two};
+pub use services::{Routes, Services};
 pub use serving::serve_to_end;
 pub use set_header::SetHeader;
 pub use state_service::{StateHandler, StateService};

@@ -13,11 +13,13 @@ use http::Method;
 use http_header::HeaderValue;
 use matchit::{InsertError, Params, Router as Patterns};
 use std::alloc::Global;
+use std::error::Error;
+use std::fmt;
 use std::marker::Model;
 use web_texts::{NoMemory, Pair};
 
 /// Why a route is refused.
-#[derive(Drop)]
+#[derive(Debug, Drop)]
 pub enum RouteError {
     /// `matchit` does not read the pattern, or another one is in its way.
     Pattern(InsertError),
@@ -33,6 +35,34 @@ impl From<NoMemory> for RouteError {
         RouteError::NoMemory
     }
 }
+
+impl fmt::Display for RouteError {
+    fn fmt<W: fmt::Write>(&self, f: &mut fmt::Formatter<W>) -> fmt::Result {
+        match self {
+            RouteError::Pattern(error) => error.fmt(f),
+            RouteError::NotAscii => f.write_str("The pattern has bytes that are not ASCII"),
+            RouteError::Twice => f.write_str("The pattern has a route of this method already"),
+            RouteError::NoMemory => f.write_str("There was no memory for the route"),
+        }
+    }
+}
+
+impl Error for RouteError {}
+
+/// A route that is refused. It prints its pattern and the cause.
+#[derive(Debug, Drop)]
+pub struct RefusedRoute {
+    pub pattern: &'static str,
+    pub cause: RouteError,
+}
+
+impl fmt::Display for RefusedRoute {
+    fn fmt<W: fmt::Write>(&self, f: &mut fmt::Formatter<W>) -> fmt::Result {
+        write!(f, "{}: {}", self.pattern, self.cause)
+    }
+}
+
+impl Error for RefusedRoute {}
 
 /// The route of one method.
 #[derive(Drop)]

@@ -1,12 +1,12 @@
 //! A service of many routes, each with extractors of its own.
 
-ghost use Rattle.std.specs.Prelude.{◌≡◌, IfOk};
+ghost use Rattle.std.specs.Prelude.{◌≡◌, IfErr, IfOk};
 ghost use Rattle.web_reply.specs.ResponseBodies.{box_plain};
 ghost use Rattle.web_reply.specs.Replies.{plain_reply};
 ghost use Rattle.web_routing.specs.RoutedPaths.{methods_reply, resource_of};
 
-use crate::route_table::{Found, RouteTable};
-use crate::services::Services;
+use crate::route_table::{Found, RefusedRoute, RouteTable};
+use crate::services::{Routes, Services};
 use http::{Method, StatusCode};
 use http_header::ALLOW;
 use std::alloc::Global;
@@ -28,34 +28,42 @@ pub enum RouterCall<C, D> {
     Methods(usize),
 }
 
-/// Services of routes. The route of a request is that of the pattern that `matchit` gives for its
-/// path, and of its method; `Path` extracts the parameters of the pattern.
+/// Routes, and a service of all other paths. The route of a request is that of the pattern that
+/// `matchit` gives for its path, and of its method; `Path` extracts the parameters of the pattern.
 ///
 /// A HEAD without a route of its own is served by that of GET. Where the path has routes of other
 /// methods alone, the reply to OPTIONS is 204 and to others 405, both with the header Allow (RFC
-/// 9110, sections 9.3.7 and 15.5.6). All other paths are served by a service of their own.
+/// 9110, sections 9.3.7 and 15.5.6).
 #[derive(Drop)]
 pub struct Router<S, T> {
     table: RouteTable,
-    services: S,
+    routes: S,
     other: T,
 }
 
-impl<S, T> Router<S, T> {
+impl<S: Routes + Drop, T: Drop> Router<S, T> {
     ghost use Rattle.std.specs.Prelude.{◌≡◌};
+    ghost use Rattle.web_routing.specs.RouteTables.{AddedAll, RefusesOneOf, empty_table};
 
-    /// The router of these routes, whose services stand in the order of their numbers, and of a
-    /// service of all other paths.
-    pub fn new(table: RouteTable, services: S, other: T) -> Router<S, T>
-        ensures table { result.table ≡ table }
-        ensures services { result.services ≡ services }
-        ensures other { result.other ≡ other }
+    /// The router of these routes and of a service of all other paths.
+    ///
+    /// # Errors
+    ///
+    /// The first route that is refused: `matchit` does not read its pattern or another one is in its
+    /// way, the pattern is not ASCII, or there is a route before it of this method and this pattern.
+    pub fn new(alloc: Global, routes: S, other: T) -> Result<Router<S, T>, RefusedRoute>
+        ensures table { IfOk result (λ r. AddedAll (S.rows routes) empty_table r.table) }
+        ensures routes { IfOk result (λ r. r.routes ≡ routes) }
+        ensures other { IfOk result (λ r. r.other ≡ other) }
+        ensures refused { IfErr result (λ e. RefusesOneOf (S.rows routes) empty_table e) }
     {
-        Router {
+        let mut table = RouteTable::new(alloc);
+        routes.add_to(alloc, &mut table)?;
+        Ok(Router {
             table,
-            services,
+            routes,
             other,
-        }
+        })
     }
 }
 
@@ -70,42 +78,42 @@ impl<A: App, S: Services<A>, T: Service<A, Whole>> Service<A, Whole> for Router<
     type Call = RouterCall<S::Call, T::Call>;
 
     ghost completed = { λ s q. by_route_request (routed s.table q)
-        (λ n params. S.completed s.services n (with_parameters params q))
+        (λ n params. S.completed s.routes n (with_parameters params q))
         q (T.completed s.other q) };
 
     ghost promise = { λ s q m. by_route (routed s.table q)
-        (λ n params. S.promise s.services n (with_parameters params q) m)
+        (λ n params. S.promise s.routes n (with_parameters params q) m)
         (λ rs. methods_promise q.head.method rs) (T.promise s.other q m) };
 
-    ghost left = { λ s c q. router_left s.table (S.left s.services) (T.left s.other) c q };
+    ghost left = { λ s c q. router_left s.table (S.left s.routes) (T.left s.other) c q };
 
     ghost is_finished = { λ c. router_finished S.is_finished T.is_finished c };
 
-    ghost ready = { λ s. S.ready s.services × T.ready s.other };
+    ghost ready = { λ s. S.ready s.routes × T.ready s.other };
 
-    ghost states = { router_states (λ s. s.table) (λ s. s.services) (λ s. s.other)
+    ghost states = { router_states (λ s. s.table) (λ s. s.routes) (λ s. s.other)
         S.states T.states };
 
     ghost same_promises = { λ a b. (b.table ≡ a.table)
-        × S.same_promises a.services b.services × T.same_promises a.other b.other };
+        × S.same_promises a.routes b.routes × T.same_promises a.other b.other };
 
-    ghost open = { λ s c q. router_open s.table (S.left s.services) (T.left s.other)
-        S.is_finished T.is_finished (S.open s.services) (T.open s.other) c q };
+    ghost open = { λ s c q. router_open s.table (S.left s.routes) (T.left s.other)
+        S.is_finished T.is_finished (S.open s.routes) (T.open s.other) c q };
 
-    ghost same_itself = { λ a. (refl, S.same_itself a.services, T.same_itself a.other) };
+    ghost same_itself = { λ a. (refl, S.same_itself a.routes, T.same_itself a.other) };
 
     ghost same_on = { λ a b c f g. (
       same_still f.0 g.0,
-      S.same_on a.services b.services c.services f.1 g.1,
+      S.same_on a.routes b.routes c.routes f.1 g.1,
       T.same_on a.other b.other c.other f.2 g.2,
     ) };
 
     ghost keeps = { λ a b same. router_keeps a.table b.table
-        (S.completed a.services) (S.completed b.services)
-        (S.promise a.services) (S.promise b.services) (S.left a.services) (S.left b.services)
+        (S.completed a.routes) (S.completed b.routes)
+        (S.promise a.routes) (S.promise b.routes) (S.left a.routes) (S.left b.routes)
         (T.completed a.other) (T.completed b.other) (T.promise a.other) (T.promise b.other)
         (T.left a.other) (T.left b.other) same.0
-        (λ n. S.keeps n a.services b.services same.1) (T.keeps a.other b.other same.2) };
+        (λ n. S.keeps n a.routes b.routes same.1) (T.keeps a.other b.other same.2) };
 
     fn begin(
         &mut self,
@@ -117,7 +125,7 @@ impl<A: App, S: Services<A>, T: Service<A, Whole>> Service<A, Whole> for Router<
         match found {
             Found::Route(number) => {
                 request.set_match_info(params);
-                let call = self.services.begin_at(alloc, number, request, payload)?;
+                let call = self.routes.begin_at(alloc, number, request, payload)?;
                 Ok(RouterCall::Route(call))
             }
             Found::OtherMethods(place) => Ok(RouterCall::Methods(place)),
@@ -133,7 +141,7 @@ impl<A: App, S: Services<A>, T: Service<A, Whole>> Service<A, Whole> for Router<
         outcome: &mut Outcome<A>,
     ) {
         match call {
-            RouterCall::Route(call) => self.services.poll_at(alloc, call, request, outcome),
+            RouterCall::Route(call) => self.routes.poll_at(alloc, call, request, outcome),
             RouterCall::Other(call) => self.other.poll(alloc, call, request, outcome),
             RouterCall::Methods(place) => {
                 let place = *place;

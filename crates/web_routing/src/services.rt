@@ -1,5 +1,5 @@
-//! Services of a router, in a balanced tree, each with a number.
-ghost use Rattle.std.specs.Prelude.{◌≡◌, ℕ, Bool, IfOk, List, None, false};
+//! The routes of a router, in a balanced tree, and their services by their numbers.
+ghost use Rattle.std.specs.Prelude.{◌≡◌, ℕ, Bool, IfErr, IfOk, List, None, OnOk, false};
 ghost use Rattle.web_request.specs.declared.source.Mark.{Mark};
 ghost use Rattle.web_request.specs.Request.{Request};
 ghost use Rattle.web_body.specs.Payload.{payload_feed};
@@ -9,19 +9,39 @@ ghost use Rattle.web_worker.specs.ServicePromises.{Begins, OnUnfinished, Polls, 
 ghost use Rattle.web_worker.specs.ServicePromises.{SameService};
 ghost use Rattle.web_worker.specs.ServiceStates.{MovesTo, States, Stays};
 ghost use Rattle.web_worker.specs.declared.service.Whole.{Whole};
+ghost use Rattle.web_routing.specs.RouteTables.{AddedAll, RefusesOneOf, RouteRow};
 
 use crate::route::OneOf;
+use crate::route_table::{RefusedRoute, RouteTable};
 use std::alloc::Global;
 use web_body::Payload;
 use web_request::{App, HttpRequest};
 use web_texts::NoMemory;
 use web_worker::{Outcome, Service, Whole};
 
-/// Services, each with a number, counted from 0.
+/// Routes in an order. A leaf is an `Endpoint`, and a pair puts those of two trees side by side, the
+/// first one's before the second one's.
+pub trait Routes {
+    /// The method and the pattern of each, in their order.
+    ghost rows: { Self → List RouteRow };
+
+    /// How many there are.
+    ghost count: { ℕ };
+
+    /// How many there are, or the greatest `usize` if there are more.
+    fn len(&self) -> usize
+        ensures { result ≡ count };
+
+    /// Adds each of them to a table, up to the first that is refused.
+    fn add_to(&self, alloc: Global, table: &mut RouteTable) -> Result<(), RefusedRoute>
+        ensures ok { OnOk result (AddedAll (rows self.now) table.old table.new) }
+        ensures refused { IfErr result (λ e. RefusesOneOf (rows self.now) table.old e) };
+}
+
+/// The services of routes, each by the number of its route, counted from 0.
 ///
-/// A leaf is `Only`, and `Two` puts two of these side by side. A tree of as many services on both
-/// sides asks for the number some six times where it holds fifty.
-pub trait Services<A: App> {
+/// A tree of as many routes on both sides asks for the number some six times where it holds fifty.
+pub trait Services<A: App>: Routes {
     /// A call under way.
     type Call: Drop;
 
@@ -107,111 +127,67 @@ pub trait Services<A: App> {
         (completed b n) (promise a n) (promise b n) (left a) (left b) };
 }
 
-/// One service, of each number.
-#[derive(Drop)]
-pub struct Only<S>(pub S);
+/// The routes of two trees side by side.
+impl<X: Routes, Y: Routes> Routes for (X, Y) {
+    ghost use Rattle.std.specs.Prelude.{◌+◌, ◌++◌, ◌-◌, ◌^◌, min};
 
-impl<A: App, S: Service<A, Whole>> Services<A> for Only<S> {
-    ghost use Rattle.web_routing.specs.ServiceRoutes.{inner_states, whole_keeps, whole_promise};
+    ghost rows = { λ s. X.rows s.0 ++ Y.rows s.1 };
 
-    type Call = S::Call;
+    ghost count = { min (X.count + Y.count) (2 ^ 64 - 1) };
 
-    ghost completed = { λ s n q. S.completed s.0 q };
-
-    ghost promise = { λ s n q m. whole_promise (S.promise s.0 q m) };
-
-    ghost left = { λ s c q. whole_promise (S.left s.0 c q) };
-
-    ghost is_finished = { λ c. S.is_finished c };
-
-    ghost ready = { λ s. S.ready s.0 };
-
-    ghost states = { inner_states (λ s. s.0) S.states };
-
-    ghost same_promises = { λ a b. S.same_promises a.0 b.0 };
-
-    ghost open = { λ s c q h before. S.open s.0 c q h before };
-
-    ghost same_itself = { λ a. S.same_itself a.0 };
-
-    ghost same_on = { λ a b c first second. S.same_on a.0 b.0 c.0 first second };
-
-    ghost keeps = { λ n a b same. whole_keeps (S.completed a.0) (S.completed b.0)
-        (S.promise a.0) (S.promise b.0) (S.left a.0) (S.left b.0) (S.keeps a.0 b.0 same) };
-
-    fn begin_at(
-        &mut self,
-        alloc: Global,
-        _number: usize,
-        request: &mut HttpRequest<A>,
-        payload: &mut Payload<A::Source>,
-    ) -> Result<S::Call, NoMemory> {
-        self.0.begin(alloc, request, payload)
+    #[inline(always)]
+    fn len(&self) -> usize {
+        self.0.len().saturating_add(self.1.len())
     }
 
-    fn poll_at(
-        &mut self,
-        alloc: Global,
-        call: &mut S::Call,
-        request: &HttpRequest<A>,
-        outcome: &mut Outcome<A>,
-    ) {
-        self.0.poll(alloc, call, request, outcome);
+    #[tactic(auto, using(crate::proofs::TableLemmas::added_both, crate::proofs::TableLemmas::refuses_before, crate::proofs::TableLemmas::refuses_behind))]
+    fn add_to(&self, alloc: Global, table: &mut RouteTable) -> Result<(), RefusedRoute> {
+        self.0.add_to(alloc, table)?;
+        self.1.add_to(alloc, table)
     }
 }
 
-/// Services side by side: those of the numbers below `middle`, and those from it on, which count
-/// anew from 0.
-#[derive(Drop)]
-pub struct Two<X, Y> {
-    pub middle: usize,
-    pub below: X,
-    pub above: Y,
-}
-
-impl<A: App, X: Services<A>, Y: Services<A>> Services<A> for Two<X, Y> {
-    ghost use Rattle.std.specs.Prelude.{◌≡◌, ◌-◌, nat_lt, refl};
+/// The services of the second tree have the numbers behind those of the first.
+impl<A: App, X: Services<A>, Y: Services<A>> Services<A> for (X, Y) {
+    ghost use Rattle.std.specs.Prelude.{◌-◌, nat_lt};
     ghost use Rattle.web_routing.specs.ServiceRoutes.{both_states, chosen_promise};
     ghost use Rattle.web_routing.specs.ServiceRoutes.{chosen_request, one_finished, one_open};
-    ghost use Rattle.web_routing.specs.ServiceRoutes.{one_promise, route_keeps, same_still};
-    ghost use Rattle.web_routing.specs.ServiceRoutes.{two_keeps};
+    ghost use Rattle.web_routing.specs.ServiceRoutes.{one_promise, two_keeps};
 
     type Call = OneOf<X::Call, Y::Call>;
 
-    ghost completed = { λ s n q. chosen_request (nat_lt n s.middle)
-        (X.completed s.below n q) (Y.completed s.above (n - s.middle) q) };
+    ghost completed = { λ s n q. chosen_request (nat_lt n X.count)
+        (X.completed s.0 n q) (Y.completed s.1 (n - X.count) q) };
 
-    ghost promise = { λ s n q m. chosen_promise (nat_lt n s.middle)
-        (X.promise s.below n q m) (Y.promise s.above (n - s.middle) q m) };
+    ghost promise = { λ s n q m. chosen_promise (nat_lt n X.count)
+        (X.promise s.0 n q m) (Y.promise s.1 (n - X.count) q m) };
 
-    ghost left = { λ s c q. one_promise (X.left s.below) (Y.left s.above) c q };
+    ghost left = { λ s c q. one_promise (X.left s.0) (Y.left s.1) c q };
 
     ghost is_finished = { λ c. one_finished X.is_finished Y.is_finished c };
 
-    ghost ready = { λ s. X.ready s.below × Y.ready s.above };
+    ghost ready = { λ s. X.ready s.0 × Y.ready s.1 };
 
-    ghost states = { both_states (λ s. s.below) (λ s. s.above) X.states Y.states };
+    ghost states = { both_states (λ s. s.0) (λ s. s.1) X.states Y.states };
 
-    ghost same_promises = { λ a b. (b.middle ≡ a.middle)
-        × X.same_promises a.below b.below × Y.same_promises a.above b.above };
+    ghost same_promises = { λ a b. X.same_promises a.0 b.0 × Y.same_promises a.1 b.1 };
 
-    ghost open = { λ s c q. one_open X.is_finished Y.is_finished (X.left s.below) (Y.left s.above)
-        (X.open s.below) (Y.open s.above) c q };
+    ghost open = { λ s c q. one_open X.is_finished Y.is_finished (X.left s.0) (Y.left s.1)
+        (X.open s.0) (Y.open s.1) c q };
 
-    ghost same_itself = { λ a. (refl, X.same_itself a.below, Y.same_itself a.above) };
+    ghost same_itself = { λ a. (X.same_itself a.0, Y.same_itself a.1) };
 
     ghost same_on = { λ a b c f g. (
-      same_still f.0 g.0,
-      X.same_on a.below b.below c.below f.1 g.1,
-      Y.same_on a.above b.above c.above f.2 g.2,
+      X.same_on a.0 b.0 c.0 f.0 g.0,
+      Y.same_on a.1 b.1 c.1 f.1 g.1,
     ) };
 
-    ghost keeps = { λ n a b same. two_keeps n a.middle b.middle
-        (X.completed a.below) (X.completed b.below) (X.promise a.below) (X.promise b.below)
-        (X.left a.below) (X.left b.below)
-        (Y.completed a.above) (Y.completed b.above) (Y.promise a.above) (Y.promise b.above)
-        (Y.left a.above) (Y.left b.above) same.0
-        (λ k. X.keeps k a.below b.below same.1) (λ k. Y.keeps k a.above b.above same.2) };
+    ghost keeps = { λ n a b same. two_keeps n X.count
+        (X.completed a.0) (X.completed b.0) (X.promise a.0) (X.promise b.0)
+        (X.left a.0) (X.left b.0)
+        (Y.completed a.1) (Y.completed b.1) (Y.promise a.1) (Y.promise b.1)
+        (Y.left a.1) (Y.left b.1)
+        (λ k. X.keeps k a.0 b.0 same.0) (λ k. Y.keeps k a.1 b.1 same.1) };
 
     fn begin_at(
         &mut self,
@@ -220,11 +196,11 @@ impl<A: App, X: Services<A>, Y: Services<A>> Services<A> for Two<X, Y> {
         request: &mut HttpRequest<A>,
         payload: &mut Payload<A::Source>,
     ) -> Result<OneOf<X::Call, Y::Call>, NoMemory> {
-        if number < self.middle {
-            Ok(OneOf::First(self.below.begin_at(alloc, number, request, payload)?))
+        let first = self.0.len();
+        if number < first {
+            Ok(OneOf::First(self.0.begin_at(alloc, number, request, payload)?))
         } else {
-            let above = number - self.middle;
-            Ok(OneOf::Other(self.above.begin_at(alloc, above, request, payload)?))
+            Ok(OneOf::Other(self.1.begin_at(alloc, number - first, request, payload)?))
         }
     }
 
@@ -236,8 +212,8 @@ impl<A: App, X: Services<A>, Y: Services<A>> Services<A> for Two<X, Y> {
         outcome: &mut Outcome<A>,
     ) {
         match call {
-            OneOf::First(call) => self.below.poll_at(alloc, call, request, outcome),
-            OneOf::Other(call) => self.above.poll_at(alloc, call, request, outcome),
+            OneOf::First(call) => self.0.poll_at(alloc, call, request, outcome),
+            OneOf::Other(call) => self.1.poll_at(alloc, call, request, outcome),
         }
     }
 }

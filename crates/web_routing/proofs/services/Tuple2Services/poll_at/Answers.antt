@@ -1,4 +1,4 @@
-use Rattle.web_routing.proofs.services.TwoServices.poll_at.Goals as goal
+use Rattle.web_routing.proofs.services.Tuple2Services.poll_at.Goals as goal
 
 pub returns-in-First-clause-calls : goal.returns-in-First-clause-calls
 returns-in-First-clause-calls g c = rw c.in-First.is c.poll_at.ensures.calls

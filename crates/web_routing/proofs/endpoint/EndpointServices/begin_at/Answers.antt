@@ -1,5 +1,5 @@
 use Rattle.web_routing.proofs.ServiceLemmas.{if_ok, whole_to_come}
-use Rattle.web_routing.proofs.services.OnlyServices.begin_at.Goals as goal
+use Rattle.web_routing.proofs.endpoint.EndpointServices.begin_at.Goals as goal
 
 pub returns-clause-to_come : goal.returns-clause-to_come
 returns-clause-to_come g c =
