@@ -14,9 +14,8 @@ where
     HandlerService::immediate(closure)
 }
 
-/// The route of the GET requests for the paths that this pattern matches. It calls the closure with
-/// extractors of each request. HEAD is
-/// served by it too, if no route of its own is there.
+/// The route of GET requests whose path matches this pattern. It calls the closure with extractors
+/// of each request. It serves HEAD too, if no other route does.
 pub fn get<Args, T: Drop, E: Drop, F>(
     pattern: &'static str,
     closure: F,
@@ -24,14 +23,14 @@ pub fn get<Args, T: Drop, E: Drop, F>(
 where
     F: Fn(Args) -> Result<T, Fail<E>>,
     ensures method { result.method ≡ codes "GET" }
-    ensures pattern { result.pattern ≡ pattern }
+    ensures pattern { result.pattern.now ≡ pattern.now }
     ensures closure { result.service.handler.0 ≡ closure }
 {
     Endpoint::new(Method::GET, pattern, handler(closure))
 }
 
-/// The route of the POST requests for the paths that this pattern matches. It calls the closure with
-/// extractors of each request.
+/// The route of POST requests whose path matches this pattern. It calls the closure with extractors
+/// of each request.
 pub fn post<Args, T: Drop, E: Drop, F>(
     pattern: &'static str,
     closure: F,
@@ -39,14 +38,14 @@ pub fn post<Args, T: Drop, E: Drop, F>(
 where
     F: Fn(Args) -> Result<T, Fail<E>>,
     ensures method { result.method ≡ codes "POST" }
-    ensures pattern { result.pattern ≡ pattern }
+    ensures pattern { result.pattern.now ≡ pattern.now }
     ensures closure { result.service.handler.0 ≡ closure }
 {
     Endpoint::new(Method::POST, pattern, handler(closure))
 }
 
-/// The route of the PUT requests for the paths that this pattern matches. It calls the closure with
-/// extractors of each request.
+/// The route of PUT requests whose path matches this pattern. It calls the closure with extractors
+/// of each request.
 pub fn put<Args, T: Drop, E: Drop, F>(
     pattern: &'static str,
     closure: F,
@@ -54,14 +53,14 @@ pub fn put<Args, T: Drop, E: Drop, F>(
 where
     F: Fn(Args) -> Result<T, Fail<E>>,
     ensures method { result.method ≡ codes "PUT" }
-    ensures pattern { result.pattern ≡ pattern }
+    ensures pattern { result.pattern.now ≡ pattern.now }
     ensures closure { result.service.handler.0 ≡ closure }
 {
     Endpoint::new(Method::PUT, pattern, handler(closure))
 }
 
-/// The route of the PATCH requests for the paths that this pattern matches. It calls the closure with
-/// extractors of each request.
+/// The route of PATCH requests whose path matches this pattern. It calls the closure with extractors
+/// of each request.
 pub fn patch<Args, T: Drop, E: Drop, F>(
     pattern: &'static str,
     closure: F,
@@ -69,14 +68,14 @@ pub fn patch<Args, T: Drop, E: Drop, F>(
 where
     F: Fn(Args) -> Result<T, Fail<E>>,
     ensures method { result.method ≡ codes "PATCH" }
-    ensures pattern { result.pattern ≡ pattern }
+    ensures pattern { result.pattern.now ≡ pattern.now }
     ensures closure { result.service.handler.0 ≡ closure }
 {
     Endpoint::new(Method::PATCH, pattern, handler(closure))
 }
 
-/// The route of the DELETE requests for the paths that this pattern matches. It calls the closure with
-/// extractors of each request.
+/// The route of DELETE requests whose path matches this pattern. It calls the closure with extractors
+/// of each request.
 pub fn delete<Args, T: Drop, E: Drop, F>(
     pattern: &'static str,
     closure: F,
@@ -84,7 +83,7 @@ pub fn delete<Args, T: Drop, E: Drop, F>(
 where
     F: Fn(Args) -> Result<T, Fail<E>>,
     ensures method { result.method ≡ codes "DELETE" }
-    ensures pattern { result.pattern ≡ pattern }
+    ensures pattern { result.pattern.now ≡ pattern.now }
     ensures closure { result.service.handler.0 ≡ closure }
 {
     Endpoint::new(Method::DELETE, pattern, handler(closure))

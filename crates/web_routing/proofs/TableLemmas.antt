@@ -1,9 +1,9 @@
 -- Routes that are added one after another.
 use Rattle.std.proofs.Common.{◌≡◌, refl, sym, ap, ◌∙◌}
 use Rattle.std.specs.Prelude.{List, [], ◌∷◌, ◌++◌}
-use Rattle.std.proofs.lemmas.List.{append_assoc, append-nil}
+use Rattle.std.proofs.lemmas.List.{append_assoc}
 use Rattle.web_routing.specs.RoutedPaths.{TableView}
-use Rattle.web_routing.specs.RouteTables.{Added, AddedAll, RefusesOneOf, RefusesRoute, RouteRow}
+use Rattle.web_routing.specs.RouteTables.{AddedAll, RefusesOneOf, RefusesRoute, RouteRow}
 use Rattle.web_routing.specs.declared.route_table.RefusedRoute.{RefusedRoute}
 
 pub added_both : (rs ss : List RouteRow) (a b c : TableView) → AddedAll rs a b → AddedAll ss b c

@@ -23,7 +23,7 @@ impl<S> Endpoint<S> {
     /// A pattern is one of the kit's `matchit`, as `/items/{id}` or `/files/{*path}`.
     pub fn new(method: Method, pattern: &'static str, service: S) -> Endpoint<S>
         ensures method { result.method ≡ method }
-        ensures pattern { result.pattern ≡ pattern }
+        ensures pattern { result.pattern.now ≡ pattern.now }
         ensures service { result.service ≡ service }
     {
         Endpoint {
