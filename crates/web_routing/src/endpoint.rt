@@ -2,42 +2,71 @@
 ghost use Rattle.std.specs.Prelude.{◌≡◌, IfErr, OnOk};
 ghost use Rattle.web_routing.specs.RouteTables.{Added, RefusesRoute};
 
+use crate::handler_service::HandlerService;
+use crate::immediate::Immediate;
 use crate::route_table::{RefusedRoute, RouteError, RouteTable};
 use crate::services::{Routes, Services};
 use http::Method;
 use std::alloc::Global;
 use web_body::Payload;
 use web_request::{App, HttpRequest};
-use web_texts::NoMemory;
+use web_texts::{Fail, NoMemory};
 use web_worker::{Outcome, Service, Whole};
+
+/// A method and a pattern, which become a route with a service.
+///
+/// A pattern is one of the kit's `matchit`, as `/items/{id}` or `/files/{*path}`.
+///
+/// ```
+/// let items = MethodPattern::new(Method::GET, "/items/{id}").to(move |id| show(alloc, id));
+/// ```
+#[derive(Drop)]
+pub struct MethodPattern {
+    method: Method,
+    pattern: &'static str,
+}
+
+impl MethodPattern {
+    pub fn new(method: Method, pattern: &'static str) -> MethodPattern
+        ensures method { result.method ≡ method }
+        ensures pattern { result.pattern.now ≡ pattern.now }
+    {
+        MethodPattern { method, pattern }
+    }
+
+    /// The route that calls this closure with extractors of each request, as `Immediate` does.
+    pub fn to<Args, T: Drop, E: Drop, F>(
+        self,
+        closure: F,
+    ) -> Endpoint<HandlerService<Args, Immediate<F>>>
+    where
+        F: Fn(Args) -> Result<T, Fail<E>>,
+        ensures at { result.at ≡ self }
+        ensures closure { result.service.handler.0 ≡ closure }
+    {
+        self.service(HandlerService::immediate(closure))
+    }
+
+    /// The route with this service.
+    pub fn service<S>(self, service: S) -> Endpoint<S>
+        ensures at { result.at ≡ self }
+        ensures service { result.service ≡ service }
+    {
+        Endpoint { at: self, service }
+    }
+}
 
 /// A route: the service of the requests by this method for the paths that this pattern matches.
 #[derive(Drop)]
 pub struct Endpoint<S> {
-    method: Method,
-    pattern: &'static str,
+    at: MethodPattern,
     service: S,
-}
-
-impl<S> Endpoint<S> {
-    /// A pattern is one of the kit's `matchit`, as `/items/{id}` or `/files/{*path}`.
-    pub fn new(method: Method, pattern: &'static str, service: S) -> Endpoint<S>
-        ensures method { result.method ≡ method }
-        ensures pattern { result.pattern.now ≡ pattern.now }
-        ensures service { result.service ≡ service }
-    {
-        Endpoint {
-            method,
-            pattern,
-            service,
-        }
-    }
 }
 
 impl<S> Routes for Endpoint<S> {
     ghost use Rattle.std.specs.Prelude.{[], ◌∷◌};
 
-    ghost rows = { λ s. record { method = s.method; pattern = s.pattern.now } ∷ [] };
+    ghost rows = { λ s. record { method = s.at.method; pattern = s.at.pattern.now } ∷ [] };
 
     ghost count = { 1 };
 
@@ -48,10 +77,10 @@ impl<S> Routes for Endpoint<S> {
 
     #[tactic(auto, using(crate::proofs::TableLemmas::refuses_first))]
     fn add_to(&self, alloc: Global, table: &mut RouteTable) -> Result<(), RefusedRoute> {
-        match add(alloc, table, &self.method, self.pattern) {
+        match add(alloc, table, &self.at.method, self.at.pattern) {
             Ok(()) => Ok(()),
             Err(cause) => Err(RefusedRoute {
-                pattern: self.pattern,
+                pattern: self.at.pattern,
                 cause,
             }),
         }
