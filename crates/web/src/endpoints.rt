@@ -21,7 +21,7 @@ where
 /// ```
 pub fn get(pattern: &'static str) -> MethodPattern
     ensures method { result.method ≡ codes "GET" }
-    ensures pattern { result.pattern.now ≡ pattern.now }
+    ensures pattern { result.pattern ≡ pattern.now }
 {
     MethodPattern::new(Method::GET, pattern)
 }
@@ -29,7 +29,7 @@ pub fn get(pattern: &'static str) -> MethodPattern
 /// POST for the paths that this pattern matches.
 pub fn post(pattern: &'static str) -> MethodPattern
     ensures method { result.method ≡ codes "POST" }
-    ensures pattern { result.pattern.now ≡ pattern.now }
+    ensures pattern { result.pattern ≡ pattern.now }
 {
     MethodPattern::new(Method::POST, pattern)
 }
@@ -37,7 +37,7 @@ pub fn post(pattern: &'static str) -> MethodPattern
 /// PUT for the paths that this pattern matches.
 pub fn put(pattern: &'static str) -> MethodPattern
     ensures method { result.method ≡ codes "PUT" }
-    ensures pattern { result.pattern.now ≡ pattern.now }
+    ensures pattern { result.pattern ≡ pattern.now }
 {
     MethodPattern::new(Method::PUT, pattern)
 }
@@ -45,7 +45,7 @@ pub fn put(pattern: &'static str) -> MethodPattern
 /// PATCH for the paths that this pattern matches.
 pub fn patch(pattern: &'static str) -> MethodPattern
     ensures method { result.method ≡ codes "PATCH" }
-    ensures pattern { result.pattern.now ≡ pattern.now }
+    ensures pattern { result.pattern ≡ pattern.now }
 {
     MethodPattern::new(Method::PATCH, pattern)
 }
@@ -53,7 +53,7 @@ pub fn patch(pattern: &'static str) -> MethodPattern
 /// DELETE for the paths that this pattern matches.
 pub fn delete(pattern: &'static str) -> MethodPattern
     ensures method { result.method ≡ codes "DELETE" }
-    ensures pattern { result.pattern.now ≡ pattern.now }
+    ensures pattern { result.pattern ≡ pattern.now }
 {
     MethodPattern::new(Method::DELETE, pattern)
 }

@@ -1,29 +1,38 @@
 -- Routes that are added one after another.
-use Rattle.std.proofs.Common.{◌≡◌, refl, sym, ap, ◌∙◌}
-use Rattle.std.specs.Prelude.{List, [], ◌∷◌, ◌++◌, Result, Ok, Err, IfErr, OnOk}
+use Rattle.std.proofs.Common.{◌≡◌, ℕ, refl, sym, ap, ◌∙◌, inl, inr}
+use Rattle.std.specs.Prelude.{◌⊎◌, List, [], ◌∷◌, ◌++◌, Result, Ok, Err, IfErr, OnOk}
 use Rattle.std.proofs.lemmas.List.{append_assoc}
 use Rattle.web_routing.specs.RoutedPaths.{TableView}
-use Rattle.web_routing.specs.RouteTables.{AddedAll, RefusesOneOf, RefusesRoute, RouteRow}
+use Rattle.web_routing.specs.RouteTables.{AddedAll, IsRefusal, RefusesOneOf, RefusesRoute}
+use Rattle.web_routing.specs.RouteTables.{RouteRow}
 use Rattle.web_routing.specs.declared.route_table.RefusedRoute.{RefusedRoute}
+use Rattle.web_routing.specs.declared.route_table.RouteError.{RouteError}
+use Rattle.web_routing.specs.declared.route_table.RouteError.TheVariants.{NoMemory}
 
 added_both : (rs ss : List RouteRow) (a b c : TableView) → AddedAll rs a b → AddedAll ss b c
     → AddedAll (rs ++ ss) a c
 added_both [] ss a b c e more = rw e at more
 added_both (r ∷ rs) ss a b c h more = (h.0, h.1, added_both rs ss h.0 b c h.2 more)
 
+caused_so : (method pattern : List ℕ) (a : TableView) (cause was : RouteError)
+    → (cause ≡ NoMemory) ⊎ (cause ≡ was) → RefusesRoute method pattern a was
+    → RefusesRoute method pattern a cause
+caused_so method pattern a cause was (inl lacks) refused = rw lacks tt
+caused_so method pattern a cause was (inr same) refused = rw same refused
+
 -- the first route, and what is refused of it
-pub refuses_first : (row : RouteRow) (a : TableView) (e : RefusedRoute)
-    → e.pattern.now ≡ row.pattern → RefusesRoute row.method row.pattern a e.cause
+pub refuses_first : (row : RouteRow) (a : TableView) (cause : RouteError) (e : RefusedRoute)
+    → IsRefusal row.pattern cause e → RefusesRoute row.method row.pattern a cause
     → RefusesOneOf (row ∷ []) a e
-refuses_first row a e same refused = record {
+refuses_first row a cause e is refused = record {
   before = [];
   row = row;
   after = [];
   are = refl;
   table = a;
   added = refl;
-  pattern = same;
-  refused = refused;
+  pattern = is.named;
+  refused = caused_so row.method row.pattern a e.cause cause is.caused refused;
 }
 
 -- one of the routes behind those that were added
