@@ -1,0 +1,4 @@
+-- The definitions of the site.
+pub mod ItemReplies
+pub mod ItemSites
+pub mod ItemConnections
