@@ -167,7 +167,8 @@ impl<A: App, S: Service<A, Whole>> Services<A> for Endpoint<S> {
     ghost same_on = { λ a b c first second. S.same_on a.service b.service c.service first second };
 
     ghost keeps = { λ n a b same. whole_keeps (S.completed a.service) (S.completed b.service)
-        (S.promise a.service) (S.promise b.service) (S.left a.service) (S.left b.service) (S.keeps a.service b.service same) };
+        (S.promise a.service) (S.promise b.service) (S.left a.service) (S.left b.service)
+        (S.keeps a.service b.service same) };
 
     fn begin_at(
         &mut self,

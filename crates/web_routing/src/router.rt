@@ -49,8 +49,8 @@ impl<S: Routes + Drop, T: Drop> Router<S, T> {
     ///
     /// # Errors
     ///
-    /// The first route that is refused: `matchit` does not read its pattern or another one is in its
-    /// way, the pattern is not ASCII, or there is a route before it of this method and this pattern.
+    /// The first route that is refused: `matchit` does not read its pattern or another one is in
+    /// its way, the pattern is not ASCII, or a route before it has this method and this pattern.
     pub fn new(alloc: Global, routes: S, other: T) -> Result<Router<S, T>, RefusedRoute>
         ensures table { IfOk result (λ r. AddedAll (S.rows routes) empty_table r.table) }
         ensures routes { IfOk result (λ r. r.routes ≡ routes) }

@@ -19,8 +19,8 @@ use web_request::{App, HttpRequest};
 use web_texts::NoMemory;
 use web_worker::{Outcome, Service, Whole};
 
-/// Routes in an order. A leaf is an `Endpoint`. A pair has the routes of two trees, those of the first
-/// one before those of the second.
+/// Routes in an order. A leaf is an `Endpoint`. A pair has the routes of two trees, those of the
+/// first one before those of the second.
 pub trait Routes {
     /// The method and the pattern of each, in their order.
     ghost rows: { Self → List RouteRow };
