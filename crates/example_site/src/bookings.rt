@@ -1,121 +1,134 @@
-//! `POST /bookings`: redirects to what was booked, or gives the form back with what was refused of
-//! it. Nothing is kept.
-use crate::booking::Booking;
-use crate::extracted::extracted;
-use crate::page::Page;
-use crate::posted::Posted;
-use crate::reply::{Answer, Plain};
-use http::StatusCode;
+//! The first page and its form. A booking is not kept: its page has it in the query.
+use crate::page::{Escaped, begin_page, end_page};
+use serde::Deserialize;
 use std::alloc::Global;
-use web_body::{Marks, Payload};
-use web_build::Redirect;
-use web_codec::pairs_text;
-use web_extract_body::Form;
-use web_extract_head::Query;
-use web_reply::Responder;
-use web_request::HttpRequest;
-use web_texts::{NoMemory, Pair, Text, read_digits};
+use std::fmt::Write;
+use web::codec::pairs_text;
+use web::status::ErrorBadRequest;
+use web::text::{Pair, read_digits};
+use web::{Either, Error, Fail, Form, Html, NoMemory, Query, Redirect, StatusCode, Text, Typed};
 
 /// The most seats of a booking.
 const MOST_SEATS: u64 = 8;
 
-/// What is refused of each field.
-#[derive(Clone, Copy, Debug, Default, PartialEq, Eq)]
-pub struct Refused {
-    pub name: Option<&'static str>,
-    pub seats: Option<&'static str>,
+/// What stands below the form.
+const BELOW: &str = "<h2>Upload</h2>\n\
+    <form method=\"post\" action=\"/upload\" enctype=\"multipart/form-data\">\n\
+    <input name=\"note\"> <input type=\"file\" name=\"file\"> <button>Send</button>\n\
+    </form>\n\
+    <p><a href=\"/items/7\">An item</a>, <a href=\"/files/guide.txt\">a file</a>,\n\
+    <a href=\"/greeting\">a greeting</a>, <a href=\"/visits\">your visits</a>,\n\
+    <a href=\"/old\">the old page</a></p>\n";
+
+/// A booking as it was typed. A field that is missing is empty.
+#[derive(Drop, Deserialize)]
+pub struct Booking {
+    #[serde(default)]
+    name: String,
+    #[serde(default)]
+    seats: String,
 }
 
-/// What is refused of the fields.
-fn refusals_of(posted: &Posted) -> Refused {
-    let seats = read_digits(posted.seats.as_str(), MOST_SEATS).unwrap_or(0);
-    Refused {
-        name: if posted.name.as_str().is_empty() {
-            Some("say a name")
+impl Booking {
+    /// What is wrong with the name, and what with the seats: empty texts if nothing is.
+    fn faults(&self) -> (&'static str, &'static str) {
+        let name = if self.name.is_empty() {
+            "say a name"
         } else {
-            None
-        },
-        seats: if seats == 0 {
-            Some("one to eight")
-        } else {
-            None
-        },
+            ""
+        };
+        let seats = match read_digits(self.seats.as_str(), MOST_SEATS) {
+            Some(0) | None => "one to eight",
+            Some(_) => "",
+        };
+        (name, seats)
+    }
+
+    /// Whether nothing is wrong.
+    fn is_right(&self) -> bool {
+        let (name, seats) = self.faults();
+        name.is_empty() && seats.is_empty()
     }
 }
 
-/// Writes a field of the form, with what is refused of it.
+/// Writes a field of the form, with what is wrong with it.
 fn write_field(
-    page: &mut Page,
+    html: &mut String,
     label: &str,
     name: &str,
     value: &str,
-    refused: Option<&str>,
+    fault: &str,
 ) -> Result<(), NoMemory> {
-    page.push("<label>")?;
-    page.push(label)?;
-    page.push(" <input name=\"")?;
-    page.push(name)?;
-    page.push("\" value=\"")?;
-    page.push_text(value)?;
-    page.push("\"></label> <em>")?;
-    page.push(refused.unwrap_or(""))?;
-    page.push("</em><br>\n")
+    let value = Escaped(value);
+    write!(
+        html,
+        "<label>{label} <input name=\"{name}\" value=\"{value}\"></label> <em>{fault}</em><br>\n"
+    )?;
+    Ok(())
 }
 
-/// Writes the form with these values in it.
-pub fn write_form(page: &mut Page, posted: &Posted, refused: Refused) -> Result<(), NoMemory> {
-    page.push("<h1>Bookings</h1>\n<form method=\"post\" action=\"/bookings\">\n")?;
-    write_field(page, "Name", "name", posted.name.as_str(), refused.name)?;
-    write_field(page, "Seats", "seats", posted.seats.as_str(), refused.seats)?;
-    page.push("<button>Book</button>\n</form>\n")
+/// The front of the first page, with the form to its end, in which these texts are.
+fn begin_form(
+    alloc: Global,
+    name: &str,
+    seats: &str,
+    faults: (&str, &str),
+) -> Result<String, NoMemory> {
+    let mut html = begin_page(alloc, "Bookings")?;
+    html.push_str("<h1>Bookings</h1>\n<form method=\"post\" action=\"/bookings\">\n")?;
+    write_field(&mut html, "Name", "name", name, faults.0)?;
+    write_field(&mut html, "Seats", "seats", seats, faults.1)?;
+    html.push_str("<button>Book</button>\n</form>\n")?;
+    Ok(html)
 }
 
-/// The page with the form as it was posted, and what was refused of it.
-fn given_back(alloc: Global, posted: &Posted, refused: Refused) -> Answer {
-    let mut page = Page::new(alloc, "Bookings")?;
-    write_form(&mut page, posted, refused)?;
-    Ok(page.reply(alloc, StatusCode::UNPROCESSABLE_ENTITY)?)
+/// `GET /`: the page with an empty form.
+pub fn home(alloc: Global) -> Result<Html, Fail<Error>> {
+    let mut html = begin_form(alloc, "", "", ("", ""))?;
+    html.push_str(BELOW)?;
+    Ok(end_page(html)?)
 }
 
-/// Sends the client to the page of this booking, which it may load again as often as it likes.
-fn redirected(alloc: Global, request: &HttpRequest<Plain>, posted: &Posted) -> Answer {
+/// The address of the page of a booking, which a browser may load again as often as it likes.
+fn booked_at(alloc: Global, booking: &Booking) -> Result<Text, NoMemory> {
     let pairs = vec![in alloc;
-        Pair::new(alloc, "name", posted.name.as_str())?,
-        Pair::new(alloc, "seats", posted.seats.as_str())?,
+        Pair::new(alloc, "name", booking.name.as_str())?,
+        Pair::new(alloc, "seats", booking.seats.as_str())?,
     ]?;
     let query = pairs_text(alloc, &pairs)?;
-    let target = Text::from(format!(in alloc; "/booked?{query}")?);
-    let reply = Redirect::to(alloc, target)?
-        .see_other()
-        .respond_to(alloc, request)?;
-    Ok(reply.map_into_boxed_body(alloc)?)
+    Ok(Text::from(format!(in alloc; "/booked?{query}")?))
 }
 
-/// Takes a booking, or gives the form back with what was refused of it.
+/// `POST /bookings`: redirects to the page of the booking, or shows the form again with what is
+/// wrong.
 pub fn take_booking(
     alloc: Global,
-    request: &HttpRequest<Plain>,
-    payload: Payload<Marks>,
-) -> Answer {
-    let mut payload = payload;
-    let Form(posted) = extracted::<Form<Posted>>(alloc, request, &mut payload)?;
-    let refused = refusals_of(&posted);
-    if refused == Refused::default() {
-        redirected(alloc, request, &posted)
-    } else {
-        given_back(alloc, &posted, refused)
+    form: Form<Typed<Booking>>,
+) -> Result<Either<Redirect, (Html, StatusCode)>, Fail<Error>> {
+    let Form(Typed(booking)) = form;
+    if booking.is_right() {
+        let target = booked_at(alloc, &booking)?;
+        return Ok(Either::Left(Redirect::to(alloc, target)?.see_other()));
     }
+    let (name, seats) = (booking.name.as_str(), booking.seats.as_str());
+    let page = end_page(begin_form(alloc, name, seats, booking.faults())?)?;
+    Ok(Either::Right((page, StatusCode::UNPROCESSABLE_ENTITY)))
 }
 
-/// `GET /booked`: the page of a booking, which stands in the query.
-pub fn show_booking(alloc: Global, request: &HttpRequest<Plain>) -> Answer {
-    let mut payload = Payload::None;
-    let Query(booking) = extracted::<Query<Booking>>(alloc, request, &mut payload)?;
-    let mut page = Page::new(alloc, "Booked")?;
-    page.push("<h1>Booked</h1>\n<p>")?;
-    page.push_text(booking.name.as_str())?;
-    page.push(": ")?;
-    page.push_number(booking.seats)?;
-    page.push("</p>\n<p><a href=\"/\">Another one</a></p>\n")?;
-    Ok(page.reply(alloc, StatusCode::OK)?)
+/// `GET /booked`: the page of a booking.
+pub fn show_booking(alloc: Global, query: Query<Typed<Booking>>) -> Result<Html, Fail<Error>> {
+    let Query(Typed(booking)) = query;
+    if !booking.is_right() {
+        return Err(Fail::Of(ErrorBadRequest(alloc, "this is no booking")?));
+    }
+    let mut html = begin_page(alloc, "Booked")?;
+    let (name, seats) = (
+        Escaped(booking.name.as_str()),
+        Escaped(booking.seats.as_str()),
+    );
+    write!(
+        html,
+        "<h1>Booked</h1>\n<p>{name}: {seats}</p>\n<p><a href=\"/\">Another one</a></p>\n"
+    )?;
+    Ok(end_page(html)?)
 }

@@ -1,56 +1,31 @@
-//! `GET /items/{id}` and `POST /items`: an item as JSON.
-use crate::extracted::extracted;
-use crate::item::Item;
-use crate::missing::no_such_page;
-use crate::reply::{Plain, Reply};
-use http::StatusCode;
+//! An item as JSON.
+use serde::{Deserialize, Serialize};
 use std::alloc::Global;
-use web_body::{Marks, Payload};
-use web_build::prelude::*;
-use web_extract::Capped;
-use web_extract_body::Json;
-use web_reply::{Error, HttpResponse};
-use web_request::HttpRequest;
-use web_status::json_error_reply;
-use web_texts::{Fail, Items, NoMemory, Text, read_digits};
+use web::{Capped, Error, Fail, Json, Path, StatusCode, Typed};
 
 /// The most bytes of an item as JSON: what is decoded of them may need 350 times as many.
-const MOST_JSON: usize = 16_384;
+pub const MOST_JSON: usize = 16_384;
 
-/// A response of an item.
-fn written(alloc: Global, status: StatusCode, item: &Item) -> Result<Reply, NoMemory> {
-    HttpResponse::build(alloc, status).json(item)
+/// An item: a number, a name, and tags that may be left out.
+#[derive(Drop, Serialize, Deserialize)]
+pub struct Item {
+    id: u64,
+    name: String,
+    #[serde(default)]
+    tags: Vec<String>,
 }
 
-/// The item of a number. Where `id` is none, there is no such page.
-pub fn show_item(alloc: Global, id: &str) -> Result<Reply, NoMemory> {
-    match read_digits(id, u64::MAX) {
-        Some(id) => {
-            let name = Text::from(format!(in alloc; "item {id}")?);
-            let tags = Items::of(Vec::new(alloc));
-            written(alloc, StatusCode::OK, &Item { id, name, tags })
-        }
-        None => no_such_page(alloc),
-    }
+/// `GET /items/{id}`: the item of a number.
+pub fn show_item(alloc: Global, id: Path<u64>) -> Result<Json<Typed<Item>>, Fail<Error>> {
+    let id = id.into_inner();
+    let name = format!(in alloc; "item {id}")?;
+    let tags = Vec::new(alloc);
+    Ok(Json(Typed(Item { id, name, tags })))
 }
 
-/// An error as JSON.
-fn json_refusal(alloc: Global, error: Error) -> Result<Reply, NoMemory> {
-    let text = format!(in alloc; "{error}")?;
-    let status = HttpResponse::from_error(alloc, error)?.status();
-    json_error_reply(alloc, status, text.as_str())?.map_into_boxed_body(alloc)
-}
-
-/// Takes an item, and responds with what was read of it. It is not kept. An error is JSON too.
+/// `POST /items`: responds with what was read of an item. It is not kept.
 pub fn take_item(
-    alloc: Global,
-    request: &HttpRequest<Plain>,
-    payload: Payload<Marks>,
-) -> Result<Reply, NoMemory> {
-    let mut payload = payload;
-    match extracted::<Capped<Json<Item>, MOST_JSON>>(alloc, request, &mut payload) {
-        Ok(Capped(Json(item))) => written(alloc, StatusCode::CREATED, &item),
-        Err(Fail::Of(error)) => json_refusal(alloc, error),
-        Err(Fail::NoMemory) => Err(NoMemory),
-    }
+    item: Capped<Json<Typed<Item>>, MOST_JSON>,
+) -> Result<(Json<Typed<Item>>, StatusCode), Fail<Error>> {
+    Ok((item.into_inner(), StatusCode::CREATED))
 }

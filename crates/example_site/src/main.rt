@@ -5,30 +5,19 @@
 //! of several clients come over one.
 #![tactic(auto)]
 
-mod booking;
 mod bookings;
-mod extracted;
-mod files;
-mod greeting;
-mod home;
-mod item;
+mod documents;
 mod items;
-mod missing;
-mod moved;
 mod page;
-mod posted;
-mod reply;
-mod routes;
-mod serving;
-mod settings;
+mod replies;
 mod site;
 mod upload;
 mod visits;
 
-use crate::serving::serve_connection;
+use crate::site::serve_connection;
 use std::process::ExitCode;
 
-/// It writes no message where it fails: behind inetd standard error is the connection too.
+/// It writes no message if it fails: behind inetd standard error is the connection too.
 fn main(rt: HostRuntime) -> ExitCode {
     match serve_connection(&rt) {
         Ok(()) => ExitCode::SUCCESS,

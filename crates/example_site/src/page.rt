@@ -1,11 +1,8 @@
 //! Pages. Each is written into one text, from its front to its end.
-use crate::reply::Reply;
-use http::StatusCode;
 use std::alloc::Global;
+use std::fmt;
 use std::fmt::Write;
-use web_build::prelude::*;
-use web_reply::HttpResponse;
-use web_texts::NoMemory;
+use web::{Html, NoMemory, Text};
 
 /// What stands before the title of each page.
 const FRONT: &str = "<!doctype html>\n<html lang=\"en\">\n<meta charset=\"utf-8\">\n\
@@ -15,62 +12,36 @@ const FRONT: &str = "<!doctype html>\n<html lang=\"en\">\n<meta charset=\"utf-8\
 /// The bytes for which a new page has room. Most pages need no more.
 const USUAL_LENGTH: usize = 1_024;
 
-/// A page whose content is being written.
+/// A text from outside as HTML shows it, also within the quotes of an attribute.
 #[derive(Drop)]
-pub struct Page {
-    html: String,
-}
+pub struct Escaped<'a>(pub &'a str);
 
-/// A character as it stands in HTML, also within the quotes of an attribute, or `None` where it
-/// stands for itself.
-fn escape_of(c: char) -> Option<&'static str> {
-    match c {
-        '&' => Some("&amp;"),
-        '<' => Some("&lt;"),
-        '>' => Some("&gt;"),
-        '"' => Some("&quot;"),
-        '\'' => Some("&#39;"),
-        _ => None,
-    }
-}
-
-impl Page {
-    /// A page of this title, which is HTML, without content.
-    pub fn new(alloc: Global, title: &str) -> Result<Page, NoMemory> {
-        let mut html = String::with_capacity(alloc, USUAL_LENGTH)?;
-        html.push_str(FRONT)?;
-        html.push_str(title)?;
-        html.push_str("</title>\n")?;
-        Ok(Page { html })
-    }
-
-    /// Adds HTML.
-    pub fn push(&mut self, html: &str) -> Result<(), NoMemory> {
-        Ok(self.html.push_str(html)?)
-    }
-
-    /// Adds a text from outside, so that the page shows it as it is.
-    pub fn push_text(&mut self, text: &str) -> Result<(), NoMemory> {
-        for c in text.chars() {
-            match escape_of(c) {
-                Some(escape) => self.html.push_str(escape)?,
-                None => self.html.push(c)?,
+impl<'a> fmt::Display for Escaped<'a> {
+    fn fmt<W: fmt::Write>(&self, f: &mut fmt::Formatter<W>) -> fmt::Result {
+        for c in self.0.chars() {
+            match c {
+                '&' => f.write_str("&amp;")?,
+                '<' => f.write_str("&lt;")?,
+                '>' => f.write_str("&gt;")?,
+                '"' => f.write_str("&quot;")?,
+                '\'' => f.write_str("&#39;")?,
+                _ => f.write_char(c)?,
             }
         }
         Ok(())
     }
+}
 
-    /// Adds a number.
-    pub fn push_number(&mut self, number: u64) -> Result<(), NoMemory> {
-        Ok(write!(self.html, "{number}")?)
-    }
+/// The front of a page of this title, which is HTML. Its content follows.
+pub fn begin_page(alloc: Global, title: &str) -> Result<String, NoMemory> {
+    let mut html = String::with_capacity(alloc, USUAL_LENGTH)?;
+    write!(html, "{FRONT}{title}</title>\n")?;
+    Ok(html)
+}
 
-    /// The response of this page.
-    pub fn reply(self, alloc: Global, status: StatusCode) -> Result<Reply, NoMemory> {
-        let mut html = self.html;
-        html.push_str("</html>\n")?;
-        let mut builder = HttpResponse::build(alloc, status);
-        builder.content_type("text/html; charset=utf-8")?;
-        builder.take().body(html)
-    }
+/// The page whose front and content these are.
+pub fn end_page(html: String) -> Result<Html, NoMemory> {
+    let mut html = html;
+    html.push_str("</html>\n")?;
+    Ok(Html::new(Text::from(html)))
 }

@@ -1,19 +1,17 @@
-//! `GET /visits`: counts in a cookie how often a client was here.
-use crate::reply::{Plain, Reply};
-use http::StatusCode;
+//! A cookie that counts.
+use crate::replies::Site;
 use std::alloc::Global;
-use web_build::prelude::*;
-use web_cookies::{Cookie, SameSite};
-use web_reply::HttpResponse;
-use web_request::HttpRequest;
-use web_texts::{NoMemory, Text, read_digits};
+use web::build::CustomizeResponder;
+use web::build::prelude::*;
+use web::cookie::{Cookie, SameSite};
+use web::text::read_digits;
+use web::{Error, Fail, HttpRequest, NoMemory, Text};
 
 /// The greatest count.
 const MOST_VISITS: u64 = 1_000_000;
 
-/// The count of the cookie that the client sent, or 0 where it sent none that is one.
-fn count_sent(alloc: Global, request: HttpRequest<Plain>) -> Result<u64, NoMemory> {
-    let mut request = request;
+/// The count of the cookie that the client sent, or 0 if it sent none that is one.
+fn count_sent(alloc: Global, mut request: HttpRequest<Site>) -> Result<u64, NoMemory> {
     match request.cookie(alloc, "visits")? {
         Some(cookie) => Ok(read_digits(cookie.value(), MOST_VISITS).unwrap_or(0)),
         None => Ok(0),
@@ -30,11 +28,15 @@ fn cookie_of(alloc: Global, visits: u64) -> Result<Cookie, NoMemory> {
     Ok(cookie)
 }
 
-/// Counts this visit.
-pub fn count_visit(alloc: Global, request: HttpRequest<Plain>) -> Result<Reply, NoMemory> {
+/// `GET /visits`: counts in a cookie how often a client was here.
+pub fn count_visit(
+    alloc: Global,
+    request: HttpRequest<Site>,
+) -> Result<CustomizeResponder<String>, Fail<Error>> {
     let visits = count_sent(alloc, request)?.saturating_add(1);
-    let mut builder = HttpResponse::build(alloc, StatusCode::OK);
-    builder.cookie(&cookie_of(alloc, visits)?)?;
-    builder.content_type("text/plain; charset=utf-8")?;
-    builder.take().body(format!(in alloc; "visit {visits}\n")?)
+    let text = format!(in alloc; "visit {visits}\n")?;
+    Ok(
+        text.customize(alloc)?
+            .add_cookie(&cookie_of(alloc, visits)?)?,
+    )
 }

@@ -1,3 +1,0 @@
-pub mod Booking
-pub mod Item
-pub mod Posted
