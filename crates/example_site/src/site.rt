@@ -42,31 +42,25 @@ pub fn serve_connection(rt: &HostRuntime) -> Result<()> {
     let alloc = rt.alloc();
     let (files, greetings) = (new_store(alloc)?, new_greetings(alloc)?);
     let bookings = (
-        get("/", move |_none: ()| home(alloc)),
+        get("/").to(move |_none: ()| home(alloc)),
         (
-            get("/booked", move |query| show_booking(alloc, query)),
-            post("/bookings", move |form| take_booking(alloc, form)),
+            get("/booked").to(move |query| show_booking(alloc, query)),
+            post("/bookings").to(move |form| take_booking(alloc, form)),
         ),
     );
     let items = (
-        get("/items/{id}", move |id| show_item(alloc, id)),
-        post("/items", |item| take_item(item)),
+        get("/items/{id}").to(move |id| show_item(alloc, id)),
+        post("/items").to(|item| take_item(item)),
     );
     let stored = (
-        get(
-            "/files/{name}",
-            move |request| show_file(alloc, &files, request),
-        ),
-        get(
-            "/greeting",
-            move |request| greet(alloc, &greetings, request),
-        ),
+        get("/files/{name}").to(move |request| show_file(alloc, &files, request)),
+        get("/greeting").to(move |request| greet(alloc, &greetings, request)),
     );
     let others = (
-        get("/visits", move |request| count_visit(alloc, request)),
+        get("/visits").to(move |request| count_visit(alloc, request)),
         (
-            get("/old", move |_none: ()| moved(alloc)),
-            post("/upload", move |form| list_parts(alloc, form)),
+            get("/old").to(move |_none: ()| moved(alloc)),
+            post("/upload").to(move |form| list_parts(alloc, form)),
         ),
     );
     let routes = ((bookings, items), (stored, others));
