@@ -104,15 +104,12 @@ fn nothing(_none: ()) -> Result<Option<String>, Fail<Error>> {
 fn site(rt: &impl Abort, alloc: Global) -> impl Service<Site, Whole> {
     let routes = (
         (
-            post("/items", |item| give_back(item)),
-            get("/tags/{id}", move |args| tagged(alloc, args)),
+            post("/items").to(|item| give_back(item)),
+            get("/tags/{id}").to(move |args| tagged(alloc, args)),
         ),
         (
-            post("/login", move |form| sign_in(alloc, form)),
-            post(
-                "/orders/{count}",
-                move |count| replied(alloc, order(alloc, count)),
-            ),
+            post("/login").to(move |form| sign_in(alloc, form)),
+            post("/orders/{count}").to(move |count| replied(alloc, order(alloc, count))),
         ),
     );
     let router = Router::new(alloc, routes, handler(|none| nothing(none)));

@@ -10,7 +10,7 @@ use web_http1::{Connection, Ended};
 use web_messages::Limits;
 use web_reply::Error;
 use web_request::{NoData, PlainApp};
-use web_routing::{Endpoint, HandlerService, Router, Service, Whole, serve_to_end};
+use web_routing::{HandlerService, MethodPattern, Router, Service, Whole, serve_to_end};
 use web_testing::{TestReply, TestRequest, test_worker};
 use web_texts::{Fail, Text};
 
@@ -36,22 +36,10 @@ fn nothing(_none: ()) -> Result<Option<String>, Fail<Error>> {
 /// The site: all items, one item, and what is said of one.
 fn site(rt: &impl Abort, alloc: Global) -> impl Service<Site, Whole> {
     let routes = (
-        Endpoint::new(
-            Method::GET,
-            "/items",
-            HandlerService::immediate(move |_none: ()| all(alloc)),
-        ),
+        MethodPattern::new(Method::GET, "/items").to(move |_none: ()| all(alloc)),
         (
-            Endpoint::new(
-                Method::GET,
-                "/items/{id}",
-                HandlerService::immediate(move |id| one(alloc, id)),
-            ),
-            Endpoint::new(
-                Method::POST,
-                "/items/{id}",
-                HandlerService::immediate(move |args| said(alloc, args)),
-            ),
+            MethodPattern::new(Method::GET, "/items/{id}").to(move |id| one(alloc, id)),
+            MethodPattern::new(Method::POST, "/items/{id}").to(move |args| said(alloc, args)),
         ),
     );
     let others = HandlerService::immediate(|none| nothing(none));
@@ -63,16 +51,8 @@ fn site(rt: &impl Abort, alloc: Global) -> impl Service<Site, Whole> {
 /// What is printed of the route that is refused, where each has the methods and patterns of these.
 fn refusal(alloc: Global, first: (Method, &'static str), second: (Method, &'static str)) -> String {
     let routes = (
-        Endpoint::new(
-            first.0,
-            first.1,
-            HandlerService::immediate(|none| nothing(none)),
-        ),
-        Endpoint::new(
-            second.0,
-            second.1,
-            HandlerService::immediate(|none| nothing(none)),
-        ),
+        MethodPattern::new(first.0, first.1).to(|none| nothing(none)),
+        MethodPattern::new(second.0, second.1).to(|none| nothing(none)),
     );
     let others = HandlerService::<(), _>::immediate(|none| nothing(none));
     match Router::new(alloc, routes, others) {

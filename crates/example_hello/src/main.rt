@@ -18,10 +18,10 @@ type Site = PlainApp<Marks>;
 fn serve_connection(rt: &HostRuntime) -> Result<()> {
     let alloc = rt.alloc();
     let routes = (
-        get("/", move |_none: ()| hello(alloc)),
+        get("/").to(move |_none: ()| hello(alloc)),
         (
-            get("/hello/{name}", move |name| greet(alloc, name)),
-            put("/notes/{id}", move |args| note(alloc, args)),
+            get("/hello/{name}").to(move |name| greet(alloc, name)),
+            put("/notes/{id}").to(move |args| note(alloc, args)),
         ),
     );
     let others = handler(move |_none: ()| missing(alloc));

@@ -17,10 +17,7 @@ use anyhow::Result;
 use std::process::ExitCode;
 use std::rc::Rc;
 use web::header::{HeaderValue, SERVER};
-use web::{
-    Endpoint, Method, Router, Scope, ServeSettings, SetHeader, Worker, Wrap, handler, post,
-    replied, serve,
-};
+use web::{Router, Scope, ServeSettings, SetHeader, Worker, Wrap, handler, post, replied, serve};
 
 /// The most bytes of an item.
 const LIMIT: usize = 200;
@@ -31,12 +28,12 @@ const SAMPLE_LIMIT: usize = 40;
 /// Serves the connection that standard input and output are.
 fn serve_connection(rt: &HostRuntime) -> Result<()> {
     let alloc = rt.alloc();
-    let orders = post("/orders", move |order| replied(alloc, take_order(alloc, order)));
+    let orders = post("/orders").to(move |order| replied(alloc, take_order(alloc, order)));
     let samples = Scope::new(
         Rc::new(alloc, ShopLayer::new(SAMPLE_LIMIT))?,
         handler(move |order| replied(alloc, take_order(alloc, order))),
     );
-    let routes = (orders, Endpoint::new(Method::POST, "/samples", samples));
+    let routes = (orders, post("/samples").service(samples));
     let others = handler(move |_none: ()| replied(alloc, no_such_page()));
     let server = SetHeader {
         name: SERVER,

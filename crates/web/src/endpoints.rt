@@ -1,8 +1,8 @@
-//! Routes by closures.
+//! Routes by the usual methods.
 ghost use Rattle.std.specs.Prelude.{◌≡◌, codes};
 
 use http::Method;
-use web_routing::{Endpoint, HandlerService, Immediate};
+use web_routing::{HandlerService, Immediate, MethodPattern};
 use web_texts::Fail;
 
 /// The service that calls this closure with extractors of each request, as `Immediate` does.
@@ -14,78 +14,46 @@ where
     HandlerService::immediate(closure)
 }
 
-/// The route of the GET requests for the paths that this pattern matches. It calls the closure with
-/// extractors of each request. HEAD is
-/// served by it too, if no route of its own is there.
-pub fn get<Args, T: Drop, E: Drop, F>(
-    pattern: &'static str,
-    closure: F,
-) -> Endpoint<HandlerService<Args, Immediate<F>>>
-where
-    F: Fn(Args) -> Result<T, Fail<E>>,
+/// GET for the paths that this pattern matches. It serves HEAD too, if no other route does.
+///
+/// ```
+/// let items = get("/items/{id}").to(move |id| show(alloc, id));
+/// ```
+pub fn get(pattern: &'static str) -> MethodPattern
     ensures method { result.method ≡ codes "GET" }
-    ensures pattern { result.pattern ≡ pattern }
-    ensures closure { result.service.handler.0 ≡ closure }
+    ensures pattern { result.pattern ≡ pattern.now }
 {
-    Endpoint::new(Method::GET, pattern, handler(closure))
+    MethodPattern::new(Method::GET, pattern)
 }
 
-/// The route of the POST requests for the paths that this pattern matches. It calls the closure with
-/// extractors of each request.
-pub fn post<Args, T: Drop, E: Drop, F>(
-    pattern: &'static str,
-    closure: F,
-) -> Endpoint<HandlerService<Args, Immediate<F>>>
-where
-    F: Fn(Args) -> Result<T, Fail<E>>,
+/// POST for the paths that this pattern matches.
+pub fn post(pattern: &'static str) -> MethodPattern
     ensures method { result.method ≡ codes "POST" }
-    ensures pattern { result.pattern ≡ pattern }
-    ensures closure { result.service.handler.0 ≡ closure }
+    ensures pattern { result.pattern ≡ pattern.now }
 {
-    Endpoint::new(Method::POST, pattern, handler(closure))
+    MethodPattern::new(Method::POST, pattern)
 }
 
-/// The route of the PUT requests for the paths that this pattern matches. It calls the closure with
-/// extractors of each request.
-pub fn put<Args, T: Drop, E: Drop, F>(
-    pattern: &'static str,
-    closure: F,
-) -> Endpoint<HandlerService<Args, Immediate<F>>>
-where
-    F: Fn(Args) -> Result<T, Fail<E>>,
+/// PUT for the paths that this pattern matches.
+pub fn put(pattern: &'static str) -> MethodPattern
     ensures method { result.method ≡ codes "PUT" }
-    ensures pattern { result.pattern ≡ pattern }
-    ensures closure { result.service.handler.0 ≡ closure }
+    ensures pattern { result.pattern ≡ pattern.now }
 {
-    Endpoint::new(Method::PUT, pattern, handler(closure))
+    MethodPattern::new(Method::PUT, pattern)
 }
 
-/// The route of the PATCH requests for the paths that this pattern matches. It calls the closure with
-/// extractors of each request.
-pub fn patch<Args, T: Drop, E: Drop, F>(
-    pattern: &'static str,
-    closure: F,
-) -> Endpoint<HandlerService<Args, Immediate<F>>>
-where
-    F: Fn(Args) -> Result<T, Fail<E>>,
+/// PATCH for the paths that this pattern matches.
+pub fn patch(pattern: &'static str) -> MethodPattern
     ensures method { result.method ≡ codes "PATCH" }
-    ensures pattern { result.pattern ≡ pattern }
-    ensures closure { result.service.handler.0 ≡ closure }
+    ensures pattern { result.pattern ≡ pattern.now }
 {
-    Endpoint::new(Method::PATCH, pattern, handler(closure))
+    MethodPattern::new(Method::PATCH, pattern)
 }
 
-/// The route of the DELETE requests for the paths that this pattern matches. It calls the closure with
-/// extractors of each request.
-pub fn delete<Args, T: Drop, E: Drop, F>(
-    pattern: &'static str,
-    closure: F,
-) -> Endpoint<HandlerService<Args, Immediate<F>>>
-where
-    F: Fn(Args) -> Result<T, Fail<E>>,
+/// DELETE for the paths that this pattern matches.
+pub fn delete(pattern: &'static str) -> MethodPattern
     ensures method { result.method ≡ codes "DELETE" }
-    ensures pattern { result.pattern ≡ pattern }
-    ensures closure { result.service.handler.0 ≡ closure }
+    ensures pattern { result.pattern ≡ pattern.now }
 {
-    Endpoint::new(Method::DELETE, pattern, handler(closure))
+    MethodPattern::new(Method::DELETE, pattern)
 }

@@ -43,8 +43,8 @@ pub use web_request::{
 };
 pub use web_routing as routing;
 pub use web_routing::{
-    Any, Both, Endpoint, HandlerService, Immediate, MethodIs, PathIs, Route, Router, Scope, Service,
-    SetHeader, Whole, Wrap, serve_to_end,
+    Any, Both, Endpoint, HandlerService, Immediate, MethodIs, MethodPattern, PathIs, Route, Router,
+    Scope, Service, SetHeader, Whole, Wrap, serve_to_end,
 };
 pub use web_status as status;
 pub use web_stdio as stdio;

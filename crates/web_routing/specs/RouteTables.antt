@@ -1,6 +1,6 @@
 -- How a table of routes grows.
-use Rattle.std.specs.Prelude.{◌≡◌, ◌+◌, ◌⊎◌, ℕ, List, [], ◌∷◌, ◌++◌, Option, None, Some, Ok, Err, ⊤}
-use Rattle.std.specs.Prelude.{length}
+use Rattle.std.specs.Prelude.{◌≡◌, ◌≢◌, ◌+◌, ◌⊎◌, ℕ, List, [], ◌∷◌, ◌++◌, Option, None, Some, Ok, Err, ⊤}
+use Rattle.std.specs.Prelude.{length, string_bytes}
 use Rattle.std.specs.Prelude.{slice_get, slice_set}
 use Rattle.std.specs.List.{All}
 use Rattle.std.specs.Str.{IsAscii}
@@ -113,6 +113,11 @@ abbrev pub AddedAll : List RouteRow → TableView → TableView → Type 0
 AddedAll [] old new = new ≡ old
 AddedAll (r ∷ rs) old new = (t : TableView) × Added r.method r.pattern old t × AddedAll rs t new
 
+-- The route of this pattern is refused for this cause, or there was no memory for its pattern.
+pub record IsRefusal (pattern : List ℕ) (cause : RouteError) (e : RefusedRoute) : Type 0 where
+  pub named : e.cause ≢ NoMemory → string_bytes e.pattern ≡ pattern
+  pub caused : (e.cause ≡ NoMemory) ⊎ (e.cause ≡ cause)
+
 -- one of these routes is refused, after those before it were added
 pub record RefusesOneOf (rows : List RouteRow) (old : TableView) (e : RefusedRoute) : Type 0 where
   pub before : List RouteRow
@@ -121,5 +126,5 @@ pub record RefusesOneOf (rows : List RouteRow) (old : TableView) (e : RefusedRou
   pub are : rows ≡ before ++ row ∷ after
   pub table : TableView
   pub added : AddedAll before old table
-  pub pattern : e.pattern.now ≡ row.pattern
+  pub pattern : e.cause ≢ NoMemory → string_bytes e.pattern ≡ row.pattern
   pub refused : RefusesRoute row.method row.pattern table e.cause

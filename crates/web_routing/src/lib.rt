@@ -19,7 +19,7 @@ mod state_service;
 mod three_routes;
 mod wrap;
 
-pub use endpoint::Endpoint;
+pub use endpoint::{Endpoint, MethodPattern};
 pub use handler_service::HandlerService;
 pub use immediate::Immediate;
 pub use laws::{route_law, wrap_law};

@@ -1,5 +1,5 @@
 //! Routes by method and pattern.
-ghost use Rattle.std.specs.Prelude.{◌≡◌, IfErr, IfOk, OnErr, OnOk};
+ghost use Rattle.std.specs.Prelude.{◌≡◌, [], ◌∷◌, IfErr, IfOk, OnErr, OnOk};
 ghost use Rattle.std.specs.String.{string_bytes};
 ghost use Rattle.http_header.specs.FieldValue.{plain_value};
 ghost use Rattle.matchit.specs.Params.{AllText};
@@ -16,7 +16,7 @@ use std::alloc::Global;
 use std::error::Error;
 use std::fmt;
 use std::marker::Model;
-use web_texts::{NoMemory, Pair};
+use web_texts::{NoMemory, Pair, Text};
 
 /// Why a route is refused.
 #[derive(Debug, Drop)]
@@ -52,13 +52,14 @@ impl Error for RouteError {}
 /// A route that is refused. It prints its pattern and the cause.
 #[derive(Debug, Drop)]
 pub struct RefusedRoute {
-    pub pattern: &'static str,
+    /// Empty if there was no memory for it.
+    pub pattern: String,
     pub cause: RouteError,
 }
 
 impl fmt::Display for RefusedRoute {
     fn fmt<W: fmt::Write>(&self, f: &mut fmt::Formatter<W>) -> fmt::Result {
-        write!(f, "{}: {}", self.pattern, self.cause)
+        write!(f, "{}: {}", self.pattern.as_str(), self.cause)
     }
 }
 
@@ -74,7 +75,7 @@ pub struct MethodRoute {
 /// The routes of one pattern.
 #[derive(Drop)]
 struct Resource {
-    pattern: &'static str,
+    pattern: Text,
     routes: Vec<MethodRoute>,
 }
 
@@ -83,7 +84,7 @@ impl Model for Resource {
 
     ghost Value = { ResourceView };
 
-    ghost view = { λ r. record { pattern = r.pattern.now; routes = r.routes.items } };
+    ghost view = { λ r. record { pattern = r.pattern; routes = r.routes.items } };
 }
 
 /// What a table has for a request.
@@ -146,12 +147,7 @@ impl RouteTable {
     /// Adds a route for this method and the paths that the pattern matches. A route that is refused
     /// leaves the table as it is.
     #[tactic(auto, using(crate::proofs::Refused::by_method, crate::proofs::Refused::by_pattern))]
-    pub fn add(
-        &mut self,
-        alloc: Global,
-        method: Method,
-        pattern: &'static str,
-    ) -> Result<(), RouteError>
+    pub fn add(&mut self, alloc: Global, method: Method, pattern: &str) -> Result<(), RouteError>
         ensures ok { OnOk result (Added method pattern.now self.old self.new) }
         ensures err { OnErr result (self.new ≡ self.old) }
         ensures refused { IfErr result (λ e. RefusesRoute method pattern.now self.old e) }
@@ -173,7 +169,7 @@ impl RouteTable {
     fn add_resource(
         &mut self,
         alloc: Global,
-        pattern: &'static str,
+        pattern: &str,
         route: MethodRoute,
     ) -> Result<(), RouteError>
         ensures ok { OnOk result (AddsResource route pattern.now self.old self.new) }
@@ -183,15 +179,17 @@ impl RouteTable {
         if !pattern.is_ascii() {
             return Err(RouteError::NotAscii);
         }
-        let mut routes = Vec::new(alloc);
-        if routes.push(route).is_err() || self.resources.reserve(1).is_err() {
+        let Ok(resource) = resource_of(alloc, pattern, route) else {
+            return Err(RouteError::NoMemory);
+        };
+        if self.resources.reserve(1).is_err() {
             return Err(RouteError::NoMemory);
         }
         match self.patterns.insert(pattern, self.resources.len()) {
             Ok(()) => {}
             Err(error) => return Err(RouteError::Pattern(error)),
         }
-        match self.resources.push(Resource { pattern, routes }) {
+        match self.resources.push(resource) {
             Ok(()) => Ok(()),
             Err(_) => unreachable!(),
         }
@@ -242,13 +240,25 @@ impl RouteTable {
     }
 }
 
+/// The resource of this pattern with its first route.
+fn resource_of(alloc: Global, pattern: &str, route: MethodRoute) -> Result<Resource, NoMemory>
+    ensures { IfOk result (λ r. r ≡ record { pattern = pattern.now; routes = route ∷ [] }) }
+{
+    let mut routes = Vec::new(alloc);
+    routes.push(route)?;
+    Ok(Resource {
+        pattern: Text::of(alloc, pattern)?,
+        routes,
+    })
+}
+
 /// The place of the resource of this pattern.
 fn place_of(resources: &[Resource], pattern: &str) -> Option<usize>
     ensures { PlaceOf pattern.now resources.now result }
 {
     let mut place = 0;
     for resource in resources {
-        if resource.pattern == pattern {
+        if resource.pattern.as_str() == pattern {
             return Some(place);
         }
         place += 1;

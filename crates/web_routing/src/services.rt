@@ -19,8 +19,8 @@ use web_request::{App, HttpRequest};
 use web_texts::NoMemory;
 use web_worker::{Outcome, Service, Whole};
 
-/// Routes in an order. A leaf is an `Endpoint`, and a pair puts those of two trees side by side, the
-/// first one's before the second one's.
+/// Routes in an order. A leaf is an `Endpoint`. A pair has the routes of two trees, those of the first
+/// one before those of the second.
 pub trait Routes {
     /// The method and the pattern of each, in their order.
     ghost rows: { Self → List RouteRow };
@@ -140,7 +140,6 @@ impl<X: Routes, Y: Routes> Routes for (X, Y) {
         self.0.len().saturating_add(self.1.len())
     }
 
-    #[tactic(auto, using(crate::proofs::TableLemmas::added_both, crate::proofs::TableLemmas::refuses_before, crate::proofs::TableLemmas::refuses_behind))]
     fn add_to(&self, alloc: Global, table: &mut RouteTable) -> Result<(), RefusedRoute> {
         self.0.add_to(alloc, table)?;
         self.1.add_to(alloc, table)
