@@ -2,13 +2,14 @@
 SCRIPT ?= examples/pieces.script
 PLAIN = bench/target/release/plain
 
-.PHONY: help run serve site files test rows faults gate prove check kept types explain try lint fmt index mutants wrong-bodies costs graphs bench plain
+.PHONY: help run serve site files board test rows faults gate prove check kept types explain try lint fmt index mutants wrong-bodies costs graphs bench plain
 
 help:
 	@echo "make run SCRIPT=FILE      serves a script and prints the replies (default: $(SCRIPT))"
 	@echo "make serve CRATE=NAME     builds a program that serves a connection, without proof, and prints the line that serves it"
 	@echo "make site                 the same of the site of docs/SITE.md"
 	@echo "make files FOLDER=PATH    builds the program that serves a folder, without proof, and prints the line that serves it"
+	@echo "make board                builds the board of docs/BOARD.md without proof, and prints the line that serves it"
 	@echo "make test                 runs all tests, examples and test cases, in minutes; it proves nothing"
 	@echo "make rows                 runs the program over the test cases of examples/"
 	@echo "make faults               runs the program over test cases with calls that fail, in turn; outside the gate"
@@ -48,6 +49,10 @@ files:
 		&& echo "socat -b 65536 -t 5 TCP-LISTEN:8080,bind=127.0.0.1,reuseaddr,fork,nodelay" \
 			"EXEC:'$$program $(FOLDER) --listing'"
 
+# The board of docs/BOARD.md, and the command that serves it to all clients.
+board:
+	@program=$$(tools/program --optimised example_board) \
+		&& echo "PROGRAM=$$program FILE=board.db sh examples/deploy/board.sh"
 
 test:
 	@tools/quick-tests
