@@ -1,2 +1,4 @@
+mod HandlerLemmas
+mod OperationLemmas
 mod ReplyLemmas
 mod RouteLemmas

@@ -5,8 +5,7 @@ use Rattle.std.specs.Prelude.{◌++◌, ℤ, FitsSigned, codes}
 use Rattle.std.specs.Int.{w64}
 use Rattle.std.specs.Str.Parse.{IsNumeral, signed_digits_value, without_leading_sign}
 use Rattle.std.specs.Str.Pattern.{FindsTextPrefix, LacksTextAt, StripsPrefix}
-use Rattle.board_service.specs.BoardRoutes.{IsItemPath, LeadsTo, NoItemPath, NoRoute}
-use Rattle.board_service.specs.declared.route.Route.{Route}
+use Rattle.board_service.specs.BoardRoutes.{IsItemPath, NoItemPath, NoRoute}
 use Rattle.board_service.specs.declared.route.Route.TheVariants.{Form, Home, Item, Items}
 
 abbrev Fits : List ℕ → Type 0
@@ -18,10 +17,10 @@ pub item_path : (path rest : List ℕ) (id : ℤ)
     → StripsPrefix (FindsTextPrefix (codes "/items/")) path rest
     → Fits rest → id ≡ signed_digits_value 10 rest → IsItemPath path id
 item_path path rest id cut fits number = (
-    rest,
-    cut.1.1 ∙ ap (λ r. codes "/items/" ++ r) (sym cut.2),
-    (number, fits.0, fits.1),
-    )
+  rest,
+  cut.1.1 ∙ ap (λ r. codes "/items/" ++ r) (sym cut.2),
+  (number, fits.0, fits.1),
+)
 
 pub no_prefix : (path : List ℕ) → LacksTextAt (codes "/items/") path 0 → NoItemPath path
 no_prefix path lacks id item = lacks item.0 item.1

@@ -38,8 +38,12 @@ Selects method path x =
 pub selects_some : (method path : List ℕ) (m : List Mark)
     → AllowsSome (AllowsNow (Selects method path) m)
 selects_some method path m none =
-    none m 0 (Err not_found) (refl, refl, inr (
-    (λ route leads. none m 0 (operation_or route (operation_of route method))
-    (refl, refl, inl (route, leads, refl))),
-    refl,
-    ))
+    none m 0 (Err not_found) (
+      refl,
+      refl,
+      inr (
+        (λ route leads. none m 0 (operation_or route (operation_of route method))
+            (refl, refl, inl (route, leads, refl))),
+        refl,
+      ),
+    )

@@ -44,12 +44,7 @@ impl<B> BoardHandler<B> {
 
 impl<B: BoardAccess> BoardHandler<B> {
     /// Asks the board, and shows what it answered.
-    fn answer(
-        &mut self,
-        alloc: Global,
-        operation: Operation,
-        ask: &Ask,
-    ) -> Result<Reply, NoMemory>
+    fn answer(&mut self, alloc: Global, operation: Operation, ask: &Ask) -> Result<Reply, NoMemory>
         ensures { ShowsAnswer B.answers operation ask.now self.old.board result self.new.board }
     {
         match self.board.answer(alloc, ask) {

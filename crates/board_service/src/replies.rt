@@ -91,11 +91,7 @@ fn see_other(alloc: Global) -> Result<Reply, NoMemory>
 }
 
 /// The reply with some of the items.
-fn show_listing(
-    alloc: Global,
-    operation: Operation,
-    listing: &Listing,
-) -> Result<Reply, NoMemory>
+fn show_listing(alloc: Global, operation: Operation, listing: &Listing) -> Result<Reply, NoMemory>
     ensures { IfOk result (λ reply. ShowsListing operation listing.now reply) }
 {
     match operation {

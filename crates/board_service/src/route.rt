@@ -22,8 +22,7 @@ pub enum Route {
 }
 
 /// The number of the item whose path this is.
-#[tactic(auto, using(crate::proofs::RouteLemmas::item_path, crate::proofs::RouteLemmas::no_number,
-    crate::proofs::RouteLemmas::no_prefix))]
+#[tactic(auto, using(crate::proofs::RouteLemmas::item_path, crate::proofs::RouteLemmas::no_number, crate::proofs::RouteLemmas::no_prefix))]
 fn item_of(path: &str) -> Option<i64>
     ensures some { IfSome result (IsItemPath path.now) }
     ensures none { IfNone result (NoItemPath path.now) }
