@@ -1,0 +1,4 @@
+pub mod Traffic
+pub mod SocketReplies
+pub mod Sessions
+pub mod Turns
