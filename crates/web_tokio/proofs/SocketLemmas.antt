@@ -1,6 +1,6 @@
 -- One step of a connection over a socket, and what follows it.
 use Rattle.std.proofs.Common.{◌≡◌, ℕ, ◌⊎◌, inl, inr, List, [], ◌∷◌, ◌++◌, Option, None, Some, refl, sym, ap, ◌∙◌, subst, append_assoc, append-nil}
-use Rattle.std.specs.Prelude.{MatchOption, Result, Ok, Err, OnOk, ◌≤◌, length, drop, take}
+use Rattle.std.specs.Prelude.{MatchOption, ◌≤◌, length, drop, take}
 use Rattle.std.proofs.lemmas.List.{drop-append-le, take-append-drop}
 use Rattle.web_request.specs.declared.source.Mark.{Mark}
 use Rattle.web_request.specs.Feed.{Feed}
@@ -23,7 +23,7 @@ use Rattle.web_http1.specs.Expecting.{continue_bytes}
 use Rattle.web_http1.specs.Serving.{AnswersAll}
 use Rattle.web_http1.proofs.ConnectionLemmas.{steps_as}
 use Rattle.web_http1.proofs.CallLemmas.{answers_all, is_prefix}
-use Rattle.web_tokio.specs.SocketReplies.{AnswersOne, AnswersSocket, EndsAfter, FeedsOne, MayFollow, MayPass, Remaining, Sending, Written, replies_of, stage_after, stage_fed, text_of}
+use Rattle.web_tokio.specs.SocketReplies.{AnswersOne, AnswersSocket, EndsAfter, FeedsOne, MayFollow, MayPass, Remaining, Sending, replies_of, stage_after, stage_fed, text_of}
 use Rattle.web_tokio.specs.SocketReplies.{Written.replies, Written.go_on}
 use Rattle.web_tokio.specs.Traffic.{Passed, came_of, sent_of}
 use Rattle.web_tokio.specs.Traffic.{Passed.came, Passed.sent}

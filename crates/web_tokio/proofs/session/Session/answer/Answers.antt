@@ -1,4 +1,4 @@
-use Rattle.std.proofs.Common.{◌≡◌, ◌≤◌, List, ℕ, arith, drop, length, subst, sym, ◌∙◌}
+use Rattle.std.proofs.Common.{◌≡◌, ◌≤◌, List, ℕ, arith, drop, length, subst, sym}
 use Rattle.web_worker.specs.Setting.{setting_of}
 use Rattle.web_tokio.specs.Sessions.{ReadsNoMessage, SentBefore, SessionView}
 use Rattle.web_tokio.specs.SocketReplies.{MayPass}

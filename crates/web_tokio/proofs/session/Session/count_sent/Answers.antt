@@ -1,4 +1,4 @@
-use Rattle.std.proofs.Common.{◌≤◌, drop, length, refl, subst, sym, ap, ◌∙◌, arith}
+use Rattle.std.proofs.Common.{◌≤◌, drop, length, refl, subst, sym, arith}
 use Rattle.web_tokio.specs.Sessions.{SessionView}
 use Rattle.web_tokio.proofs.SessionLemmas.{all_sent, drop_sent, sent_dropped, sent_inside}
 use Rattle.web_tokio.proofs.session.Session.count_sent.Goals as goal

@@ -1,4 +1,4 @@
-use Rattle.std.proofs.Common.{◌≡◌, Some, List, ℕ, drop, subst, sym}
+use Rattle.std.proofs.Common.{◌≡◌, drop, subst, sym}
 use Rattle.web_worker.specs.Setting.{setting_of}
 use Rattle.web_tokio.specs.Sessions.{SessionView}
 use Rattle.web_tokio.specs.SocketReplies.{MayPass}

@@ -1,7 +1,5 @@
-use Rattle.std.proofs.Common.{◌≡◌, ◌∷◌, [], List, ℕ, subst, sym}
+use Rattle.std.proofs.Common.{◌≡◌, []}
 use Rattle.web_worker.specs.Setting.{setting_of}
-use Rattle.web_tokio.specs.SocketReplies.{SessionPasses}
-use Rattle.web_tokio.specs.Traffic.{Passed.came}
 use Rattle.web_tokio.proofs.SessionLemmas.{none_of}
 use Rattle.web_tokio.proofs.SocketLemmas.{on_nothing}
 use Rattle.web_tokio.proofs.session.Session.take_read.Goals as goal
