@@ -23,7 +23,7 @@ pub use layers::{ConfigChoice, Holds};
 pub use peers::address::{IpAddr, SocketAddr};
 pub use peers::connection_info::ConnectionInfo;
 pub use peers::peer::{MissingPeerAddr, PeerAddr};
-pub use records::parts::RequestParts;
+pub use records::parts::{RequestParts, SharedParts};
 pub use records::pool::HttpRequestPool;
 pub use request::HttpRequest;
 pub use request_data::ReqData;

@@ -19,7 +19,7 @@ use crate::layers::{ConfigChoice, HeldValue, Holds, OwnConfig, SharedConfig, Wan
 use crate::peers::address::SocketAddr;
 use crate::records::copies::{copied_pairs, shared_again, shared_layers};
 use crate::records::kept_values::KeptValues;
-use crate::records::parts::RequestParts;
+use crate::records::parts::{RequestParts, SharedParts};
 use crate::records::reuse::{empty_head, move_into, put_head, reset_head};
 use http::{Method, Version};
 use http_header::{HeaderMap, HeaderValue};
@@ -357,6 +357,40 @@ impl<A: App> HttpRequest<A> {
                 return Err((NoMemory, parts));
             }
         };
+        Ok(HttpRequest {
+            head,
+            params,
+            root: Some(root),
+            layers,
+            conn,
+            local,
+            config,
+            serial,
+            kept: KeptValues::none(),
+        })
+    }
+
+    /// Makes a record of parts whose head has memory of its own. It allocates nothing: `NoMemory`
+    /// comes only where the counts of the pointers are full.
+    pub(crate) fn of_shared(
+        root: &Rc<A::Layer>,
+        config: &Rc<AppConfig>,
+        serial: u64,
+        parts: SharedParts<A>,
+    ) -> Result<HttpRequest<A>, NoMemory>
+        requires ready { A.Layer.ready root.now.value }
+        ensures { IfOk result
+            (λ r. r ≡ new_record root.now.value config.now.value serial parts) }
+    {
+        let root = root.clone()?;
+        let config = config.clone()?;
+        let SharedParts {
+            head,
+            params,
+            layers,
+            conn,
+            local,
+        } = parts;
         Ok(HttpRequest {
             head,
             params,

@@ -31,12 +31,14 @@ pub data FlightView (S L D C K : Type 0) : Type 0 where
   InFlight : CallView L D C K → FlightView S L D C K
   Answered : OutcomeView → FlightView S L D C K
 
-abbrev pub flight_view : {A S L D C K : Type 0} → (S → Feed)
-    → Stage (ExchangeView S L D C) (Record L D C) K (Outcome A L D C S)
+-- X: what waits, and the exchange that it is
+abbrev pub flight_view : {A S L D C K X : Type 0} → (X → ExchangeView S L D C) → (S → Feed)
+    → Stage X (Record L D C) K (Outcome A L D C S)
     → FlightView S L D C K
-flight_view feed (stage.Waiting x) = FlightView.Waiting x
-flight_view feed (stage.InFlight q c) = FlightView.InFlight (record { record_of = q; call = c })
-flight_view feed (stage.Answered o) = FlightView.Answered (outcome_view feed o)
+flight_view seen feed (stage.Waiting x) = FlightView.Waiting (seen x)
+flight_view seen feed (stage.InFlight q c) =
+    FlightView.InFlight (record { record_of = q; call = c })
+flight_view seen feed (stage.Answered o) = FlightView.Answered (outcome_view feed o)
 
 -- the call that is under way is not finished
 abbrev pub IsUnfinished : {S L D C K : Type 0} → (K → Bool) → FlightView S L D C K → Type 0

@@ -5,8 +5,10 @@ ghost use Rattle.web_worker.specs.PoolSteps.{after_release, serial_of};
 
 use crate::exchange::Exchange;
 use crate::outcome::Outcome;
+use crate::prepared::PreparedExchange;
 use crate::service::Service;
 use crate::setting::Serves;
+use crate::waiting::Waits;
 use std::marker::Model;
 use std::mem;
 use web_request::{App, HttpRequest, HttpRequestPool};
@@ -57,8 +59,8 @@ impl<X: Drop, R: Drop, K: Drop, O: Drop> Stage<X, R, K, O> {
 }
 
 /// The stage of an exchange over this service.
-pub type StageOf<A, Args, S> = Stage<
-    Exchange<A>,
+pub type StageOf<A, Args, S, X> = Stage<
+    X,
     HttpRequest<A>,
     <S as Service<A, Args>>::Call,
     Outcome<A>,
@@ -69,21 +71,24 @@ pub type StageOf<A, Args, S> = Stage<
 ///
 /// It is made of an exchange, is polled, and holds the exchange's outcome once it is answered.
 #[derive(Drop)]
-pub struct Flight<A: App, Args, S: Service<A, Args>> {
-    pub(crate) stage: StageOf<A, Args, S>,
+pub struct Flight<A: App, Args, S: Service<A, Args>, X: Waits<A> = Exchange<A>> {
+    pub(crate) stage: StageOf<A, Args, S, X>,
 }
 
-impl<A: App, Args, S: Service<A, Args>> Model for Flight<A, Args, S> {
+/// A flight of an exchange whose head has memory of its own.
+pub type PreparedFlight<A, Args, S> = Flight<A, Args, S, PreparedExchange<A>>;
+
+impl<A: App, Args, S: Service<A, Args>, X: Waits<A>> Model for Flight<A, Args, S, X> {
     ghost use Rattle.web_worker.specs.Exchanges.{FlightView, IsUnfinished, flight_view};
 
     ghost Value = { FlightView A.Source A.Layer A.Local A.Conn S.Call };
 
-    ghost view = { λ f. flight_view A.Source.feed f.stage };
+    ghost view = { λ f. flight_view X.exchange A.Source.feed f.stage };
 
-    ghost invariant = { λ f. IsUnfinished S.is_finished (flight_view A.Source.feed f.stage) };
+    ghost invariant = { λ f. IsUnfinished S.is_finished (flight_view X.exchange A.Source.feed f.stage) };
 }
 
-impl<A: App, Args, S: Service<A, Args>> Flight<A, Args, S> {
+impl<A: App, Args, S: Service<A, Args>, X: Waits<A>> Flight<A, Args, S, X> {
     ghost use Rattle.std.specs.Prelude.{◌≡◌};
     ghost use Rattle.std.specs.Option.{option_map};
     ghost use Rattle.web_request.specs.Pool.{Pool};
@@ -94,8 +99,8 @@ impl<A: App, Args, S: Service<A, Args>> Flight<A, Args, S> {
     ghost use Rattle.web_worker.specs.PoolSteps.{after_release, serial_of};
 
     /// A flight that waits for its first poll.
-    pub fn new(exchange: Exchange<A>) -> Flight<A, Args, S>
-        ensures { result ≡ FlightView.Waiting exchange }
+    pub fn new(exchange: X) -> Flight<A, Args, S, X>
+        ensures { result ≡ FlightView.Waiting (X.exchange exchange) }
     {
         Flight {
             stage: Stage::Waiting(exchange),
@@ -150,13 +155,13 @@ impl<A: App, Args, S: Service<A, Args>> Flight<A, Args, S> {
 /// Answers an exchange in its place, and gives the record that it held back.
 // Inlined, so that the outcome is made in its place: 80 instructions fewer.
 #[inline(always)]
-pub(crate) fn store_outcome<A: App, K: Drop>(
+pub(crate) fn store_outcome<A: App, K: Drop, X: Waits<A>>(
     pool: &mut HttpRequestPool<A>,
-    stage: &mut Stage<Exchange<A>, HttpRequest<A>, K, Outcome<A>>,
+    stage: &mut Stage<X, HttpRequest<A>, K, Outcome<A>>,
     outcome: Outcome<A>,
 )
     ensures pool { pool.new
-        ≡ after_release (serial_of (flight_view A.Source.feed stage.old)) None pool.old }
+        ≡ after_release (serial_of (flight_view X.exchange A.Source.feed stage.old)) None pool.old }
     ensures stage { stage.new ≡ Stage.Answered outcome }
 {
     if !pool.is_available() {

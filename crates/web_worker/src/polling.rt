@@ -1,7 +1,7 @@
 //! One poll of one exchange.
-ghost use Rattle.std.specs.Prelude.{◌≡◌, ◌+◌, ◌<◌, ◌^◌, IfSome, IsNone, None, Some};
+ghost use Rattle.std.specs.Prelude.{◌≡◌, ◌+◌, ◌<◌, ◌^◌, None, Some};
 ghost use Rattle.std.specs.Prelude.{false, slice_get};
-ghost use Rattle.web_request.specs.Pool.{Pool, after_start, new_record, next_serial};
+ghost use Rattle.web_request.specs.Pool.{Pool};
 ghost use Rattle.web_worker.specs.Exchanges.{ExchangeView, FlightView, IsInFlight, IsUnfinished};
 ghost use Rattle.web_worker.specs.Exchanges.{flight_view, request_of};
 ghost use Rattle.web_worker.specs.Flights.{FlightMoves, is_open};
@@ -18,39 +18,22 @@ use crate::flight::{Flight, Stage, StageOf, store_outcome};
 use crate::outcome::Outcome;
 use crate::service::Service;
 use crate::setting::Serves;
+use crate::waiting::Waits;
 use crate::worker::Worker;
 use std::alloc::Global;
 use std::mem;
 use web_body::Payload;
-use web_request::{App, HttpRequest, HttpRequestPool, RequestParts};
-
-/// A record of these parts, where there is memory for it.
-fn make_record<A: App>(
-    alloc: Global,
-    pool: &mut HttpRequestPool<A>,
-    parts: RequestParts<A>,
-) -> Option<HttpRequest<A>>
-    requires room { pool.old.made + 1 < 2 ^ 64 }
-    ensures record { IfSome result (λ request.
-        request ≡ new_record pool.old.root pool.old.config (next_serial pool.old) parts) }
-    ensures pool { IfSome result (λ _. pool.new ≡ after_start pool.old) }
-    ensures kept { IsNone result → pool.new ≡ pool.old }
-{
-    match pool.start(alloc, parts) {
-        Ok(request) => Some(request),
-        Err(_) => None,
-    }
-}
+use web_request::{App, HttpRequest, HttpRequestPool};
 
 /// Polls a call that was just begun, and puts it into its place where it has no answer yet.
 ///
 /// It is polled before it is put there, which costs more than a poll: most calls are answered at
 /// once.
-fn poll_begun<A: App, Args, S: Service<A, Args>>(
+fn poll_begun<A: App, Args, S: Service<A, Args>, X: Waits<A>>(
     alloc: Global,
     pool: &mut HttpRequestPool<A>,
     service: &mut S,
-    stage: &mut StageOf<A, Args, S>,
+    stage: &mut StageOf<A, Args, S, X>,
     request: HttpRequest<A>,
     mut call: S::Call,
 )
@@ -59,16 +42,16 @@ fn poll_begun<A: App, Args, S: Service<A, Args>>(
     requires no_memory { stage.old ≡ Stage.Answered Outcome.NoMemory }
     ensures ready { S.ready service.new }
     ensures same { S.same_promises service.old service.new }
-    ensures unfinished { IsUnfinished S.is_finished (flight_view A.Source.feed stage.new) }
+    ensures unfinished { IsUnfinished S.is_finished (flight_view X.exchange A.Source.feed stage.new) }
     ensures pool { HeldOrReturned (Some request.serial)
-        (serial_of (flight_view A.Source.feed stage.new)) pool.old pool.new }
+        (serial_of (flight_view X.exchange A.Source.feed stage.new)) pool.old pool.new }
     ensures polled { (worker : Pool A.Layer)
         → CallPoll (⟦<S as Serves<A, Args>>⟧.setting service.old worker) request.request
         (AreOver (S.left service.old call request.request).arguments)
-        (S.left service.old call request.request) (flight_view A.Source.feed stage.new)
+        (S.left service.old call request.request) (flight_view X.exchange A.Source.feed stage.new)
         (S.calls service.old) (S.calls service.new) }
     ensures state { MovesTo S.states request.request
-        (flight_outcome (flight_view A.Source.feed stage.new)) service.old service.new }
+        (flight_outcome (flight_view X.exchange A.Source.feed stage.new)) service.old service.new }
 {
     let mut outcome = Outcome::Unfinished;
     service.poll(alloc, &mut call, &request, &mut outcome);
@@ -82,11 +65,11 @@ fn poll_begun<A: App, Args, S: Service<A, Args>>(
 
 /// Begins the call of a request, and polls it. Where an allocation fails, the request is given
 /// back.
-fn begin_call<A: App, Args, S: Service<A, Args>>(
+fn begin_call<A: App, Args, S: Service<A, Args>, X: Waits<A>>(
     alloc: Global,
     pool: &mut HttpRequestPool<A>,
     service: &mut S,
-    stage: &mut StageOf<A, Args, S>,
+    stage: &mut StageOf<A, Args, S, X>,
     mut request: HttpRequest<A>,
     mut body: Payload<A::Source>,
 )
@@ -94,49 +77,48 @@ fn begin_call<A: App, Args, S: Service<A, Args>>(
     requires no_memory { stage.old ≡ Stage.Answered Outcome.NoMemory }
     ensures ready { S.ready service.new }
     ensures same { S.same_promises service.old service.new }
-    ensures unfinished { IsUnfinished S.is_finished (flight_view A.Source.feed stage.new) }
+    ensures unfinished { IsUnfinished S.is_finished (flight_view X.exchange A.Source.feed stage.new) }
     ensures pool { HeldOrReturned (Some request.serial)
-        (serial_of (flight_view A.Source.feed stage.new)) pool.old pool.new }
+        (serial_of (flight_view X.exchange A.Source.feed stage.new)) pool.old pool.new }
     ensures polled { (worker : Pool A.Layer) (x : ExchangeView A.Source A.Layer A.Local A.Conn)
         → request.request ≡ request_of worker x → x.body ≡ body
         → BeginsFlight (⟦<S as Serves<A, Args>>⟧.setting service.old worker) x
-        (flight_view A.Source.feed stage.new) (S.calls service.old) (S.calls service.new) }
+        (flight_view X.exchange A.Source.feed stage.new) (S.calls service.old) (S.calls service.new) }
     ensures state { MovesTo S.states (S.completed service.old request.request)
-        (flight_outcome (flight_view A.Source.feed stage.new)) service.old service.new }
+        (flight_outcome (flight_view X.exchange A.Source.feed stage.new)) service.old service.new }
 {
     match service.begin(alloc, &mut request, &mut body) {
-        Ok(call) => poll_begun::<A, Args, S>(alloc, pool, service, stage, request, call),
+        Ok(call) => poll_begun::<A, Args, S, X>(alloc, pool, service, stage, request, call),
         Err(_) => pool.give_back(request),
     }
 }
 
 /// Takes a record for an exchange that waits for its first poll, begins its call and polls it.
 #[inline(never)]
-fn start_flight<A: App, Args, S: Service<A, Args>>(
+fn start_flight<A: App, Args, S: Service<A, Args>, X: Waits<A>>(
     alloc: Global,
     pool: &mut HttpRequestPool<A>,
     service: &mut S,
-    stage: &mut StageOf<A, Args, S>,
+    stage: &mut StageOf<A, Args, S, X>,
 )
     requires room { pool.old.made + 1 < 2 ^ 64 }
     requires ready { S.ready service.old }
     ensures ready { S.ready service.new }
     ensures same { S.same_promises service.old service.new }
-    ensures unfinished { IsUnfinished S.is_finished (flight_view A.Source.feed stage.new) }
-    ensures polls { (x : ExchangeView A.Source A.Layer A.Local A.Conn) → stage.old ≡ Stage.Waiting x
+    ensures unfinished { IsUnfinished S.is_finished (flight_view X.exchange A.Source.feed stage.new) }
+    ensures polls { (x : X) → stage.old ≡ Stage.Waiting x
         → FlightPoll (⟦<S as Serves<A, Args>>⟧.setting service.old pool.old)
-        (FlightView.Waiting x) (flight_view A.Source.feed stage.new)
+        (FlightView.Waiting (X.exchange x)) (flight_view X.exchange A.Source.feed stage.new)
         pool.old pool.new (S.calls service.old) (S.calls service.new) }
-    ensures state { (x : ExchangeView A.Source A.Layer A.Local A.Conn) → stage.old ≡ Stage.Waiting x
-        → MovesTo S.states (S.completed service.old (request_of pool.old x))
-        (flight_outcome (flight_view A.Source.feed stage.new)) service.old service.new }
+    ensures state { (x : X) → stage.old ≡ Stage.Waiting x
+        → MovesTo S.states (S.completed service.old (request_of pool.old (X.exchange x)))
+        (flight_outcome (flight_view X.exchange A.Source.feed stage.new)) service.old service.new }
 {
     let waiting = mem::replace(stage, Stage::Answered(Outcome::NoMemory));
     if let Some(exchange) = waiting.into_waiting() {
-        let (parts, body) = exchange.into_parts();
-        match make_record(alloc, pool, parts) {
-            Some(request) => {
-                begin_call::<A, Args, S>(alloc, pool, service, stage, request, body);
+        match exchange.start(alloc, pool) {
+            Some((request, body)) => {
+                begin_call::<A, Args, S, X>(alloc, pool, service, stage, request, body);
             }
             None => {}
         }
@@ -144,25 +126,25 @@ fn start_flight<A: App, Args, S: Service<A, Args>>(
 }
 
 /// Goes on with the call of an exchange in flight.
-fn poll_call<A: App, Args, S: Service<A, Args>>(
+fn poll_call<A: App, Args, S: Service<A, Args>, X: Waits<A>>(
     alloc: Global,
     pool: &mut HttpRequestPool<A>,
     service: &mut S,
-    stage: &mut StageOf<A, Args, S>,
+    stage: &mut StageOf<A, Args, S, X>,
 )
     requires ready { S.ready service.old }
-    requires unfinished { IsUnfinished S.is_finished (flight_view A.Source.feed stage.old) }
-    requires in_flight { IsInFlight (flight_view A.Source.feed stage.old) }
+    requires unfinished { IsUnfinished S.is_finished (flight_view X.exchange A.Source.feed stage.old) }
+    requires in_flight { IsInFlight (flight_view X.exchange A.Source.feed stage.old) }
     ensures ready { S.ready service.new }
     ensures same { S.same_promises service.old service.new }
-    ensures unfinished { IsUnfinished S.is_finished (flight_view A.Source.feed stage.new) }
+    ensures unfinished { IsUnfinished S.is_finished (flight_view X.exchange A.Source.feed stage.new) }
     ensures polls { (worker : Pool A.Layer)
         → FlightPoll (⟦<S as Serves<A, Args>>⟧.setting service.old worker)
-        (flight_view A.Source.feed stage.old) (flight_view A.Source.feed stage.new)
+        (flight_view X.exchange A.Source.feed stage.old) (flight_view X.exchange A.Source.feed stage.new)
         pool.old pool.new (S.calls service.old) (S.calls service.new) }
     ensures state { (worker : Pool A.Layer)
         → FlightMoves (⟦<S as Serves<A, Args>>⟧.setting service.old worker) S.states
-        (flight_view A.Source.feed stage.old) (flight_view A.Source.feed stage.new)
+        (flight_view X.exchange A.Source.feed stage.old) (flight_view X.exchange A.Source.feed stage.new)
         service.old service.new }
 {
     if let Stage::InFlight(request, call) = stage {
@@ -175,28 +157,28 @@ fn poll_call<A: App, Args, S: Service<A, Args>>(
 }
 
 /// One poll of an exchange in its place.
-fn poll_stage<A: App, Args, S: Service<A, Args>>(
+fn poll_stage<A: App, Args, S: Service<A, Args>, X: Waits<A>>(
     alloc: Global,
     pool: &mut HttpRequestPool<A>,
     service: &mut S,
-    stage: &mut StageOf<A, Args, S>,
+    stage: &mut StageOf<A, Args, S, X>,
 )
-    requires room { pool.old.made + may_make (Some (flight_view A.Source.feed stage.old)) < 2 ^ 64 }
+    requires room { pool.old.made + may_make (Some (flight_view X.exchange A.Source.feed stage.old)) < 2 ^ 64 }
     requires ready { S.ready service.old }
-    requires unfinished { IsUnfinished S.is_finished (flight_view A.Source.feed stage.old) }
+    requires unfinished { IsUnfinished S.is_finished (flight_view X.exchange A.Source.feed stage.old) }
     ensures ready { S.ready service.new }
     ensures same { S.same_promises service.old service.new }
-    ensures unfinished { IsUnfinished S.is_finished (flight_view A.Source.feed stage.new) }
+    ensures unfinished { IsUnfinished S.is_finished (flight_view X.exchange A.Source.feed stage.new) }
     ensures polls { FlightPoll (⟦<S as Serves<A, Args>>⟧.setting service.old pool.old)
-        (flight_view A.Source.feed stage.old) (flight_view A.Source.feed stage.new)
+        (flight_view X.exchange A.Source.feed stage.old) (flight_view X.exchange A.Source.feed stage.new)
         pool.old pool.new (S.calls service.old) (S.calls service.new) }
     ensures state { FlightMoves (⟦<S as Serves<A, Args>>⟧.setting service.old pool.old) S.states
-        (flight_view A.Source.feed stage.old) (flight_view A.Source.feed stage.new)
+        (flight_view X.exchange A.Source.feed stage.old) (flight_view X.exchange A.Source.feed stage.new)
         service.old service.new }
 {
     match stage {
-        Stage::Waiting(_) => start_flight::<A, Args, S>(alloc, pool, service, stage),
-        Stage::InFlight(_, _) => poll_call::<A, Args, S>(alloc, pool, service, stage),
+        Stage::Waiting(_) => start_flight::<A, Args, S, X>(alloc, pool, service, stage),
+        Stage::InFlight(_, _) => poll_call::<A, Args, S, X>(alloc, pool, service, stage),
         Stage::Answered(_) => {}
     }
 }
@@ -209,11 +191,11 @@ fn poll_stage<A: App, Args, S: Service<A, Args>>(
 /// fail, the flight is answered with the response to their error. Where the handler's value is
 /// there, the flight is answered with its response. Where an allocation fails, it is answered with
 /// `Outcome::NoMemory`. An answered flight has given its record back.
-pub fn poll_one<A: App, Args, S: Service<A, Args>>(
+pub fn poll_one<A: App, Args, S: Service<A, Args>, X: Waits<A>>(
     alloc: Global,
     worker: &mut Worker<A>,
     service: &mut S,
-    flights: &mut [Flight<A, Args, S>],
+    flights: &mut [Flight<A, Args, S, X>],
     k: usize,
 )
     requires room { worker.old.made + may_make (slice_get flights.old k) < 2 ^ 64 }
@@ -234,16 +216,16 @@ pub fn poll_one<A: App, Args, S: Service<A, Args>>(
         k flights.old flights.new service.old service.new }
 {
     if k < flights.len() {
-        poll_flight::<A, Args, S>(alloc, worker, service, &mut flights[k]);
+        poll_flight::<A, Args, S, X>(alloc, worker, service, &mut flights[k]);
     }
 }
 
 /// Polls one flight once, as `poll_one` polls one of a list. An answered one stays as it is.
-pub fn poll_flight<A: App, Args, S: Service<A, Args>>(
+pub fn poll_flight<A: App, Args, S: Service<A, Args>, X: Waits<A>>(
     alloc: Global,
     worker: &mut Worker<A>,
     service: &mut S,
-    flight: &mut Flight<A, Args, S>,
+    flight: &mut Flight<A, Args, S, X>,
 )
     requires room { worker.old.made + may_make (Some flight.old) < 2 ^ 64 }
     requires ready { S.ready service.old }
@@ -257,6 +239,6 @@ pub fn poll_flight<A: App, Args, S: Service<A, Args>>(
         flight.old flight.new service.old service.new }
 {
     if flight.is_open() {
-        poll_stage::<A, Args, S>(alloc, &mut worker.pool, service, &mut flight.stage);
+        poll_stage::<A, Args, S, X>(alloc, &mut worker.pool, service, &mut flight.stage);
     }
 }

@@ -22,14 +22,15 @@ use crate::plan_entry::PlanEntry;
 use crate::polling::poll_one;
 use crate::service::Service;
 use crate::setting::Serves;
+use crate::waiting::Waits;
 use crate::worker::Worker;
 use std::alloc::Global;
 use web_request::{App, HttpRequestPool, NoMemory};
 
 /// Answers each open flight with `Outcome::Unfinished` and gives its record back.
-fn end_flights<A: App, Args, S: Service<A, Args>>(
+fn end_flights<A: App, Args, S: Service<A, Args>, X: Waits<A>>(
     pool: &mut HttpRequestPool<A>,
-    flights: &mut [Flight<A, Args, S>],
+    flights: &mut [Flight<A, Args, S, X>],
 )
     ensures pool { pool.new ≡ return_held pool.old (map (λ f. serial_state f) flights.old) }
     ensures answered { flights.new ≡ map (λ f. FlightView.Answered (flight_outcome f)) flights.old }
@@ -45,10 +46,10 @@ fn end_flights<A: App, Args, S: Service<A, Args>>(
 /// Each entry polls the flight of its number once, as `poll_one` does; one that names no flight, or
 /// an answered one, changes nothing. Afterwards each flight is answered: `Flight::outcome` returns
 /// its outcome.
-pub fn serve_flights<A: App, Args, S: Service<A, Args>, N: PlanEntry>(
+pub fn serve_flights<A: App, Args, S: Service<A, Args>, N: PlanEntry, X: Waits<A>>(
     alloc: Global,
     worker: &mut Worker<A>,
-    flights: &mut [Flight<A, Args, S>],
+    flights: &mut [Flight<A, Args, S, X>],
     plan: &[N],
     service: &mut S,
 )
@@ -84,16 +85,16 @@ pub fn serve_flights<A: App, Args, S: Service<A, Args>, N: PlanEntry>(
     ensures kept { worker.new ≡ with_records worker.new.serials worker.new.made worker.old }
 {
     for entry in plan {
-        poll_one::<A, Args, S>(alloc, worker, service, flights, entry.index());
+        poll_one::<A, Args, S, X>(alloc, worker, service, flights, entry.index());
     }
     end_flights(&mut worker.pool, flights);
 }
 
 /// The outcome of one flight, `Outcome::Unfinished` where it is not answered. Its record goes back
 /// to the worker.
-pub fn end_flight<A: App, Args, S: Service<A, Args>>(
+pub fn end_flight<A: App, Args, S: Service<A, Args>, X: Waits<A>>(
     worker: &mut Worker<A>,
-    mut flight: Flight<A, Args, S>,
+    mut flight: Flight<A, Args, S, X>,
 ) -> Outcome<A>
     ensures pool { worker.new ≡ after_release (serial_of flight) None worker.old }
     ensures outcome { outcome_view A.Source.feed result ≡ flight_outcome flight }
@@ -202,7 +203,13 @@ pub fn serve_all<A: App, Args, S: Service<A, Args>>(
         return Err((NoMemory, exchanges));
     };
     into_flights::<A, Args, S>(&mut flights, exchanges);
-    serve_flights::<A, Args, S, usize>(alloc, worker, flights.as_mut_slice(), plan, service);
+    serve_flights::<A, Args, S, usize, Exchange<A>>(
+        alloc,
+        worker,
+        flights.as_mut_slice(),
+        plan,
+        service,
+    );
     collect_outcomes(&mut outcomes, flights);
     Ok(outcomes)
 }

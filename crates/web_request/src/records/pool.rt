@@ -7,7 +7,7 @@ ghost use Rattle.web_request.specs.Pool.{after_disable, after_give_back, after_s
 
 use crate::app::App;
 use crate::config::AppConfig;
-use crate::records::parts::RequestParts;
+use crate::records::parts::{RequestParts, SharedParts};
 use crate::request::HttpRequest;
 use std::alloc::Global;
 use std::marker::Model;
@@ -155,6 +155,25 @@ impl<A: App> HttpRequestPool<A> {
                 Err(refused) => Err(refused),
             },
         }
+    }
+
+    /// Starts a request of these parts under the number that `start` gives it, in memory that they
+    /// bring along: that of a record that was kept is given free. It allocates nothing. Returns
+    /// `NoMemory` only where the counts of the pointers to the root layer or the configuration are
+    /// full; the pool is then as before.
+    pub fn start_shared(&mut self, parts: SharedParts<A>) -> Result<HttpRequest<A>, NoMemory>
+        requires counted { self.old.made + 1 < 2 ^ 64 }
+        ensures record { IfOk result (λ request.
+            request ≡ new_record self.old.root self.old.config (next_serial self.old) parts) }
+        ensures pool { IfOk result (λ _. self.new ≡ after_start self.old) }
+        ensures kept { OnErr result (self.new ≡ self.old) }
+        ensures made { self.new.made ≤ self.old.made + 1 }
+    {
+        let serial = last_number(self.numbers.as_slice(), self.made);
+        let request = HttpRequest::of_shared(&self.root, &self.config, serial, parts)?;
+        let _ = self.kept.pop();
+        take_number(&mut self.numbers, &mut self.made);
+        Ok(request)
     }
 
     /// Takes back the record of a finished request. Its number is kept as the last one where the

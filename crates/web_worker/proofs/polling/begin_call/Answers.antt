@@ -26,6 +26,6 @@ pub returns-in-Ok-clause-state : goal.returns-in-Ok-clause-state
 returns-in-Ok-clause-state g c =
     rw (← c.in-Ok.ensures.completes)
     (moves_on g.S.Service.states c.begin.new.request.request
-    (flight_outcome (flight_view g.A.Source.Source.feed c.poll_begun.new.stage))
+    (flight_outcome (flight_view g.X.Waits.exchange g.A.Source.Source.feed c.poll_begun.new.stage))
     c.args.service.now c.begin.new.self c.poll_begun.new.service c.in-Ok.ensures.stays
     c.poll_begun.ensures.state)

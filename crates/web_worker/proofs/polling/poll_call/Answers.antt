@@ -23,7 +23,7 @@ returns-else-not-is_unfinished-clause-polls g c = λ worker.
     (g.S.Service.promise c.args.service.now) (g.S.Service.left c.args.service.now)
     g.A.Source.Source.feed worker)
     (record { record_of = c.in-InFlight.request; call = c.in-InFlight.call })
-    (flight_view {A = g.row.A.Denot} g.A.Source.Source.feed
+    (flight_view {A = g.row.A.Denot} g.X.Waits.exchange g.A.Source.Source.feed
     (InFlight c.in-InFlight.request c.poll.new.call)) c.args.pool.now
     c.args.pool.now (g.S.Service.calls c.args.service.now) (g.S.Service.calls c.poll.new.self)
     (refl, refl)
