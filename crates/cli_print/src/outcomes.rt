@@ -12,7 +12,7 @@ use std::alloc::Global;
 use web_body::Marks;
 use web_request::App;
 use web_texts::NoMemory;
-use web_worker::{Flight, Outcome, Service};
+use web_worker::{Outcome, PreparedFlight, Service};
 
 const UNFINISHED: &[u8] = b"unfinished\n";
 
@@ -35,7 +35,7 @@ fn put_outcome<A: App<Source = Marks>>(
 fn put_flight<A: App<Source = Marks>, Args, H: Service<A, Args>>(
     alloc: Global,
     out: &mut Vec<u8>,
-    flight: &Flight<A, Args, H>,
+    flight: &PreparedFlight<A, Args, H>,
 ) -> Result<(), NoMemory>
     ensures { OnOk result (out.new.items
         ≡ out.old.items ++ outcome_text (flight_outcome flight.now)) }
@@ -49,7 +49,7 @@ fn put_flight<A: App<Source = Marks>, Args, H: Service<A, Args>>(
 fn put_flights<A: App<Source = Marks>, Args, H: Service<A, Args>>(
     alloc: Global,
     out: &mut Vec<u8>,
-    flights: &[Flight<A, Args, H>],
+    flights: &[PreparedFlight<A, Args, H>],
 ) -> Result<(), NoMemory>
     ensures { OnOk result (out.new.items
         ≡ out.old.items
@@ -90,7 +90,7 @@ fn put_pool(out: &mut Vec<u8>, serials: &[u64], made: u64) -> Result<(), NoMemor
 /// allocated.
 pub fn printed<A: App<Source = Marks>, Args, H: Service<A, Args>>(
     alloc: Global,
-    flights: &[Flight<A, Args, H>],
+    flights: &[PreparedFlight<A, Args, H>],
     serials: &[u64],
     made: u64,
 ) -> Result<Vec<u8>, NoMemory>

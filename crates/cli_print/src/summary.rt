@@ -10,7 +10,7 @@ use std::alloc::Global;
 use web_body::Marks;
 use web_request::App;
 use web_texts::NoMemory;
-use web_worker::{Flight, Outcome, Service};
+use web_worker::{Outcome, PreparedFlight, Service};
 
 /// The least status, and how many there are (RFC 9110, section 15).
 const FIRST_STATUS: usize = 100;
@@ -18,7 +18,7 @@ const FIRST_STATUS: usize = 100;
 const STATUS_COUNT: usize = 900;
 
 fn is_unfinished<A: App<Source = Marks>, Args, H: Service<A, Args>>(
-    flight: &Flight<A, Args, H>,
+    flight: &PreparedFlight<A, Args, H>,
 ) -> bool
     ensures { result ≡ is_unfinished (flight_outcome flight.now) }
 {
@@ -26,7 +26,7 @@ fn is_unfinished<A: App<Source = Marks>, Args, H: Service<A, Args>>(
 }
 
 fn count_unfinished<A: App<Source = Marks>, Args, H: Service<A, Args>>(
-    flights: &[Flight<A, Args, H>],
+    flights: &[PreparedFlight<A, Args, H>],
 ) -> u64
     requires room { length flights.now < 2 ^ 64 }
     ensures { result ≡ count_where is_unfinished (map (λ f. flight_outcome f) flights.now) }
@@ -42,7 +42,7 @@ fn count_unfinished<A: App<Source = Marks>, Args, H: Service<A, Args>>(
 
 /// The status of a reply. There is none where no reply was given.
 fn reply_status<A: App<Source = Marks>, Args, H: Service<A, Args>>(
-    flight: &Flight<A, Args, H>,
+    flight: &PreparedFlight<A, Args, H>,
 ) -> Option<u16>
     ensures value { result ≡ reply_status (flight_outcome flight.now) }
     ensures valid { IfSome result (λ status. (100 ≤ status) × (status < 1000)) }
@@ -66,7 +66,7 @@ fn count_at(counts: &mut Vec<u64>, place: usize)
 /// For each status from 100 to 999, how many replies have it.
 fn count_statuses<A: App<Source = Marks>, Args, H: Service<A, Args>>(
     alloc: Global,
-    flights: &[Flight<A, Args, H>],
+    flights: &[PreparedFlight<A, Args, H>],
 ) -> Result<Vec<u64>, NoMemory>
     requires room { length flights.now < 2 ^ 64 }
     ensures { IfOk result (λ counts. counts.items
@@ -98,7 +98,7 @@ fn put_status(out: &mut Vec<u8>, status: u64, count: u64) -> Result<(), NoMemory
 fn put_statuses<A: App<Source = Marks>, Args, H: Service<A, Args>>(
     alloc: Global,
     out: &mut Vec<u8>,
-    flights: &[Flight<A, Args, H>],
+    flights: &[PreparedFlight<A, Args, H>],
 ) -> Result<(), NoMemory>
     requires room { length flights.now < 2 ^ 64 }
     ensures { OnOk result (out.new.items ≡ out.old.items
@@ -121,7 +121,7 @@ fn put_statuses<A: App<Source = Marks>, Args, H: Service<A, Args>>(
 pub fn summarized<A: App<Source = Marks>, Args, H: Service<A, Args>>(
     alloc: Global,
     script_len: u64,
-    flights: &[Flight<A, Args, H>],
+    flights: &[PreparedFlight<A, Args, H>],
     made: u64,
 ) -> Result<Vec<u8>, NoMemory>
     requires room { length flights.now < 2 ^ 64 }

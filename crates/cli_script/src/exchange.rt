@@ -1,5 +1,6 @@
 //! An exchange of a script, and what an `exchange` line asks for.
-ghost use Rattle.std.specs.Prelude.{◌≡◌, Some};
+ghost use Rattle.std.specs.Prelude.{◌≡◌, ◌∷◌, [], OnOk, Some};
+ghost use Rattle.http_header.specs.HeaderMap.{append_all};
 ghost use Rattle.cli_script.specs.Acceptance.{Accepts};
 ghost use Rattle.cli_script.specs.LineArguments.{has_space, is_method, request_fault};
 ghost use Rattle.cli_script.specs.LineArguments.{target_fault};
@@ -12,32 +13,29 @@ ghost use Rattle.cli_script.specs.declared.reason.LineFault.TheVariants.{BadExch
 use crate::layer::LayerSettings;
 use crate::reason::LineFault;
 use bytes::Bytes;
-use http::Method;
 use http::method::MethodError;
+use http::{Method, Version};
 use http_header::{HeaderMap, HeaderName, HeaderValue};
 use http_uri::{Uri, UriError};
 use std::alloc::Global;
 use std::marker::Model;
-use web_request::{Mark, SocketAddr};
+use std::rc::Rc;
+use web_request::{Mark, RequestHead, SocketAddr};
 use web_texts::{Fail, NoMemory, Pair, split_once_at};
 
 /// An exchange that a script asks for.
 #[derive(Drop)]
 pub struct ScriptedExchange {
-    /// RFC 9110, section 9.1.
-    pub method: Method,
-    /// The target (RFC 9112, section 3.2), as `http_uri` reads it.
-    pub uri: Uri,
-    /// The header fields, in the order of their lines. There are at most 1,024.
-    pub headers: HeaderMap<HeaderValue>,
+    /// The head, which nothing else shares: the method and the target of HTTP/1.1, the header
+    /// fields in the order of their lines, of which there are at most 1,024, and the address of the
+    /// last `peer` line, where the request came from.
+    pub head: Rc<RequestHead>,
     /// The parameters, as a router would find them, in the order of their lines.
     pub params: Vec<Pair>,
     /// What the `layer` lines set, in the order of their lines: the outermost layer first.
     pub layers: Vec<LayerSettings>,
     /// The marks of the body. In those of a script no piece is empty, and a fault is the last mark.
     pub marks: Vec<Mark>,
-    /// The address of the last `peer` line: where the request came from.
-    pub peer: Option<SocketAddr>,
     /// The number of the last `local` line: the data of the request.
     pub local: Option<u64>,
     /// The number of the last `conn` line: the data of the connection.
@@ -45,22 +43,26 @@ pub struct ScriptedExchange {
 }
 
 impl Model for ScriptedExchange {
+    ghost use Rattle.std.specs.Prelude.{◌≡◌};
+    ghost use Rattle.http.specs.declared.version.TheConstants.Version.{HTTP_11};
     ghost use Rattle.cli_script.specs.ScriptedView.{ScriptedExchangeView};
     ghost use Rattle.web_request.specs.Head.{uri_view};
 
     ghost Value = { ScriptedExchangeView };
 
     ghost view = { λ e. record {
-      method = e.method;
-      target = uri_view e.uri;
-      headers = e.headers;
+      method = e.head.value.method;
+      target = uri_view e.head.value.uri;
+      headers = e.head.value.headers;
       params = e.params.items;
       layers = e.layers.items;
       marks = e.marks.items;
-      peer = e.peer;
+      peer = e.head.value.peer_addr;
       local = e.local;
       conn = e.conn;
     } };
+
+    ghost invariant = { λ e. e.head.value.version ≡ HTTP_11 };
 }
 
 fn has_space(text: &[u8]) -> bool
@@ -120,27 +122,65 @@ pub fn read_request(alloc: Global, text: Bytes) -> Result<RequestLine, Fail<Line
     Ok(RequestLine { method, uri })
 }
 
+/// Makes room for headers of so many names, where there are none yet.
+fn expect_headers(headers: &mut HeaderMap<HeaderValue>, names: usize) -> Result<(), NoMemory>
+    ensures { headers.new ≡ headers.old }
+{
+    if !headers.is_empty() {
+        return Ok(());
+    }
+    // So few names never exceed the greatest size of a map.
+    match headers.reserve(names) {
+        Ok(()) => Ok(()),
+        Err(_) => Err(NoMemory),
+    }
+}
+
+/// Adds a header after the others of its name, as `ScriptedExchange::add_header` does.
+// Inlined, so that the map is looked for once.
+#[inline(always)]
+fn append_header(
+    headers: &mut HeaderMap<HeaderValue>,
+    header: (HeaderName, HeaderValue),
+    expected_names: usize,
+) -> Result<(), NoMemory>
+    ensures { OnOk result (headers.new ≡ append_all headers.old (header ∷ [])) }
+{
+    expect_headers(headers, expected_names)?;
+    let (name, value) = header;
+    // So few headers never reach the greatest size of a map.
+    match headers.append(name, value) {
+        Ok(_) => Ok(()),
+        Err(_) => Err(NoMemory),
+    }
+}
+
 impl ScriptedExchange {
-    ghost use Rattle.std.specs.Prelude.{◌≡◌, ◌∷◌, [], OnOk};
+    ghost use Rattle.std.specs.Prelude.{◌≡◌, ◌∷◌, [], IfOk, OnOk};
     ghost use Rattle.cli_script.specs.Reader.{bare_exchange};
     ghost use Rattle.cli_script.specs.Reader.{with_headers, with_layers, with_marks, with_params};
+    ghost use Rattle.cli_script.specs.Reader.{with_peer};
     ghost use Rattle.web_request.specs.Head.{uri_view};
 
     /// An exchange without headers, parameters, layers, body and data.
-    pub fn new(alloc: Global, method: Method, uri: Uri) -> Self
-        ensures { result ≡ bare_exchange method (uri_view uri) }
+    pub fn new(alloc: Global, method: Method, uri: Uri) -> Result<Self, NoMemory>
+        ensures { IfOk result (λ e. e ≡ bare_exchange method (uri_view uri)) }
     {
-        ScriptedExchange {
-            method,
+        let head = RequestHead {
             uri,
+            method,
+            version: Version::HTTP_11,
             headers: HeaderMap::empty(alloc),
+            peer_addr: None,
+        };
+        Ok(ScriptedExchange {
+            head: Rc::new(alloc, head)?,
             params: Vec::new(alloc),
             layers: Vec::new(alloc),
             marks: Vec::new(alloc),
-            peer: None,
             local: None,
             conn: None,
-        }
+        })
     }
 
     /// Adds a mark at the end of the body.
@@ -153,20 +193,6 @@ impl ScriptedExchange {
         Ok(())
     }
 
-    /// Makes room for the headers, where there are none yet.
-    fn expect_headers(&mut self, names: usize) -> Result<(), NoMemory>
-        ensures { self.new ≡ self.old }
-    {
-        if !self.headers.is_empty() {
-            return Ok(());
-        }
-        // So few names never exceed the greatest size of a map.
-        match self.headers.reserve(names) {
-            Ok(()) => Ok(()),
-            Err(_) => Err(NoMemory),
-        }
-    }
-
     /// Adds a header after the others of its name. Before the first one there is made room for as
     /// many names as are expected.
     pub fn add_header(
@@ -176,13 +202,21 @@ impl ScriptedExchange {
     ) -> Result<(), NoMemory>
         ensures { OnOk result (self.new ≡ with_headers (header ∷ []) self.old) }
     {
-        self.expect_headers(expected_names)?;
-        let (name, value) = header;
-        // So few headers never reach the greatest size of a map.
-        match self.headers.append(name, value) {
-            Ok(_) => Ok(()),
-            Err(_) => Err(NoMemory),
-        }
+        let Some(head) = Rc::get_mut(&mut self.head) else {
+            return Err(NoMemory);
+        };
+        append_header(&mut head.headers, header, expected_names)
+    }
+
+    /// Sets where the request came from.
+    pub fn set_peer(&mut self, peer: SocketAddr) -> Result<(), NoMemory>
+        ensures { OnOk result (self.new ≡ with_peer peer self.old) }
+    {
+        let Some(head) = Rc::get_mut(&mut self.head) else {
+            return Err(NoMemory);
+        };
+        head.peer_addr = Some(peer);
+        Ok(())
     }
 
     /// Adds a layer after the others.

@@ -91,7 +91,7 @@ impl Reader {
         ensures { IfSome self.now.open_exchange (λ e. result ≡ length e.headers) }
     {
         match &self.open_exchange {
-            Some(exchange) => exchange.headers.keys_len(),
+            Some(exchange) => exchange.head.headers.keys_len(),
             None => 0,
         }
     }
@@ -101,7 +101,7 @@ impl Reader {
         ensures { result ≡ nat_le max_headers (header_count self.now.open_exchange) }
     {
         match &self.open_exchange {
-            Some(exchange) => MAX_HEADERS <= exchange.headers.len(),
+            Some(exchange) => MAX_HEADERS <= exchange.head.headers.len(),
             None => false,
         }
     }
@@ -221,7 +221,7 @@ impl Reader {
     {
         let peer = read_peer(text)?;
         if let Some(exchange) = &mut self.open_exchange {
-            exchange.peer = Some(peer);
+            exchange.set_peer(peer)?;
         }
         Ok(())
     }
@@ -275,7 +275,7 @@ impl Reader {
     {
         let RequestLine { method, uri } = read_request(alloc, head)?;
         self.expected_names = self.name_count();
-        let exchange = ScriptedExchange::new(alloc, method, uri);
+        let exchange = ScriptedExchange::new(alloc, method, uri)?;
         let before = self.open_exchange.replace(exchange);
         self.has_fault = false;
         Ok(add_open(alloc, sink, before)?)

@@ -9,13 +9,11 @@ ghost use Rattle.demo_app.specs.DemoRequests.{conn_of};
 
 use cli_script::{ExchangeSink, LayerSettings, ScriptedExchange};
 use demo_app::{Demo, DemoConn, DemoLayer, DemoLocal, demo_layers};
-use http::Version;
 use std::alloc::Global;
 use std::rc::Rc;
 use web_body::{Mark, Marks, Payload};
-use web_request::RequestHead;
 use web_texts::NoMemory;
-use web_worker::{Exchange, Flight, Service};
+use web_worker::{Flight, PreparedExchange, PreparedFlight, Service};
 
 /// The data of a connection, if a script names it.
 fn shared_conn(alloc: Global, conn: Option<u64>) -> Result<Option<Rc<DemoConn>>, NoMemory>
@@ -61,7 +59,7 @@ fn body_of(marks: Vec<Mark>) -> Payload<Marks>
 /// Collects the exchanges of a script as flights that wait for their first poll.
 #[derive(Drop)]
 pub struct DemoFlights<Args, H: Service<Demo, Args>> {
-    pub flights: Vec<Flight<Demo, Args, H>>,
+    pub flights: Vec<PreparedFlight<Demo, Args, H>>,
 }
 
 impl<Args, H: Service<Demo, Args>> DemoFlights<Args, H> {
@@ -86,27 +84,18 @@ impl<Args, H: Service<Demo, Args>> ExchangeSink for DemoFlights<Args, H> {
 
     fn add(&mut self, alloc: Global, exchange: ScriptedExchange) -> Result<(), NoMemory> {
         let ScriptedExchange {
-            method,
-            uri,
-            headers,
+            head,
             params,
             layers,
             marks,
-            peer,
             local,
             conn,
         } = exchange;
         let Shared { layers, conn } = shared_of(alloc, layers, conn)?;
         Ok(
-            self.flights.push(Flight::new(Exchange {
+            self.flights.push(Flight::new(PreparedExchange {
                 layers,
-                head: RequestHead {
-                    uri,
-                    method,
-                    version: Version::HTTP_11,
-                    headers,
-                    peer_addr: peer,
-                },
+                head,
                 params,
                 conn,
                 local: local.map(|number| DemoLocal(number)),

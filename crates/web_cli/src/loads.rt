@@ -21,7 +21,7 @@ use std::alloc::Global;
 use web_extract::FromRequest;
 use web_reply::Responder;
 use web_texts::{Fail, NoMemory};
-use web_worker::{Flight, Handler};
+use web_worker::{Handler, PreparedFlight};
 
 /// How many records the pool keeps while a load is served.
 const REPLAY_CAPACITY: u16 = 128;
@@ -45,7 +45,7 @@ pub(crate) fn generate<O: Output>(alloc: Global, output: &mut O, load: Load) -> 
 fn summary<Args: FromRequest<Demo>, H: Handler<Args>>(
     alloc: Global,
     script_len: u64,
-    flights: &mut [Flight<Demo, Args, H>],
+    flights: &mut [PreparedFlight<Demo, Args, H>],
     plan: &[u32],
     handler: &mut H,
 ) -> Result<Vec<u8>, NoMemory>

@@ -20,7 +20,7 @@ use std::alloc::Global;
 use web_extract::FromRequest;
 use web_reply::Responder;
 use web_texts::{Fail, NoMemory};
-use web_worker::{Flight, Handler, Outcome, Service, Worker, serve_flights};
+use web_worker::{Handler, Outcome, PreparedFlight, Service, Worker, serve_flights};
 
 /// The result of serving a script of at most the limit.
 #[derive(Drop)]
@@ -40,14 +40,14 @@ fn fault_text(alloc: Global, fault: InvalidScript) -> Result<Vec<u8>, NoMemory>
 }
 
 /// Whether an allocation failed while the exchange was served.
-fn lacks_memory<Args, H: Service<Demo, Args>>(flight: &Flight<Demo, Args, H>) -> bool
+fn lacks_memory<Args, H: Service<Demo, Args>>(flight: &PreparedFlight<Demo, Args, H>) -> bool
     ensures { result ≡ lacks_memory (flight_outcome flight.now) }
 {
     matches!(flight.outcome(), Some(Outcome::NoMemory))
 }
 
 /// Whether an allocation failed while some exchange was served.
-fn any_lacks_memory<Args, H: Service<Demo, Args>>(flights: &[Flight<Demo, Args, H>]) -> bool
+fn any_lacks_memory<Args, H: Service<Demo, Args>>(flights: &[PreparedFlight<Demo, Args, H>]) -> bool
     ensures { result ≡ list_any (λ f. lacks_memory (flight_outcome f)) flights.now }
 {
     flights.iter().any(|flight| lacks_memory(flight))
@@ -61,7 +61,7 @@ fn any_lacks_memory<Args, H: Service<Demo, Args>>(flights: &[Flight<Demo, Args, 
 pub(crate) fn serve_script<Args: FromRequest<Demo>, H: Handler<Args>>(
     alloc: Global,
     capacity: u16,
-    flights: &mut [Flight<Demo, Args, H>],
+    flights: &mut [PreparedFlight<Demo, Args, H>],
     plan: &[u32],
     handler: &mut H,
 ) -> Result<Worker<Demo>, NoMemory>
@@ -95,7 +95,7 @@ where
 fn replies<Args: FromRequest<Demo>, H: Handler<Args>>(
     alloc: Global,
     capacity: u16,
-    flights: &mut [Flight<Demo, Args, H>],
+    flights: &mut [PreparedFlight<Demo, Args, H>],
     plan: &[u32],
     handler: &mut H,
 ) -> Result<Vec<u8>, NoMemory>

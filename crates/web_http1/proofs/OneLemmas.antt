@@ -30,11 +30,11 @@ keeps_few limits bytes (progress.Head s) is few short lines = inl (of (is_blank 
     of true e = few e
     of false e = let less = (short e).0 in omega (arith, less)
 keeps_few limits bytes (progress.Sized head n) is few short lines =
-    inr (inl (record { head = head.value; found = is.0; size = n; declared = is.1; fits = short.0; fewer = short.1 }))
+    inr (inl (record { head = head; found = is.0; size = n; declared = is.1; fits = short.0; fewer = short.1 }))
 keeps_few limits bytes (progress.Chunked head place body) is few short lines =
     let sum = so_far_sum is.2.so_far in
     inr (inr (record {
-      head = head.value;
+      head = head;
       found = is.0;
       declared = is.1;
       few = λ small. let at' = lines (omega (arith, sum, small)) in omega (arith, short, at', sum);

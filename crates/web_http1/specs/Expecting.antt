@@ -7,7 +7,7 @@ use Rattle.http_header.specs.FieldValue.{FieldValue}
 use Rattle.http_header.specs.HeaderMap.{Entries, get_all}
 use Rattle.http_header.specs.Token.{lowercase}
 use Rattle.web_messages.specs.Progress.{HeadFound}
-use Rattle.web_messages.specs.declared.head.Head.{Head}
+use Rattle.web_messages.specs.HeadViews.{HeadView as Head}
 use Rattle.web_messages.specs.declared.limits.Limits.{Limits}
 use Rattle.web_http1.specs.Answers.{is_first}
 use Rattle.web_http1.specs.Connections.{ConnectionView}

@@ -4,7 +4,7 @@ use Rattle.web_messages.specs.EmptyLines.{is_blank}
 use Rattle.web_messages.specs.NextMessage.{framing_in}
 use Rattle.web_messages.specs.Progress.{HeadFound, MayBecomeHead}
 use Rattle.web_messages.specs.declared.framing.Framing.TheVariants as framing
-use Rattle.web_messages.specs.declared.head.Head.{Head}
+use Rattle.web_messages.specs.HeadViews.{HeadView as Head}
 use Rattle.web_messages.specs.declared.limits.Limits.{Limits}
 
 -- a head, and fewer bytes than it and the body have that it declares

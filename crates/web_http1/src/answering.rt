@@ -23,7 +23,7 @@ use web_messages::{
 };
 use web_request::App;
 use web_texts::NoMemory;
-use web_worker::{Flight, Serves, Service, Worker};
+use web_worker::{PreparedFlight, Serves, Service, Worker};
 
 /// What is kept from one message to the next.
 #[derive(Drop)]
@@ -67,7 +67,7 @@ pub(crate) struct AnsweredRest {
 fn write_read<A: App, Args, S: Service<A, Args>>(
     alloc: Global,
     rooms: &mut Rooms,
-    flights: &mut Vec<Flight<A, Args, S>>,
+    flights: &mut Vec<PreparedFlight<A, Args, S>>,
     asked: bool,
     is_head: bool,
     out: &mut Vec<u8>,
@@ -87,7 +87,7 @@ fn write_read<A: App, Args, S: Service<A, Args>>(
 fn write_last<A: App, Args, S: Service<A, Args>>(
     alloc: Global,
     rooms: &mut Rooms,
-    flights: &mut Vec<Flight<A, Args, S>>,
+    flights: &mut Vec<PreparedFlight<A, Args, S>>,
     asked: bool,
     is_head: bool,
     out: &mut Vec<u8>,
@@ -111,8 +111,8 @@ fn answer_message<A: App, Args, S: Service<A, Args>>(
     worker: &mut Worker<A>,
     service: &mut S,
     rooms: &mut Rooms,
-    flights: &mut Vec<Flight<A, Args, S>>,
-    head: Box<Head>,
+    flights: &mut Vec<PreparedFlight<A, Args, S>>,
+    head: Head,
     body: Bytes,
     out: &mut Vec<u8>,
 ) -> Result<bool, NoMemory>
@@ -124,9 +124,9 @@ fn answer_message<A: App, Args, S: Service<A, Args>>(
     ensures kept { worker.new ≡ with_records worker.new.serials worker.new.made worker.old }
     ensures reply { (used : ℕ)
         → IsReplied (⟦<S as Serves<A, Args>>⟧.setting service.old worker.old)
-        (message_of head.value body used) out.old.items out.new.items result }
+        (message_of head body used) out.old.items out.new.items result }
 {
-    let parts = &*head;
+    let parts = &head;
     let asked = asks_end(parts);
     let is_head = is_head(parts);
     let exchange = exchange_of(alloc, head, body);
@@ -151,8 +151,8 @@ fn serve_message<A: App, Args, S: Service<A, Args>>(
     worker: &mut Worker<A>,
     service: &mut S,
     rooms: &mut Rooms,
-    flights: &mut Vec<Flight<A, Args, S>>,
-    head: Box<Head>,
+    flights: &mut Vec<PreparedFlight<A, Args, S>>,
+    head: Head,
     body: Bytes,
     used: usize,
     out: &mut Vec<u8>,
@@ -164,7 +164,7 @@ fn serve_message<A: App, Args, S: Service<A, Args>>(
     ensures made { worker.new.made ≤ worker.old.made + 1 }
     ensures kept { worker.new ≡ with_records worker.new.serials worker.new.made worker.old }
     ensures turned { IsServed (⟦<S as Serves<A, Args>>⟧.setting service.old worker.old)
-        (message_of head.value body used) out.old.items out.new.items result }
+        (message_of head body used) out.old.items out.new.items result }
 {
     match answer_message(alloc, worker, service, rooms, flights, head, body, out) {
         Ok(true) => Turned::Ended(Ended::Closed),
@@ -194,7 +194,7 @@ pub(crate) fn serve_next<A: App, Args, S: Service<A, Args>>(
     rest: &[u8],
     progress: Progress,
     rooms: &mut Rooms,
-    flights: &mut Vec<Flight<A, Args, S>>,
+    flights: &mut Vec<PreparedFlight<A, Args, S>>,
     out: &mut Vec<u8>,
 ) -> Turned
     requires progress { IsProgress limits.now rest.now progress }

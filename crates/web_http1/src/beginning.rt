@@ -34,7 +34,7 @@ use web_messages::{Head, Limits, MessageRead, Progress, read_on};
 use web_reply::{BoxBody, HttpResponse, ResponseHead};
 use web_request::{App, Source};
 use web_texts::NoMemory;
-use web_worker::{Flight, Serves, Service, Worker};
+use web_worker::{PreparedFlight, Serves, Service, Worker};
 
 /// What a message asks of its reply.
 #[derive(Clone, Copy)]
@@ -244,8 +244,8 @@ fn begin_message<A: App, Args, S: Service<A, Args>>(
     service: &mut S,
     settings: &ReplySettings,
     rooms: &mut Rooms,
-    flights: &mut Vec<Flight<A, Args, S>>,
-    head: Box<Head>,
+    flights: &mut Vec<PreparedFlight<A, Args, S>>,
+    head: Head,
     body: Bytes,
     out: &mut Vec<u8>,
 ) -> Result<BegunReply<A::Source>, NoMemory>
@@ -257,9 +257,9 @@ fn begin_message<A: App, Args, S: Service<A, Args>>(
     ensures kept { worker.new ≡ with_records worker.new.serials worker.new.made worker.old }
     ensures begun { (used : ℕ)
         → IsBegunOr (⟦<S as Serves<A, Args>>⟧.setting service.old worker.old) settings.now
-        (message_of head.value body used) out.old.items out.new.items result }
+        (message_of head body used) out.old.items out.new.items result }
 {
-    let parts = &*head;
+    let parts = &head;
     let asked = asked_of(parts);
     let exchange = exchange_of(alloc, head, body);
     let response = reply_to(alloc, worker, service, flights, exchange)?;
@@ -273,8 +273,8 @@ fn begin_turn<A: App, Args, S: Service<A, Args>>(
     service: &mut S,
     settings: &ReplySettings,
     rooms: &mut Rooms,
-    flights: &mut Vec<Flight<A, Args, S>>,
-    head: Box<Head>,
+    flights: &mut Vec<PreparedFlight<A, Args, S>>,
+    head: Head,
     body: Bytes,
     used: usize,
     out: &mut Vec<u8>,
@@ -286,7 +286,7 @@ fn begin_turn<A: App, Args, S: Service<A, Args>>(
     ensures made { worker.new.made ≤ worker.old.made + 1 }
     ensures kept { worker.new ≡ with_records worker.new.serials worker.new.made worker.old }
     ensures turned { BeginsMessage (⟦<S as Serves<A, Args>>⟧.setting service.old worker.old)
-        settings.now (message_of head.value body used) out.old.items out.new.items result }
+        settings.now (message_of head body used) out.old.items out.new.items result }
 {
     match begin_message(
         alloc, worker, service, settings, rooms, flights, head, body, out,
@@ -306,7 +306,7 @@ pub(crate) fn begin_step<A: App, Args, S: Service<A, Args>>(
     rest: &[u8],
     progress: Progress,
     rooms: &mut Rooms,
-    flights: &mut Vec<Flight<A, Args, S>>,
+    flights: &mut Vec<PreparedFlight<A, Args, S>>,
     out: &mut Vec<u8>,
 ) -> BegunTurn<A::Source>
     requires progress { IsProgress limits.now rest.now progress }

@@ -26,7 +26,7 @@ fn has_continue(headers: &HeaderMap<HeaderValue>) -> bool
 fn expects_continue(head: &Head) -> bool
     ensures { result ≡ expects_continue head.now }
 {
-    !is_first(head) && has_continue(&head.headers)
+    !is_first(head) && has_continue(&head.request.headers)
 }
 
 /// Whether so many bytes are this head, which expects to be continued.
@@ -44,8 +44,8 @@ pub(crate) fn awaits_continue(progress: &Progress, kept: usize) -> bool
 {
     match progress {
         Progress::Head(_) => false,
-        Progress::Sized(head, _) => is_awaiting(&**head, kept),
-        Progress::Chunked(head, _, _) => is_awaiting(&**head, kept),
+        Progress::Sized(head, _) => is_awaiting(head, kept),
+        Progress::Chunked(head, _, _) => is_awaiting(head, kept),
     }
 }
 

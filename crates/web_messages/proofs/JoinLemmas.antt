@@ -10,7 +10,7 @@ use Rattle.httparse.proofs.GrammarLemmas.{ReadsRequest-append, request_unique}
 use Rattle.httparse.proofs.PieceLemmas.{Never_intro, Never_elim, NotYet_intro, NotYet_elim}
 use Rattle.web_messages.specs.declared.framing.Framing.{Framing}
 use Rattle.web_messages.specs.declared.framing.Framing.TheVariants as framing
-use Rattle.web_messages.specs.declared.head.Head.{Head}
+use Rattle.web_messages.specs.HeadViews.{HeadView as Head}
 use Rattle.web_messages.specs.declared.limits.Limits.{Limits}
 use Rattle.web_messages.specs.declared.limits.Wrong.{Wrong}
 use Rattle.web_messages.specs.declared.limits.Wrong.TheVariants as wrong

@@ -8,7 +8,7 @@ use Rattle.web_messages.specs.declared.chunked.Chunked.TheVariants as chunked
 use Rattle.web_messages.specs.declared.chunked.SizeLineRead.{SizeLineRead}
 use Rattle.web_messages.specs.declared.chunked.SizeLineRead.TheVariants as line
 use Rattle.web_messages.specs.declared.framing.Framing.{Framing}
-use Rattle.web_messages.specs.declared.head.Head.{Head}
+use Rattle.web_messages.specs.HeadViews.{HeadView as Head}
 use Rattle.web_messages.specs.declared.limits.HeadFault.{HeadFault}
 use Rattle.web_messages.specs.declared.limits.HeadFault.TheVariants as fault
 use Rattle.web_messages.specs.declared.limits.Limits.{Limits}
@@ -90,19 +90,19 @@ end_longer limit text more bytes (Some t) h = (
 
 pub progress_longer : (limits : Limits) (bytes more : List ℕ) (p : Progress) → IsProgress limits bytes p → IsProgress limits (bytes ++ more) p
 progress_longer limits bytes more (progress.Head s) h = search_longer bytes more s h
-progress_longer limits bytes more (progress.Sized head n) h = (found_more limits bytes more head.value h.0, h.1)
+progress_longer limits bytes more (progress.Sized head n) h = (found_more limits bytes more head h.0, h.1)
 progress_longer limits bytes more (progress.Chunked head place content) h = (
-  found_more limits bytes more head.value h.0,
+  found_more limits bytes more head h.0,
   h.1,
   subst (λ (t : List ℕ). IsSoFarAt limits.body t content.items place.at place.left)
-      (sym (drop-append-le head.value.length bytes more (head_within limits bytes head.value h.0)))
-      (so_far_longer limits.body (drop head.value.length bytes) more content.items place.at place.left h.2),
+      (sym (drop-append-le head.length bytes more (head_within limits bytes head h.0)))
+      (so_far_longer limits.body (drop head.length bytes) more content.items place.at place.left h.2),
   subst (λ (t : List ℕ). LineRead t place.at place.line)
-      (sym (drop-append-le head.value.length bytes more (head_within limits bytes head.value h.0)))
-      (line_longer (drop head.value.length bytes) more place.at place.line h.2.inside h.3),
+      (sym (drop-append-le head.length bytes more (head_within limits bytes head h.0)))
+      (line_longer (drop head.length bytes) more place.at place.line h.2.inside h.3),
   subst (λ (t : List ℕ). EndRead limits.body t content.items place.trailers)
-      (sym (drop-append-le head.value.length bytes more (head_within limits bytes head.value h.0)))
-      (end_longer limits.body (drop head.value.length bytes) more content.items place.trailers h.4),
+      (sym (drop-append-le head.length bytes more (head_within limits bytes head h.0)))
+      (end_longer limits.body (drop head.length bytes) more content.items place.trailers h.4),
 )
 
 -- chunks of which none was read

@@ -3,7 +3,7 @@ use Rattle.std.specs.Prelude.{◌≡◌, ℕ, ◌+◌, ◌<◌, ◌≤◌, ◌==
 use Rattle.std.specs.Prelude.{if◌then◌else◌, take, None, ◌⊎◌, ⊤}
 use Rattle.httparse.specs.Grammar.{MayBecomeRequest, RequestHead, print_request, ReadsRequest}
 use Rattle.web_messages.specs.declared.framing.Framing.TheVariants as framing
-use Rattle.web_messages.specs.declared.head.Head.{Head}
+use Rattle.web_messages.specs.HeadViews.{HeadView as Head}
 use Rattle.web_messages.specs.declared.limits.Limits.{Limits}
 use Rattle.web_messages.specs.declared.limits.Wrong.{Wrong}
 use Rattle.web_messages.specs.declared.limits.Wrong.TheVariants as wrong
@@ -41,12 +41,12 @@ pub record HeadFound (limits : Limits) (bytes : List ℕ) (head : Head) : Type 0
 abbrev pub IsProgress : Limits → List ℕ → Progress → Type 0
 IsProgress limits bytes (progress.Head s) = IsSearch bytes s
 IsProgress limits bytes (progress.Sized head n) =
-    HeadFound limits bytes head.value × (framing_in limits head.value ≡ framing.Length n)
+    HeadFound limits bytes head × (framing_in limits head ≡ framing.Length n)
 IsProgress limits bytes (progress.Chunked head place body) =
-    HeadFound limits bytes head.value × (framing_in limits head.value ≡ framing.Chunked)
-    × IsSoFarAt limits.body (drop head.value.length bytes) body.items place.at place.left
-    × LineRead (drop head.value.length bytes) place.at place.line
-    × EndRead limits.body (drop head.value.length bytes) body.items place.trailers
+    HeadFound limits bytes head × (framing_in limits head ≡ framing.Chunked)
+    × IsSoFarAt limits.body (drop head.length bytes) body.items place.at place.left
+    × LineRead (drop head.length bytes) place.at place.line
+    × EndRead limits.body (drop head.length bytes) body.items place.trailers
 
 -- what is next where no byte follows
 abbrev pub next_at_end : Limits → Progress → List ℕ → Next
@@ -85,15 +85,15 @@ abbrev pub IsShort : Limits → List ℕ → Progress → Type 0
 IsShort limits bytes (progress.Head s) =
     is_blank bytes ≡ false → (length bytes < limits.head) × MayBecomeHead limits bytes
 IsShort limits bytes (progress.Sized head n) =
-    (n ≤ limits.body) × (length bytes < head.value.length + n)
+    (n ≤ limits.body) × (length bytes < head.length + n)
 IsShort limits bytes (progress.Chunked head place body) =
-    length bytes ≤ head.value.length + (place.at + (place.left + 16642))
+    length bytes ≤ head.length + (place.at + (place.left + 16642))
 
 -- what is known: the next message whatever follows; or how far it was read, and what it is where
 -- nothing follows, which is no message and no refusal that stands
 abbrev pub ReadsOn : Limits → List ℕ → MessageRead → Type 0
 ReadsOn limits bytes (step.Message head content used) =
-    IsSettled limits bytes (next.Message (message_of head.value content used))
+    IsSettled limits bytes (next.Message (message_of head content used))
 ReadsOn limits bytes (step.Refused w) =
     MayStand (next.Refused w) × IsSettled limits bytes (next.Refused w)
 ReadsOn limits bytes (step.Unfinished p) =

@@ -37,16 +37,16 @@ pub enum Progress {
     /// Its head was looked for.
     Head(Search),
     /// Its head was read; its body has so many bytes.
-    Sized(Box<Head>, u64),
+    Sized(Head, u64),
     /// Its head was read, and the chunks of its body up to a place, which have these bytes.
-    Chunked(Box<Head>, ChunksRead, Vec<u8>),
+    Chunked(Head, ChunksRead, Vec<u8>),
 }
 
 /// What is known of the next message.
 #[derive(Drop)]
 pub enum MessageRead {
     /// It has this head and this body, and so many bytes in all, whatever bytes follow.
-    Message(Box<Head>, Bytes, usize),
+    Message(Head, Bytes, usize),
     /// None is taken, whatever bytes follow.
     Refused(Wrong),
     /// More bytes decide.
@@ -119,7 +119,7 @@ fn read_sized_on(
     alloc: Global,
     limits: &Limits,
     bytes: &[u8],
-    head: Box<Head>,
+    head: Head,
     length: u64,
 ) -> Result<MessageRead, NoMemory>
     requires { IsProgress limits.now bytes.now (progress.Sized head length) }
@@ -135,7 +135,7 @@ fn read_sized_on(
 fn read_chunked_on(
     limits: &Limits,
     bytes: &[u8],
-    head: Box<Head>,
+    head: Head,
     place: ChunksRead,
     body: Vec<u8>,
 ) -> Result<MessageRead, NoMemory>
@@ -161,9 +161,9 @@ fn read_body(
     alloc: Global,
     limits: &Limits,
     bytes: &[u8],
-    head: Box<Head>,
+    head: Head,
 ) -> Result<MessageRead, NoMemory>
-    requires { HeadFound limits.now bytes.now head.value }
+    requires { HeadFound limits.now bytes.now head }
     ensures { IfOk result (ReadsOn limits.now bytes.now) }
 {
     match framing_in(limits, &head) {
@@ -297,7 +297,7 @@ pub fn read_last(
 {
     match read_on(alloc, limits, bytes, progress, room)? {
         MessageRead::Message(head, body, used) => {
-            let message = message_of(Box::into_inner(head), body, used);
+            let message = message_of(head, body, used)?;
             Ok(Next::Message(message))
         }
         MessageRead::Refused(wrong) => Ok(Next::Refused(wrong)),

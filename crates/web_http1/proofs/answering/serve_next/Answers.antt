@@ -9,7 +9,7 @@ use Rattle.web_http1.proofs.answering.serve_next.Goals as goal
 pub serve_message-requires-clause-room : goal.serve_message-requires-clause-room
 serve_message-requires-clause-room g c =
     let known = rw c.in-Message.is at c.in-Ok.ensures.next in
-    let some = some_rest c.args.limits.now c.args.rest.now (next.Message (message_of c.in-Message.head.value c.in-Message.body c.in-Message.used)) tt known in
+    let some = some_rest c.args.limits.now c.args.rest.now (next.Message (message_of c.in-Message.head c.in-Message.body c.in-Message.used)) tt known in
     let room = c.requires.room in
     omega (arith, some, room)
 
@@ -17,7 +17,7 @@ pub returns-in-Message-clause-made : goal.returns-in-Message-clause-made
 returns-in-Message-clause-made g c =
     let s = setting_of (g.S.Service.completed c.args.service.now) (g.S.Service.promise c.args.service.now) (g.S.Service.left c.args.service.now) g.A.Source.Source.feed c.args.worker.now in
     let known = rw c.in-Message.is at c.in-Ok.ensures.next in
-    let m = message_of c.in-Message.head.value c.in-Message.body c.in-Message.used in
+    let m = message_of c.in-Message.head c.in-Message.body c.in-Message.used in
     let some = some_rest c.args.limits.now c.args.rest.now (next.Message m) tt known in
     fewer_left s c.args.limits.now c.args.rest.now c.args.out.now.items c.serve_message.new.out.items c.serve_message.result c.args.worker.now.made
     c.serve_message.new.worker.made (served_known s m c.args.out.now.items c.serve_message.new.out.items c.serve_message.result c.serve_message.ensures.turned)
@@ -28,7 +28,7 @@ pub returns-in-Message-clause-turned : goal.returns-in-Message-clause-turned
 returns-in-Message-clause-turned g c =
     let s = setting_of (g.S.Service.completed c.args.service.now) (g.S.Service.promise c.args.service.now) (g.S.Service.left c.args.service.now) g.A.Source.Source.feed c.args.worker.now in
     let known = rw c.in-Message.is at c.in-Ok.ensures.next in
-    let m = message_of c.in-Message.head.value c.in-Message.body c.in-Message.used in
+    let m = message_of c.in-Message.head c.in-Message.body c.in-Message.used in
     served_turns s c.args.limits.now c.args.rest.now m c.args.out.now.items c.serve_message.new.out.items c.serve_message.result known c.serve_message.ensures.turned
 
 pub returns-in-Refused-clause-turned : goal.returns-in-Refused-clause-turned
@@ -52,7 +52,7 @@ pub returns-in-Message-clause-one : goal.returns-in-Message-clause-one
 returns-in-Message-clause-one g c =
     let s = setting_of (g.S.Service.completed c.args.service.now) (g.S.Service.promise c.args.service.now) (g.S.Service.left c.args.service.now) g.A.Source.Source.feed c.args.worker.now in
     let known = rw c.in-Message.is at c.in-Ok.ensures.next in
-    let m = message_of c.in-Message.head.value c.in-Message.body c.in-Message.used in
+    let m = message_of c.in-Message.head c.in-Message.body c.in-Message.used in
     served_one s c.args.limits.now c.args.rest.now m c.args.out.now.items c.serve_message.new.out.items c.serve_message.result known c.serve_message.ensures.turned
 
 pub returns-in-Refused-clause-one : goal.returns-in-Refused-clause-one

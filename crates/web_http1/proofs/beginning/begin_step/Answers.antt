@@ -10,7 +10,7 @@ use Rattle.web_http1.proofs.beginning.begin_step.Goals as goal
 pub begin_turn-requires-clause-room : goal.begin_turn-requires-clause-room
 begin_turn-requires-clause-room g c =
     let known = rw c.in-Message.is at c.in-Ok.ensures.next in
-    let some = some_rest c.args.limits.now c.args.rest.now (next.Message (message_of c.in-Message.head.value c.in-Message.body c.in-Message.used)) tt known in
+    let some = some_rest c.args.limits.now c.args.rest.now (next.Message (message_of c.in-Message.head c.in-Message.body c.in-Message.used)) tt known in
     let room = c.requires.room in
     omega (arith, some, room)
 
@@ -18,14 +18,14 @@ pub returns-in-Message-clause-made : goal.returns-in-Message-clause-made
 returns-in-Message-clause-made g c =
     let s = setting_of (g.S.Service.completed c.args.service.now) (g.S.Service.promise c.args.service.now) (g.S.Service.left c.args.service.now) g.A.Source.Source.feed c.args.worker.now in
     let known = rw c.in-Message.is at c.in-Ok.ensures.next in
-    message_made s c.args.settings.now c.args.limits.now c.args.rest.now (message_of c.in-Message.head.value c.in-Message.body c.in-Message.used) known
+    message_made s c.args.settings.now c.args.limits.now c.args.rest.now (message_of c.in-Message.head c.in-Message.body c.in-Message.used) known
     c.args.out.now.items c.begin_turn.new.out.items c.begin_turn.result c.args.worker.now.made c.begin_turn.new.worker.made c.begin_turn.ensures.turned c.begin_turn.ensures.made
 
 pub returns-in-Message-clause-one : goal.returns-in-Message-clause-one
 returns-in-Message-clause-one g c =
     let s = setting_of (g.S.Service.completed c.args.service.now) (g.S.Service.promise c.args.service.now) (g.S.Service.left c.args.service.now) g.A.Source.Source.feed c.args.worker.now in
     let known = rw c.in-Message.is at c.in-Ok.ensures.next in
-    message_begins s c.args.settings.now c.args.limits.now c.args.rest.now (message_of c.in-Message.head.value c.in-Message.body c.in-Message.used) known
+    message_begins s c.args.settings.now c.args.limits.now c.args.rest.now (message_of c.in-Message.head c.in-Message.body c.in-Message.used) known
     c.args.out.now.items c.begin_turn.new.out.items c.begin_turn.result c.begin_turn.ensures.turned
 
 pub returns-in-Refused-clause-one : goal.returns-in-Refused-clause-one

@@ -1,6 +1,4 @@
-use Rattle.std.proofs.Common.{◌≡◌, ◌∙◌, subst, sym, true}
-use Rattle.web_messages.specs.declared.head.Head.{Head}
-use Rattle.web_http1.specs.Expecting.{expects_continue}
+use Rattle.std.proofs.Common.{◌∙◌, sym}
 use Rattle.web_http1.proofs.expecting.awaits_continue.Goals as goal
 
 pub returns-in-Sized : goal.returns-in-Sized
@@ -8,10 +6,10 @@ returns-in-Sized c = λ yes limits bytes is size.
     let found = rw c.in-Sized.is at is in
     let awaits = c.is_awaiting.ensures yes in
     record {
-      head = c.in-Sized.head.value;
+      head = c.in-Sized.head;
       found = found.0;
-      alone = size ∙ sym (subst (λ (h : Head). h.length ≡ c.args.kept) c.deref.ensures awaits.0);
-      expects = subst (λ (h : Head). expects_continue h ≡ true) c.deref.ensures awaits.1;
+      alone = size ∙ sym awaits.0;
+      expects = awaits.1;
     }
 
 pub returns-in-Chunked : goal.returns-in-Chunked
@@ -19,8 +17,8 @@ returns-in-Chunked c = λ yes limits bytes is size.
     let found = rw c.in-Chunked.is at is in
     let awaits = c.is_awaiting-in-Chunked.ensures yes in
     record {
-      head = c.in-Chunked.head.value;
+      head = c.in-Chunked.head;
       found = found.0;
-      alone = size ∙ sym (subst (λ (h : Head). h.length ≡ c.args.kept) c.deref-in-Chunked.ensures awaits.0);
-      expects = subst (λ (h : Head). expects_continue h ≡ true) c.deref-in-Chunked.ensures awaits.1;
+      alone = size ∙ sym awaits.0;
+      expects = awaits.1;
     }

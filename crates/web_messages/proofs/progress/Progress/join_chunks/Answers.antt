@@ -1,7 +1,7 @@
 use Rattle.std.proofs.Common.{◌≡◌, ◌+◌, ◌++◌, ◌<◌, ◌∙◌, false, List, ℕ, ap, arith, drop, length, length-append, take}
 use Rattle.std.specs.Fmt.{digits}
 use Rattle.httparse.specs.Ascii.{crlf_bytes}
-use Rattle.web_messages.specs.declared.head.Head.{Head}
+use Rattle.web_messages.specs.HeadViews.{HeadView as Head}
 use Rattle.web_messages.specs.Joining.{one_chunk}
 use Rattle.web_messages.proofs.JoinedLemmas as of
 use Rattle.web_messages.proofs.LineLemmas.{text_start}
@@ -11,7 +11,7 @@ pub returns-clause-joins : goal.returns-clause-joins
 returns-clause-joins c =
     let limits = c.args.limits.now in
     let bytes = c.args.bytes.now in
-    let head = c.in-Chunked.head.value in
+    let head = c.in-Chunked.head in
     let inner = c.in-Chunked.body.items in
     let at' = c.in-Chunked.place.at in
     let left = c.in-Chunked.place.left in
