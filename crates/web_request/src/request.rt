@@ -45,6 +45,8 @@ pub struct HttpRequest<A: App> {
     pub(crate) config: Rc<AppConfig>,
     serial: u64,
     pub(crate) kept: KeptValues,
+    /// Whether the head's memory came with the parts: then there is none to use again.
+    is_brought: bool,
 }
 
 impl<A: App> Model for HttpRequest<A> {
@@ -280,6 +282,7 @@ impl<A: App> HttpRequest<A> {
             config,
             serial: self.serial,
             kept: KeptValues::none(),
+            is_brought: self.is_brought,
         })
     }
 
@@ -367,11 +370,14 @@ impl<A: App> HttpRequest<A> {
             config,
             serial,
             kept: KeptValues::none(),
+            is_brought: false,
         })
     }
 
     /// Makes a record of parts whose head has memory of its own. It allocates nothing: `NoMemory`
     /// comes only where the counts of the pointers are full.
+    // Inlined as `start_shared` is.
+    #[inline(always)]
     pub(crate) fn of_shared(
         root: &Rc<A::Layer>,
         config: &Rc<AppConfig>,
@@ -401,15 +407,19 @@ impl<A: App> HttpRequest<A> {
             config,
             serial,
             kept: KeptValues::none(),
+            is_brought: true,
         })
     }
 
     /// Drops what the request left, and keeps the capacity of its lists. Returns whether the head
-    /// went too, which stays where a duplicate shares it.
+    /// went too, which stays where a duplicate shares it, and where its memory came with the parts.
     pub(crate) fn clean(&mut self) -> bool
         ensures clean { IsTrue result → Clean self.new }
         ensures serial { self.new.serial ≡ self.old.serial }
     {
+        if self.is_brought {
+            return false;
+        }
         self.params.clear();
         self.root = None;
         self.layers.clear();

@@ -47,6 +47,8 @@ impl<A: App> PreparedExchange<A> {
     ghost use Rattle.std.specs.Prelude.{◌≡◌};
 
     /// The parts of the request, and its body.
+    // Inlined into `start`.
+    #[inline(always)]
     pub(crate) fn into_parts(self) -> (SharedParts<A>, Payload<A::Source>)
         ensures parts { result.0 ≡ self.parts }
         ensures body { result.1 ≡ self.body }

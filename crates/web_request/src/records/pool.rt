@@ -157,10 +157,12 @@ impl<A: App> HttpRequestPool<A> {
         }
     }
 
-    /// Starts a request of these parts under the number that `start` gives it, in memory that they
-    /// bring along: that of a record that was kept is given free. It allocates nothing. Returns
+    /// Starts a request of these parts under the number that `start` gives it, in the memory that
+    /// they bring along: that of a record that was kept is freed. It allocates nothing. Returns
     /// `NoMemory` only where the counts of the pointers to the root layer or the configuration are
     /// full; the pool is then as before.
+    // Inlined, so that the request is made in its place.
+    #[inline(always)]
     pub fn start_shared(&mut self, parts: SharedParts<A>) -> Result<HttpRequest<A>, NoMemory>
         requires counted { self.old.made + 1 < 2 ^ 64 }
         ensures record { IfOk result (λ request.
@@ -179,7 +181,8 @@ impl<A: App> HttpRequestPool<A> {
     /// Takes back the record of a finished request. Its number is kept as the last one where the
     /// pool is available, and dropped otherwise. It allocates nothing. A record that is kept holds
     /// nothing of the request: no head, parameters, layers, connection data or request data. Where
-    /// a duplicate still shares the head, the record is dropped, and its number alone is kept.
+    /// a duplicate still shares the head, or `start_shared` began the request, the record is
+    /// dropped, and its number alone is kept.
     pub fn give_back(&mut self, mut request: HttpRequest<A>)
         ensures { self.new ≡ after_give_back request.serial self.old }
     {
