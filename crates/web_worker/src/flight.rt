@@ -85,7 +85,8 @@ impl<A: App, Args, S: Service<A, Args>, X: Waits<A>> Model for Flight<A, Args, S
 
     ghost view = { λ f. flight_view X.exchange A.Source.feed f.stage };
 
-    ghost invariant = { λ f. IsUnfinished S.is_finished (flight_view X.exchange A.Source.feed f.stage) };
+    ghost invariant = { λ f. IsUnfinished S.is_finished
+        (flight_view X.exchange A.Source.feed f.stage) };
 }
 
 impl<A: App, Args, S: Service<A, Args>, X: Waits<A>> Flight<A, Args, S, X> {

@@ -42,7 +42,8 @@ fn poll_begun<A: App, Args, S: Service<A, Args>, X: Waits<A>>(
     requires no_memory { stage.old ≡ Stage.Answered Outcome.NoMemory }
     ensures ready { S.ready service.new }
     ensures same { S.same_promises service.old service.new }
-    ensures unfinished { IsUnfinished S.is_finished (flight_view X.exchange A.Source.feed stage.new) }
+    ensures unfinished { IsUnfinished S.is_finished
+        (flight_view X.exchange A.Source.feed stage.new) }
     ensures pool { HeldOrReturned (Some request.serial)
         (serial_of (flight_view X.exchange A.Source.feed stage.new)) pool.old pool.new }
     ensures polled { (worker : Pool A.Layer)
@@ -77,13 +78,15 @@ fn begin_call<A: App, Args, S: Service<A, Args>, X: Waits<A>>(
     requires no_memory { stage.old ≡ Stage.Answered Outcome.NoMemory }
     ensures ready { S.ready service.new }
     ensures same { S.same_promises service.old service.new }
-    ensures unfinished { IsUnfinished S.is_finished (flight_view X.exchange A.Source.feed stage.new) }
+    ensures unfinished { IsUnfinished S.is_finished
+        (flight_view X.exchange A.Source.feed stage.new) }
     ensures pool { HeldOrReturned (Some request.serial)
         (serial_of (flight_view X.exchange A.Source.feed stage.new)) pool.old pool.new }
     ensures polled { (worker : Pool A.Layer) (x : ExchangeView A.Source A.Layer A.Local A.Conn)
         → request.request ≡ request_of worker x → x.body ≡ body
         → BeginsFlight (⟦<S as Serves<A, Args>>⟧.setting service.old worker) x
-        (flight_view X.exchange A.Source.feed stage.new) (S.calls service.old) (S.calls service.new) }
+        (flight_view X.exchange A.Source.feed stage.new)
+        (S.calls service.old) (S.calls service.new) }
     ensures state { MovesTo S.states (S.completed service.old request.request)
         (flight_outcome (flight_view X.exchange A.Source.feed stage.new)) service.old service.new }
 {
@@ -105,7 +108,8 @@ fn start_flight<A: App, Args, S: Service<A, Args>, X: Waits<A>>(
     requires ready { S.ready service.old }
     ensures ready { S.ready service.new }
     ensures same { S.same_promises service.old service.new }
-    ensures unfinished { IsUnfinished S.is_finished (flight_view X.exchange A.Source.feed stage.new) }
+    ensures unfinished { IsUnfinished S.is_finished
+        (flight_view X.exchange A.Source.feed stage.new) }
     ensures polls { (x : X) → stage.old ≡ Stage.Waiting x
         → FlightPoll (⟦<S as Serves<A, Args>>⟧.setting service.old pool.old)
         (FlightView.Waiting (X.exchange x)) (flight_view X.exchange A.Source.feed stage.new)
@@ -133,18 +137,22 @@ fn poll_call<A: App, Args, S: Service<A, Args>, X: Waits<A>>(
     stage: &mut StageOf<A, Args, S, X>,
 )
     requires ready { S.ready service.old }
-    requires unfinished { IsUnfinished S.is_finished (flight_view X.exchange A.Source.feed stage.old) }
+    requires unfinished { IsUnfinished S.is_finished
+        (flight_view X.exchange A.Source.feed stage.old) }
     requires in_flight { IsInFlight (flight_view X.exchange A.Source.feed stage.old) }
     ensures ready { S.ready service.new }
     ensures same { S.same_promises service.old service.new }
-    ensures unfinished { IsUnfinished S.is_finished (flight_view X.exchange A.Source.feed stage.new) }
+    ensures unfinished { IsUnfinished S.is_finished
+        (flight_view X.exchange A.Source.feed stage.new) }
     ensures polls { (worker : Pool A.Layer)
         → FlightPoll (⟦<S as Serves<A, Args>>⟧.setting service.old worker)
-        (flight_view X.exchange A.Source.feed stage.old) (flight_view X.exchange A.Source.feed stage.new)
+        (flight_view X.exchange A.Source.feed stage.old)
+        (flight_view X.exchange A.Source.feed stage.new)
         pool.old pool.new (S.calls service.old) (S.calls service.new) }
     ensures state { (worker : Pool A.Layer)
         → FlightMoves (⟦<S as Serves<A, Args>>⟧.setting service.old worker) S.states
-        (flight_view X.exchange A.Source.feed stage.old) (flight_view X.exchange A.Source.feed stage.new)
+        (flight_view X.exchange A.Source.feed stage.old)
+        (flight_view X.exchange A.Source.feed stage.new)
         service.old service.new }
 {
     if let Stage::InFlight(request, call) = stage {
@@ -163,17 +171,22 @@ fn poll_stage<A: App, Args, S: Service<A, Args>, X: Waits<A>>(
     service: &mut S,
     stage: &mut StageOf<A, Args, S, X>,
 )
-    requires room { pool.old.made + may_make (Some (flight_view X.exchange A.Source.feed stage.old)) < 2 ^ 64 }
+    requires room { pool.old.made + may_make (Some
+        (flight_view X.exchange A.Source.feed stage.old)) < 2 ^ 64 }
     requires ready { S.ready service.old }
-    requires unfinished { IsUnfinished S.is_finished (flight_view X.exchange A.Source.feed stage.old) }
+    requires unfinished { IsUnfinished S.is_finished
+        (flight_view X.exchange A.Source.feed stage.old) }
     ensures ready { S.ready service.new }
     ensures same { S.same_promises service.old service.new }
-    ensures unfinished { IsUnfinished S.is_finished (flight_view X.exchange A.Source.feed stage.new) }
+    ensures unfinished { IsUnfinished S.is_finished
+        (flight_view X.exchange A.Source.feed stage.new) }
     ensures polls { FlightPoll (⟦<S as Serves<A, Args>>⟧.setting service.old pool.old)
-        (flight_view X.exchange A.Source.feed stage.old) (flight_view X.exchange A.Source.feed stage.new)
+        (flight_view X.exchange A.Source.feed stage.old)
+        (flight_view X.exchange A.Source.feed stage.new)
         pool.old pool.new (S.calls service.old) (S.calls service.new) }
     ensures state { FlightMoves (⟦<S as Serves<A, Args>>⟧.setting service.old pool.old) S.states
-        (flight_view X.exchange A.Source.feed stage.old) (flight_view X.exchange A.Source.feed stage.new)
+        (flight_view X.exchange A.Source.feed stage.old)
+        (flight_view X.exchange A.Source.feed stage.new)
         service.old service.new }
 {
     match stage {

@@ -22,8 +22,8 @@ pub struct RequestParts<A: App> {
     pub local: Option<A::Local>,
 }
 
-/// What a request is made of before a record holds it, where its head has memory of its own already.
-/// Its layers are ready: their closures may be called.
+/// What a request is made of before a record holds it, with its head in memory of its own. Its
+/// layers are ready: their closures may be called.
 #[derive(Drop)]
 pub struct SharedParts<A: App> {
     /// The head.
