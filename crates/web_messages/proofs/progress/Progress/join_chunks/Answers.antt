@@ -23,8 +23,8 @@ returns-clause-joins c =
     c.as_bytes.ensures.value ∙ c.in_ok-line.ensures ∙ ap (λ (n : ℕ). digits 16 false n ++ crlf_bytes) (c.len-2.ensures ∙ ok.0) in
     let is = of.joined_text bytes c.split_at.result.0.now c.split_at.result.1.now c.split_at-2.result.1.now c.as_bytes.result.now inner
     c.in_ok-joined.joined.items head.length at'
-    c.split_at.ensures.front
-    c.split_at.ensures.back
+    (c.split_at.ensures.front ∙ ap (λ (h : Head). take h.length bytes) c.head.view_is)
+    (c.split_at.ensures.back ∙ ap (λ (h : Head). drop h.length bytes) c.head.view_is)
     c.split_at-2.ensures.back line
     (c.in_ok-joined.ensures
     ∙ ap (λ (t : List ℕ). c.split_at.result.0.now ++ (c.as_bytes.result.now ++ (t ++ (crlf_bytes ++ c.split_at-2.result.1.now)))) c.as_slice.ensures.value) in
