@@ -61,8 +61,6 @@ where
     ghost keeps = { λ a b same. handler_keeps Args.means Args.Error.converts H.Output.responds
         Args.Future.gives H.Future.gives (H.answers a) (H.answers b) same };
 
-    // Inlined, so that the call is made in its place: some 500 instructions fewer.
-    #[inline(always)]
     fn begin(
         &mut self,
         alloc: Global,
