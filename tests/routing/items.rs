@@ -40,7 +40,7 @@ const REPLIES: &str = "HTTP/1.1 200 OK\r\ncontent-type: text/plain; charset=utf-
     HTTP/1.1 404 Not Found\r\ncontent-length: 0\r\nconnection: close\r\n\r\n";
 
 /// The text of these bytes.
-fn text(rt: &impl Abort, bytes: &[u8]) -> &str {
+fn text<'a>(rt: &impl Abort, bytes: &'a [u8]) -> &'a str {
     str::from_utf8(bytes).ok().expect(rt, "a text")
 }
 
